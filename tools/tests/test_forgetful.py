@@ -8,7 +8,7 @@ from tests.support import ToolTest
 # It is called in the copy's crate, whose changed lines it prints, and the words of the call.
 FINDS = """#!/bin/sh
 echo "$@"
-grep -c 'Round::Settle => Ok(()), Round::Confirm => nvm.barrier(),' ../thy_engine/src/engine.rt
+grep -c 'Round::Settle => Ok(()), Round::Confirm => nvm.barrier(),' ../thy_checkpoint/src/engine.rt
 grep -c 'shelf.fetch' src/main.rt
 echo 'differs 1200 by pick 2'
 echo 'differs 1201 by pick 3'
@@ -36,9 +36,9 @@ class Forgetful(ToolTest):
 
     def test_the_changed_lines(self):
         # Each line stands in the copy once: if one is missing, rt makes no answer.
-        text = FINDS.replace("echo 'differs", "[ \"$(grep -c 'Settle => Ok' ../thy_engine/src/engine.rt)\" = 1 ] && echo 'differs")
+        text = FINDS.replace("echo 'differs", "[ \"$(grep -c 'Settle => Ok' ../thy_checkpoint/src/engine.rt)\" = 1 ] && echo 'differs")
         self.prints("found: differs 1200 by pick 2, and 1 more\n", env=self.with_rt(text))
-        self.assertIn("nvm.barrier()", repository.text_of(repository.path("crates/thy_engine/src/engine.rt")))
+        self.assertIn("nvm.barrier()", repository.text_of(repository.path("crates/thy_checkpoint/src/engine.rt")))
 
     def test_refusals(self):
         self.refuses("rt try ended with 5", env=self.with_rt("#!/bin/sh\nexit 5\n"))

@@ -35,7 +35,7 @@ abbrev pub noted_if : Option Booted → List Lead → List Lead
 noted_if None leads = leads
 noted_if (Some b) leads = noted b leads
 
--- those of some images are, in order
+-- the numbers of some images are, in order
 abbrev pub noted_all : List Try → List Lead → List Lead
 noted_all [] leads = leads
 noted_all (t ∷ ts) leads = noted_all ts (noted_if t.booted leads)

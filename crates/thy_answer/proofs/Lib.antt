@@ -3,3 +3,10 @@ pub mod ShelfLemmas
 pub mod EndLaws
 pub mod ProgramLaws
 pub mod UnsavedLaws
+pub mod BlockLemmas
+pub mod StateLemmas
+pub mod LawLemmas
+pub mod OwnLemmas
+pub mod CompleteLaws
+pub mod ComparedLaws
+pub mod AnsweredLaws

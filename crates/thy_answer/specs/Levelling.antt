@@ -6,7 +6,7 @@ use Rattle.thy_block.specs.declared.block.Block.{Block}
 use Rattle.thy_block.specs.declared.outside.PutError.{PutError}
 use Rattle.thy_block.specs.Device.{Device, Crash}
 use Rattle.thy_block.specs.Outside.{Stock}
-use Rattle.thy_flat.specs.Flat.{flat}
+use Rattle.thy_block.specs.Flat.{flat}
 use Rattle.thy_gap.specs.Seen.{unmapped}
 use Rattle.thy_layout.specs.Decoded.{Reading}
 use Rattle.thy_text.specs.Event.{Event}

@@ -7,3 +7,8 @@ pub mod Comparing
 pub mod Orders
 pub mod Watching
 pub mod Kept
+pub mod Meaning
+pub mod Saved
+pub mod Own
+pub mod Calm
+pub mod Laws

@@ -7,7 +7,7 @@ use Rattle.thy_block.specs.declared.outside.PutError.{PutError}
 use Rattle.thy_block.specs.declared.outside.PutError.TheVariants.{Failed as PutFailed, Memory as PutMemory}
 use Rattle.thy_block.specs.Device.{Device, IsCut}
 use Rattle.thy_block.specs.Outside.{Stock, Holds, KeepsOthers, HasNotFailed, HasFailedUnder, MayHaveFailed}
-use Rattle.thy_flat.specs.Flat.{flat}
+use Rattle.thy_block.specs.Flat.{flat}
 use Rattle.thy_run.specs.World.{tear}
 use Rattle.thy_run.specs.declared.ending.Stop.{Stop}
 use Rattle.thy_run.specs.declared.ending.Stop.TheVariants.{Ended, Limit, Nvm, Memory, Terminal, Report}

@@ -21,7 +21,7 @@ use Rattle.thy_plain.specs.Start.{start_state}
 use Rattle.thy_layout.specs.declared.bad_image.BadImage.TheVariants.{Empty}
 use Rattle.thy_layout.specs.Decoded.{Decoded, Nothing, Refused, At}
 use Rattle.thy_layout.specs.Files.{blocks_of}
-use Rattle.thy_image.specs.Meaning.{decode_bytes}
+use Rattle.thy_answer.specs.Meaning.{decode_bytes}
 use Rattle.thy_view.specs.Origin.{Origin}
 use Rattle.thy_words.specs.Settings.{Job}
 use Rattle.thy_answer.specs.declared.refusal.Refusal.{Refusal}

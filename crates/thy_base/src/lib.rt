@@ -1,9 +1,11 @@
-//! The configuration of a run: its options as a table (names, defaults, ranges, the commands that take each), and the
-//! first value out of its range. `Geometry::new` of thy_block takes a configuration, and gives a geometry exactly if
-//! every value is in its range.
+//! What every other crate depends on: blocks, bytes, the configuration and its sizes, the numbers drawn for schedules,
+//! the traits of the outside world, and a list of blocks as a list of bytes. Callers rely on `Geometry::new`, which
+//! gives a geometry exactly if each field is in its range, on the clauses of `Nvm`, `Shelf`, `Sink` and `BlockStore`,
+//! all that is known of their implementations, and on `spans_are_bytes`: gathering a span, block by block, gives the
+//! bytes at its place, and scattering bytes over it changes these and no other.
 //!
-//! Open specs/Options.antt and src/options.rt first, which are the table, then specs/Config.antt. It stands on
-//! thy_block, and has all that is public there; only crates that name a configuration or its fields stand on it.
+//! Open specs/Device.antt and src/nvm.rt first, then specs/Geometry.antt and specs/Spans.antt. It depends on no crate
+//! of this repository; every other depends on it.
 #![tactic(auto)]
 
 mod config;

@@ -11,3 +11,7 @@ pub mod RangeLemmas
 pub mod Streams
 pub mod WordLemmas
 pub mod WrittenLemmas
+pub mod FlatLemmas
+pub mod SpanLaws
+pub mod MemoryLaws
+pub mod LongLemmas

@@ -15,3 +15,6 @@ pub mod Places
 pub mod Schemes
 pub mod Store
 pub mod Words
+pub mod Flat
+pub mod Laws
+pub mod Spans

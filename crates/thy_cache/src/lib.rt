@@ -3,7 +3,7 @@
 //! most one call of the store.
 //!
 //! Open specs/Flat.antt first, then specs/Contents.antt, and src/cache.rt. It stands on thy_block; on it stand thy_hart,
-//! thy_core_laws and thy_core.
+//! thy_scheme and thy_core.
 #![tactic(auto)]
 
 mod cache;

@@ -7,7 +7,7 @@ use Rattle.thy_answer.specs.Answering.{Around, NvmOf}
 use Rattle.thy_answer.specs.Machines.{Choice}
 use Rattle.thy_answer.specs.Orders.{Answered}
 use Rattle.thy_answer.specs.Watching.{HasSeenCall}
-use Rattle.thy_complete.proofs.AnsweredLaws.{Completes-run, Completes-pair, Completes-compare, Completes-plain, Completes-make}
+use Rattle.thy_answer.proofs.AnsweredLaws.{Completes-run, Completes-pair, Completes-compare, Completes-plain, Completes-make}
 use Rattle.thy_cli.specs.Watching.{ClaimSeen}
 
 -- what is claimed of a call follows from what its result is, and from what its observer has seen

@@ -18,21 +18,21 @@ use Rattle.thy_view.specs.Dram.{ActsOnDram}
 use Rattle.thy_view.specs.Kind.{IsDramOf}
 use Rattle.thy_view.specs.Origin.{Origin, Begins}
 use Rattle.thy_view.proofs.ActionLemmas.{down-after, queue-after}
-use Rattle.thy_boot.specs.declared.stage.ReadStage.{ReadStage}
-use Rattle.thy_boot.specs.declared.stage.ReadStage.TheVariants.{Unread, Header, Slot, Fills, Refusing}
-use Rattle.thy_boot.specs.declared.stage.Stage.{Stage}
-use Rattle.thy_boot.specs.declared.stage.Stage.TheVariants.{Reads, Loads, Migrates, Over}
-use Rattle.thy_boot.specs.Boot.{Booting}
-use Rattle.thy_boot.specs.Filling.{FillingOf}
-use Rattle.thy_boot.specs.Reads.{read_action}
-use Rattle.thy_boot.specs.Steps.{StepsAt, action_at}
-use Rattle.thy_boot_laws.proofs.PowerLemmas.{IsDramOf-lost}
+use Rattle.thy_checkpoint.specs.declared.boot_stage.ReadStage.{ReadStage}
+use Rattle.thy_checkpoint.specs.declared.boot_stage.ReadStage.TheVariants.{Unread, Header, Slot, Fills, Refusing}
+use Rattle.thy_checkpoint.specs.declared.boot_stage.Stage.{Stage}
+use Rattle.thy_checkpoint.specs.declared.boot_stage.Stage.TheVariants.{Reads, Loads, Migrates, Over}
+use Rattle.thy_checkpoint.specs.Boot.{Booting}
+use Rattle.thy_checkpoint.specs.Filling.{FillingOf}
+use Rattle.thy_checkpoint.specs.Reads.{read_action}
+use Rattle.thy_checkpoint.specs.Steps.{StepsAt, action_at}
+use Rattle.thy_parts.proofs.PowerLemmas.{IsDramOf-lost}
 use Rattle.thy_scheme.specs.Boots.{BootsOn, BootFails, BootDrains}
 use Rattle.thy_scheme.specs.Calls.{Drains, EngineFails, Engines, IsOneAccess, Merges, Promotes, Seals}
 use Rattle.thy_scheme.specs.CheckpointMarks.{CheckpointMarks}
 use Rattle.thy_scheme.specs.Exact.{Made, Makes}
 use Rattle.thy_scheme.specs.Scheme.{IsBooting, Stands}
-use Rattle.thy_engine.specs.Progress.{Acts, action_next, is_under_way}
+use Rattle.thy_checkpoint.specs.Progress.{Acts, action_next, is_under_way}
 use Rattle.thy_parts.specs.AreParts.{AreParts}
 use Rattle.thy_parts.specs.Boots.{IsOf}
 use Rattle.thy_parts.specs.Calls.{IsReading, Promotes as MakesPromotion, TakesBootStep, BootsBy, FillsBy, boot_after, changed_to, drained, merged, promoted, sealed, step_of, stored, taken}

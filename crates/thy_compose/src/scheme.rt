@@ -2,9 +2,8 @@
 use crate::composed::Composed;
 use std::alloc::{AllocError, Global};
 use thy_block::{Block, Geometry, Nvm, NvmError, Stored};
-use thy_boot::Fills;
+use thy_checkpoint::{Checkpoints, Fills};
 use thy_dram::Dram;
-use thy_engine::Checkpoints;
 use thy_isa::CpuState;
 use thy_layout::{EngineStep, ImageLayout, Start};
 use thy_parts::Parts;

@@ -17,10 +17,10 @@ use Rattle.thy_table.specs.declared.block_entry.Version.TheVariants.{Out, Alt}
 use Rattle.thy_table.specs.declared.page_entry.PttEntry.{PttEntry}
 use Rattle.thy_table.specs.BlockEntry.{new_entry, listed_entry}
 use Rattle.thy_table.specs.PageEntry.{no_page, listed_page}
-use Rattle.thy_switch.specs.Counts.{Tally, most, with_last}
-use Rattle.thy_cell.specs.declared.cell.Cell.{Cell}
-use Rattle.thy_cell.specs.Sound.{IsSoundCell}
-use Rattle.thy_cell.specs.BetweenCheckpoints.{ListedCellsAreSound}
+use Rattle.thy_table.specs.Counts.{Tally, most, with_last}
+use Rattle.thy_table.specs.declared.cell.Cell.{Cell}
+use Rattle.thy_table.specs.Sound.{IsSoundCell}
+use Rattle.thy_table.specs.BetweenCheckpoints.{ListedCellsAreSound}
 use Rattle.thy_control.specs.Find.{entry_for, index_for}
 use Rattle.thy_control.specs.Keys.{block_key, page_key}
 use Rattle.thy_control.specs.State.{State, AreSoundTables, cell_of, new_state}

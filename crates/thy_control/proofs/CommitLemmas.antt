@@ -10,10 +10,10 @@ use Rattle.thy_table.specs.declared.block_entry.BttEntry.{BttEntry}
 use Rattle.thy_table.specs.declared.page_entry.PttEntry.{PttEntry}
 use Rattle.thy_table.specs.BlockEntry.{new_entry}
 use Rattle.thy_table.specs.PageEntry.{no_page, is_framed}
-use Rattle.thy_cell.specs.declared.cell.Cell.{Cell}
-use Rattle.thy_cell.specs.Cells.{penult, last, work}
-use Rattle.thy_cell.specs.Sound.{IsSoundCell, Holds}
-use Rattle.thy_cell.specs.Checkpoint.{committed, committed_entry, committed_page, entry_or_new, page_or_none, page_committed_by, Moves, CommitKeepsSound, CommitMoves, kept_index}
+use Rattle.thy_table.specs.declared.cell.Cell.{Cell}
+use Rattle.thy_table.specs.Cells.{penult, last, work}
+use Rattle.thy_table.specs.Sound.{IsSoundCell, Holds}
+use Rattle.thy_table.specs.Checkpoint.{committed, committed_entry, committed_page, entry_or_new, page_or_none, page_committed_by, Moves, CommitKeepsSound, CommitMoves, kept_index}
 use Rattle.thy_control.specs.Keys.{block_key, page_key}
 use Rattle.thy_control.specs.State.{State, AreSoundTables, cell_of, reads}
 use Rattle.thy_control.specs.Stays.{AreCopied, HoldAll}

@@ -1,11 +1,11 @@
 -- Whatever the places hold, a seal leaves the committed version of each block, and a commit takes what its target holds.
 use Rattle.std.proofs.Common.{◌≡◌, ℕ, ◌<◌, sym, ◌∙◌, ap}
-use Rattle.thy_places.specs.declared.place.Place.{Place}
+use Rattle.thy_table.specs.declared.place.Place.{Place}
 use Rattle.thy_block.specs.Device.{Device}
 use Rattle.thy_block.specs.Geometry.{memory_blocks}
 use Rattle.thy_record.specs.Tables.{Tables, place_of}
-use Rattle.thy_cell.specs.declared.cell.Cell.{Cell}
-use Rattle.thy_cell.specs.Cells.{penult, target}
+use Rattle.thy_table.specs.declared.cell.Cell.{Cell}
+use Rattle.thy_table.specs.Cells.{penult, target}
 use Rattle.thy_control.specs.CheckpointTables.{tables0, tables1, AreTablesOf}
 use Rattle.thy_control.specs.Commit.{committed_state, CommitsTargets}
 use Rattle.thy_control.specs.Seal.{sealed_state}

@@ -2,25 +2,25 @@
 use Rattle.std.proofs.Common.{◌≡◌, ◌≢◌, ℕ, ◌+◌, ◌<◌, Bool, true, false, refl, sym, ◌∙◌, ap, subst, inl, arith, Option, Some, None, is_some, List, Result, Ok, Err, OnOk, OnErr, IfOk, rules}
 use Rattle.std.proofs.lemmas.List.{length-set}
 use Rattle.thy_block.specs.declared.block.Block.{Block}
-use Rattle.thy_places.specs.declared.place.Place.{Place}
+use Rattle.thy_table.specs.declared.place.Place.{Place}
 use Rattle.thy_block.specs.declared.nvm.NvmError.{NvmError}
 use Rattle.thy_block.specs.Device.{Device, IsFramed}
 use Rattle.thy_block.specs.Geometry.{memory_blocks}
-use Rattle.thy_places.specs.Places.{IsPlace}
-use Rattle.thy_place.specs.Devices.{Devices, devices_of}
-use Rattle.thy_place.proofs.PlaceLemmas.{AreSized-written_at}
+use Rattle.thy_table.specs.Places.{IsPlace}
+use Rattle.thy_table.specs.Devices.{Devices, devices_of}
+use Rattle.thy_table.proofs.MoveLemmas.{AreSized-written_at}
 use Rattle.thy_table.specs.Listing.{Listing, IsListing, entry_at, passes, place_of, with_entry}
 use Rattle.thy_table.proofs.FirstLemmas.{first_from-first, none-first_from}
 use Rattle.thy_table.specs.declared.block_entry.BttEntry.{BttEntry}
 use Rattle.thy_table.specs.declared.block_entry.Pending.{Pending}
 use Rattle.thy_table.specs.declared.block_entry.Pending.TheVariants.{Settled}
 use Rattle.thy_table.specs.BlockEntry.{new_entry}
-use Rattle.thy_cell.specs.declared.cell.Cell.{Cell}
-use Rattle.thy_cell.specs.Cells.{Seat, seat_of, placed, target, last}
-use Rattle.thy_cell.specs.Sound.{IsSoundCell}
-use Rattle.thy_cell.specs.Rules.{after_copy}
-use Rattle.thy_cell.specs.BetweenCheckpoints.{CopyKeeps, Keeps}
-use Rattle.thy_cell.proofs.StoreLemmas.{IsSoundCell-after_copy}
+use Rattle.thy_table.specs.declared.cell.Cell.{Cell}
+use Rattle.thy_table.specs.Cells.{Seat, seat_of, placed, target, last}
+use Rattle.thy_table.specs.Sound.{IsSoundCell}
+use Rattle.thy_table.specs.Rules.{after_copy}
+use Rattle.thy_table.specs.BetweenCheckpoints.{CopyKeeps, Keeps}
+use Rattle.thy_table.proofs.StoreLemmas.{IsSoundCell-after_copy}
 use Rattle.thy_control.specs.Keys.{block_key}
 use Rattle.thy_control.specs.State.{State, AreSoundTables, IsSized, cell_of, reads}
 use Rattle.thy_control.specs.Copies.{is_pending, needs_copy, next_copy, copies_left, block_in, block_listed, devices_copied, copied, devices_after_copy, after_next_copy, FailsCopy, FailsNextCopy}

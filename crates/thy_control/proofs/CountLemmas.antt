@@ -10,9 +10,9 @@ use Rattle.thy_table.specs.declared.block_entry.Pending.TheVariants.{Settled, Fr
 use Rattle.thy_table.specs.declared.page_entry.PttEntry.{PttEntry}
 use Rattle.thy_table.specs.BlockEntry.{new_entry}
 use Rattle.thy_table.specs.PageEntry.{no_page}
-use Rattle.thy_cell.specs.declared.cell.StoreRule.{StoreRule}
-use Rattle.thy_cell.specs.declared.cell.StoreRule.TheVariants.{ToFrame, PendingFirst}
-use Rattle.thy_cell.specs.Rules.{after_store}
+use Rattle.thy_table.specs.declared.cell.StoreRule.{StoreRule}
+use Rattle.thy_table.specs.declared.cell.StoreRule.TheVariants.{ToFrame, PendingFirst}
+use Rattle.thy_table.specs.Rules.{after_store}
 use Rattle.thy_control.specs.Keys.{block_key, page_key}
 use Rattle.thy_control.specs.StoredTables.{btt_with, btt_after, ptt_after}
 use Rattle.thy_control.specs.State.{State, cell_of}

@@ -3,7 +3,7 @@ use Rattle.std.proofs.Common.{ℕ, ◌+◌, ◌≤◌, length, min, refl, sym, �
 use Rattle.std.proofs.lemmas.List.{length-set, length-replicate}
 use Rattle.std.proofs.lemmas.List.Elements.{All-replicate, All-set}
 use Rattle.thy_block.specs.declared.parameters.Parameters.{Parameters}
-use Rattle.thy_switch.specs.Counts.{Tally, most, uncounted, count_at, counted, with_last, reset}
+use Rattle.thy_table.specs.Counts.{Tally, most, uncounted, count_at, counted, with_last, reset}
 use Rattle.thy_control.specs.State.{AreCountsOf}
 
 pub AreCountsOf-new : (p : Parameters) → AreCountsOf p (uncounted p.pages p.high p.low)

@@ -22,10 +22,10 @@ use Rattle.thy_block.specs.Device.{Device}
 use Rattle.thy_block.specs.Store.{page_of}
 use Rattle.thy_table.proofs.FirstLemmas.{first_from-first, none-first_from, first_from-position}
 use Rattle.thy_table.specs.declared.block_entry.Pending.TheVariants.{Settled}
-use Rattle.thy_cell.specs.declared.cell.StoreRule.{StoreRule}
-use Rattle.thy_cell.specs.declared.cell.StoreRule.TheVariants.{ToFrame, ToBuffer, ToNvm, PendingFirst}
-use Rattle.thy_cell.specs.Rules.{after_store, after_copy}
-use Rattle.thy_cell.specs.Checkpoint.{page_issued}
+use Rattle.thy_table.specs.declared.cell.StoreRule.{StoreRule}
+use Rattle.thy_table.specs.declared.cell.StoreRule.TheVariants.{ToFrame, ToBuffer, ToNvm, PendingFirst}
+use Rattle.thy_table.specs.Rules.{after_store, after_copy}
+use Rattle.thy_table.specs.Checkpoint.{page_issued}
 use Rattle.thy_control.specs.declared.cursors.Cursors.{Cursors}
 use Rattle.thy_control.specs.Cursors.{NoneBelow, AreCursors, AreLowered, IsControl}
 use Rattle.thy_control.specs.Keys.{block_key, page_key}
@@ -42,8 +42,8 @@ use Rattle.thy_control.proofs.MergeLemmas.{listed-merge, listed_page-merge, over
 use Rattle.thy_control.proofs.IssueLemmas.{listed-busy, cell-issued}
 use Rattle.thy_control.proofs.FillLemmas.{listed-fresh, is_now, overlaid-filled_at}
 use Rattle.thy_block.specs.Geometry.{memory_blocks}
-use Rattle.thy_cell.specs.declared.cell.Cell.{Cell}
-use Rattle.thy_cell.specs.BetweenCheckpoints.{MergeKeeps, DirtyKeeps}
+use Rattle.thy_table.specs.declared.cell.Cell.{Cell}
+use Rattle.thy_table.specs.BetweenCheckpoints.{MergeKeeps, DirtyKeeps}
 use Rattle.thy_control.proofs.PageLemmas.{count-same}
 
 -- an entry that is listed has no work over a frame

@@ -1,12 +1,12 @@
 -- Writes that land keep what every place reads as, and all that depends on it.
 use Rattle.std.proofs.Common.{◌≡◌, ℕ, ◌<◌, length, refl, ◌∙◌, arith}
 use Rattle.thy_block.specs.Device.{Device, drained as nvm_drained, settled}
-use Rattle.thy_places.specs.Places.{number_of, image_blocks}
+use Rattle.thy_table.specs.Places.{number_of, image_blocks}
 use Rattle.thy_block.proofs.DeviceLemmas.{no_more-drained, no_more-settled, newest-drained, newest-settled, length-drained, length-settled}
-use Rattle.thy_place.specs.Devices.{devices_of}
-use Rattle.thy_place.specs.DeviceLaws.{ReadsTheSame}
-use Rattle.thy_place.proofs.PlaceLemmas.{reads_the_same}
-use Rattle.thy_cell.specs.Cells.{seat_of, frame_at, penult, target, last, work}
+use Rattle.thy_table.specs.Devices.{devices_of}
+use Rattle.thy_table.specs.DeviceLaws.{ReadsTheSame}
+use Rattle.thy_table.proofs.MoveLemmas.{reads_the_same}
+use Rattle.thy_table.specs.Cells.{seat_of, frame_at, penult, target, last, work}
 use Rattle.thy_control.specs.State.{State, AreSoundTables, IsSized, cell_of, reads}
 use Rattle.thy_control.specs.Stays.{HoldAll, Stays}
 use Rattle.thy_control.specs.OverCalls.{cell_same, stays_same}

@@ -8,14 +8,14 @@ use Rattle.std.specs.List.{count_by}
 use Rattle.std.proofs.Common.{length, ◌≡◌, ◌≢◌, ℕ, ◌+◌, ◌-◌, ◌*◌, ◌<◌, ◌≤◌, ◌%◌, ◌==◌, ◌&&◌, not, if◌then◌else◌, Bool, true, false, List, get_or, refl, sym, ◌∙◌, ap, subst, inl, inr, arith, Option, Some, None, Result, Ok, Err, OnOk, OnErr, [], ◌∷◌, suc}
 use Rattle.std.proofs.lemmas.Bool.{cases_eq, and_parts, eqb-true, not-true, both_ways}
 use Rattle.std.proofs.lemmas.List.Sums.{sum_by-set, sum_by-cons, get_or-le-sum_by}
-use Rattle.thy_places.specs.declared.place.Place.{Place}
+use Rattle.thy_table.specs.declared.place.Place.{Place}
 use Rattle.thy_block.specs.declared.nvm.NvmError.{NvmError}
 use Rattle.thy_block.specs.Device.{Device, IsFramed, zero_block, HasFailed}
 use Rattle.thy_block.specs.Geometry.{memory_blocks}
 use Rattle.thy_block.specs.Store.{page_of}
 use Rattle.thy_block.proofs.BasicLemmas.{not_and}
-use Rattle.thy_place.specs.Devices.{Devices, devices_of}
-use Rattle.thy_place.proofs.PlaceLemmas.{AreSized-written_at}
+use Rattle.thy_table.specs.Devices.{Devices, devices_of}
+use Rattle.thy_table.proofs.MoveLemmas.{AreSized-written_at}
 use Rattle.thy_table.specs.Listing.{Listing, IsListing, entry_at, passes, place_of, with_entry}
 use Rattle.thy_table.proofs.IndexLemmas.{one_if}
 use Rattle.thy_table.proofs.FirstLemmas.{first_from-first, none-first_from}
@@ -23,11 +23,11 @@ use Rattle.thy_table.specs.declared.block_entry.Working.{Working}
 use Rattle.thy_table.specs.declared.block_entry.Working.TheVariants.{NoWork}
 use Rattle.thy_table.specs.declared.page_entry.PttEntry.{PttEntry}
 use Rattle.thy_table.specs.PageEntry.{no_page, is_framed, page_blocks}
-use Rattle.thy_cell.specs.declared.cell.Cell.{Cell}
-use Rattle.thy_cell.specs.Cells.{seat_of, frame_at, penult, last, work}
-use Rattle.thy_cell.specs.Sound.{Holds}
-use Rattle.thy_cell.specs.Checkpoint.{with_filled}
-use Rattle.thy_cell.specs.BetweenCheckpoints.{PromotionKeeps, PromotionKeepsOthers, Keeps}
+use Rattle.thy_table.specs.declared.cell.Cell.{Cell}
+use Rattle.thy_table.specs.Cells.{seat_of, frame_at, penult, last, work}
+use Rattle.thy_table.specs.Sound.{Holds}
+use Rattle.thy_table.specs.Checkpoint.{with_filled}
+use Rattle.thy_table.specs.BetweenCheckpoints.{PromotionKeeps, PromotionKeepsOthers, Keeps}
 use Rattle.thy_control.specs.Keys.{page_key, block_key}
 use Rattle.thy_control.specs.Moves.{moved}
 use Rattle.thy_control.specs.State.{State, AreSoundTables, IsSized, cell_of, reads}

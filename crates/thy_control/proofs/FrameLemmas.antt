@@ -1,11 +1,11 @@
 -- The load of a listed page's block into its frame.
 use Rattle.std.proofs.Common.{◌≡◌, ◌≢◌, ℕ, ◌+◌, ◌*◌, ◌%◌, ◌<◌, Bool, true, false, refl, sym, ◌∙◌, ap, subst, arith, Option, Some, None, is_some, unwrap_or, Result, Ok, Err, OnOk, OnErr}
 use Rattle.thy_block.specs.declared.block.Block.{Block}
-use Rattle.thy_places.specs.declared.place.Place.{Place}
-use Rattle.thy_places.specs.declared.place.Place.TheVariants.{AlternatePage, Frame}
+use Rattle.thy_table.specs.declared.place.Place.{Place}
+use Rattle.thy_table.specs.declared.place.Place.TheVariants.{AlternatePage, Frame}
 use Rattle.thy_block.specs.Device.{Device, newest}
 use Rattle.thy_block.specs.Geometry.{memory_blocks}
-use Rattle.thy_places.specs.Places.{IsPlace, number_of}
+use Rattle.thy_table.specs.Places.{IsPlace, number_of}
 use Rattle.thy_block.specs.Store.{page_of}
 use Rattle.thy_dram.specs.Contents.{Contents, written}
 use Rattle.thy_table.specs.Listing.{entry_at, lists, place_of}
@@ -19,10 +19,10 @@ use Rattle.thy_table.specs.declared.page_entry.Site.{Site}
 use Rattle.thy_table.specs.declared.page_entry.Site.TheVariants.{AtHome, AtAlternate}
 use Rattle.thy_table.specs.BlockEntry.{new_entry}
 use Rattle.thy_table.specs.PageEntry.{no_page, listed_page, is_framed}
-use Rattle.thy_cell.specs.declared.cell.Cell.{Cell}
-use Rattle.thy_cell.specs.Cells.{seat_of, frame_at, placed, penult}
-use Rattle.thy_cell.specs.Sound.{IsSoundCell, Holds}
-use Rattle.thy_cell.specs.BetweenCheckpoints.{FrameLoads, Loads, Keeps}
+use Rattle.thy_table.specs.declared.cell.Cell.{Cell}
+use Rattle.thy_table.specs.Cells.{seat_of, frame_at, placed, penult}
+use Rattle.thy_table.specs.Sound.{IsSoundCell, Holds}
+use Rattle.thy_table.specs.BetweenCheckpoints.{FrameLoads, Loads, Keeps}
 use Rattle.thy_control.specs.Find.{entry_for}
 use Rattle.thy_control.specs.Keys.{block_key, page_key}
 use Rattle.thy_control.specs.State.{State, AreSoundTables, IsSized, cell_of, penult_of, last_of, work_of, reads}

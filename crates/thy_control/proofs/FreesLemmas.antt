@@ -9,7 +9,7 @@ use Rattle.thy_table.specs.declared.block_entry.BttEntry.{BttEntry}
 use Rattle.thy_table.specs.declared.block_entry.Version.{Version}
 use Rattle.thy_table.specs.declared.block_entry.Working.{Working}
 use Rattle.thy_table.specs.declared.block_entry.Working.TheVariants.{NoWork}
-use Rattle.thy_cell.specs.Checkpoint.{committed_entry, sealed_by, sealed_entry}
+use Rattle.thy_table.specs.Checkpoint.{committed_entry, sealed_by, sealed_entry}
 use Rattle.thy_control.specs.State.{State, AreSoundTables}
 use Rattle.thy_control.specs.Seal.{is_few, block_is_framed, sealed_in, sealed_state}
 use Rattle.thy_control.specs.Commit.{committed_state}

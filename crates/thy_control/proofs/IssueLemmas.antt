@@ -3,13 +3,13 @@ use Rattle.std.proofs.Common.{◌≡◌, ◌≢◌, ℕ, ◌+◌, ◌-◌, ◌<�
 use Rattle.std.proofs.lemmas.Bool.{and_parts, eqb-true, ltb-true, ltb-false, both_ways}
 use Rattle.std.proofs.lemmas.List.{get_or_default}
 use Rattle.std.proofs.lemmas.List.Sums.{sum_by-set, sum_by-le}
-use Rattle.thy_places.specs.declared.place.Place.{Place}
+use Rattle.thy_table.specs.declared.place.Place.{Place}
 use Rattle.thy_block.specs.declared.nvm.NvmError.{NvmError}
 use Rattle.thy_block.specs.Device.{Device, IsFramed}
 use Rattle.thy_block.specs.Geometry.{memory_blocks}
 use Rattle.thy_block.specs.Store.{page_of}
-use Rattle.thy_place.specs.Devices.{Devices, devices_of}
-use Rattle.thy_place.proofs.PlaceLemmas.{AreSized-written_at}
+use Rattle.thy_table.specs.Devices.{Devices, devices_of}
+use Rattle.thy_table.proofs.MoveLemmas.{AreSized-written_at}
 use Rattle.thy_table.specs.Listing.{Listing, IsListing, entry_at, passes, place_of, with_entry}
 use Rattle.thy_table.proofs.FirstLemmas.{first_from-first, none-first_from}
 use Rattle.thy_table.specs.declared.block_entry.Version.{Version}
@@ -18,11 +18,11 @@ use Rattle.thy_table.specs.declared.block_entry.Working.{Working}
 use Rattle.thy_table.specs.declared.page_entry.Site.{Site}
 use Rattle.thy_table.specs.declared.page_entry.PttEntry.{PttEntry}
 use Rattle.thy_table.specs.PageEntry.{no_page, is_framed, page_blocks}
-use Rattle.thy_cell.specs.declared.cell.Cell.{Cell}
-use Rattle.thy_cell.specs.Cells.{Seat, seat_of, placed, frame_at, worked_at, penult, target, last, work}
-use Rattle.thy_cell.specs.Sound.{IsSoundPage, IsSoundCell, Holds}
-use Rattle.thy_cell.specs.Checkpoint.{page_issued, with_issued}
-use Rattle.thy_cell.specs.BetweenCheckpoints.{PageWriteKeeps, PageWriteKeepsOthers, Keeps}
+use Rattle.thy_table.specs.declared.cell.Cell.{Cell}
+use Rattle.thy_table.specs.Cells.{Seat, seat_of, placed, frame_at, worked_at, penult, target, last, work}
+use Rattle.thy_table.specs.Sound.{IsSoundPage, IsSoundCell, Holds}
+use Rattle.thy_table.specs.Checkpoint.{page_issued, with_issued}
+use Rattle.thy_table.specs.BetweenCheckpoints.{PageWriteKeeps, PageWriteKeepsOthers, Keeps}
 use Rattle.thy_control.specs.Guarded.{LeavesGuarded}
 use Rattle.thy_control.specs.Keys.{page_key}
 use Rattle.thy_control.specs.Moves.{moved, IsOneLess}

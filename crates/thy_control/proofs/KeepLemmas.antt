@@ -2,15 +2,15 @@
 -- places of the checkpoints.
 use Rattle.std.proofs.Common.{◌≡◌, ◌≢◌, ℕ, ◌<◌, ◌%◌, if◌then◌else◌, refl, sym, ◌∙◌, ap, subst, inl, inr, Option, Some, None, Result, OnOk, IfOk, rules, true, false, arith, ◌⊎◌, ◌≤◌, Bool, Ok, Err, OnErr}
 use Rattle.thy_block.specs.declared.block.Block.{Block}
-use Rattle.thy_places.specs.declared.place.Place.{Place}
-use Rattle.thy_places.specs.declared.place.Place.TheVariants.{Frame, Buffer}
+use Rattle.thy_table.specs.declared.place.Place.{Place}
+use Rattle.thy_table.specs.declared.place.Place.TheVariants.{Frame, Buffer}
 use Rattle.thy_block.specs.declared.store.Stored.{Stored}
 use Rattle.thy_block.specs.declared.nvm.NvmError.{NvmError}
 use Rattle.thy_block.specs.Device.{Device, HasFailedToWrite, written_to, HasFailed}
 use Rattle.thy_block.specs.Geometry.{memory_blocks}
-use Rattle.thy_places.specs.Places.{IsPlace, in_dram, number_of, first_home, IsApart}
-use Rattle.thy_place.specs.Devices.{AreSized, devices_of, read_at, written_at, Devices, NoMoreAt}
-use Rattle.thy_place.proofs.PlaceLemmas.{read_at-written_same, read_at-written_other, numbers_apart, no_more-written_other, no_more-failed_other}
+use Rattle.thy_table.specs.Places.{IsPlace, in_dram, number_of, first_home, IsApart}
+use Rattle.thy_table.specs.Devices.{AreSized, devices_of, read_at, written_at, Devices, NoMoreAt}
+use Rattle.thy_table.proofs.MoveLemmas.{read_at-written_same, read_at-written_other, numbers_apart, no_more-written_other, no_more-failed_other}
 use Rattle.thy_table.specs.Listing.{Listing, place_of, free_count}
 use Rattle.thy_table.specs.declared.block_entry.BttEntry.{BttEntry}
 use Rattle.thy_table.specs.declared.page_entry.Site.{Site}
@@ -18,14 +18,14 @@ use Rattle.thy_table.specs.declared.page_entry.Site.TheVariants.{AtHome, AtAlter
 use Rattle.thy_table.specs.declared.block_entry.Version.TheVariants.{Out}
 use Rattle.thy_table.specs.BlockEntry.{new_entry}
 use Rattle.thy_table.specs.PageEntry.{is_framed, no_page}
-use Rattle.thy_cell.specs.declared.cell.Cell.{Cell}
-use Rattle.thy_cell.specs.declared.cell.StoreRule.{StoreRule}
-use Rattle.thy_cell.specs.declared.cell.StoreRule.TheVariants.{ToFrame, PendingFirst}
-use Rattle.thy_cell.specs.Cells.{seat_of, placed, penult, target, last, work, frame_at, Seat}
-use Rattle.thy_cell.specs.Sound.{IsWithin, Puts, Holds}
-use Rattle.thy_cell.specs.Rules.{store_rule, store_place, after_store}
-use Rattle.thy_cell.specs.Store.{StoreReads, LoadGives, put_by, given_by, StoreHolds, StoreGoesElsewhere, StoreLeavesTarget}
-use Rattle.thy_cell.specs.Checkpoint.{with_dirty}
+use Rattle.thy_table.specs.declared.cell.Cell.{Cell}
+use Rattle.thy_table.specs.declared.cell.StoreRule.{StoreRule}
+use Rattle.thy_table.specs.declared.cell.StoreRule.TheVariants.{ToFrame, PendingFirst}
+use Rattle.thy_table.specs.Cells.{seat_of, placed, penult, target, last, work, frame_at, Seat}
+use Rattle.thy_table.specs.Sound.{IsWithin, Puts, Holds}
+use Rattle.thy_table.specs.Rules.{store_rule, store_place, after_store}
+use Rattle.thy_table.specs.Store.{StoreReads, LoadGives, put_by, given_by, StoreHolds, StoreGoesElsewhere, StoreLeavesTarget}
+use Rattle.thy_table.specs.Checkpoint.{with_dirty}
 use Rattle.thy_control.specs.Find.{index_for, with_found}
 use Rattle.thy_control.specs.Keys.{block_key}
 use Rattle.thy_control.specs.StoredTables.{btt_with, answer_of}
@@ -42,7 +42,7 @@ use Rattle.thy_table.specs.declared.page_entry.PttEntry.{PttEntry}
 use Rattle.thy_control.specs.Stays.{HoldAll}
 use Rattle.thy_block.specs.declared.parameters.Parameters.{Parameters}
 use Rattle.thy_block.proofs.DeviceLemmas.{no_more-written_to_other, MayLeave-elsewhere}
-use Rattle.thy_places.proofs.PlaceLemmas.{between_slots}
+use Rattle.thy_table.proofs.PlaceLemmas.{between_slots}
 use Rattle.thy_dram.specs.Contents.{written}
 use Rattle.thy_table.specs.declared.block_entry.Version.{Version}
 use Rattle.thy_table.specs.declared.block_entry.Pending.TheVariants.{Settled}

@@ -10,7 +10,7 @@ use Rattle.thy_table.specs.Listing.{Listing, IsListing, entry_at, place_of, free
 use Rattle.thy_table.proofs.ListingLaws.{IsListing-put}
 use Rattle.thy_table.specs.declared.page_entry.PttEntry.{PttEntry}
 use Rattle.thy_table.specs.PageEntry.{no_page, promoted_page, is_framed}
-use Rattle.thy_switch.specs.Counts.{Tally, is_dense, greatest_of, are_sparse}
+use Rattle.thy_table.specs.Counts.{Tally, is_dense, greatest_of, are_sparse}
 use Rattle.thy_control.specs.Find.{entry_for, with_entry_for}
 use Rattle.thy_control.specs.Keys.{page_key}
 use Rattle.thy_control.specs.CheckpointTables.{page_lists}

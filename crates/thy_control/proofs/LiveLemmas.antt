@@ -8,11 +8,11 @@ use Rattle.thy_table.specs.declared.block_entry.Version.TheVariants.{Out, Alt}
 use Rattle.thy_table.specs.declared.block_entry.Working.{Working}
 use Rattle.thy_table.specs.declared.block_entry.Working.TheVariants.{NoWork, InNvm, InBuffer}
 use Rattle.thy_table.specs.BlockEntry.{new_entry}
-use Rattle.thy_cell.specs.declared.cell.Cell.{Cell}
-use Rattle.thy_cell.specs.declared.cell.StoreRule.{StoreRule}
-use Rattle.thy_cell.specs.declared.cell.StoreRule.TheVariants.{ToFrame, PendingFirst}
-use Rattle.thy_cell.specs.Checkpoint.{sealed_by, committed_by}
-use Rattle.thy_cell.specs.Rules.{after_store}
+use Rattle.thy_table.specs.declared.cell.Cell.{Cell}
+use Rattle.thy_table.specs.declared.cell.StoreRule.{StoreRule}
+use Rattle.thy_table.specs.declared.cell.StoreRule.TheVariants.{ToFrame, PendingFirst}
+use Rattle.thy_table.specs.Checkpoint.{sealed_by, committed_by}
+use Rattle.thy_table.specs.Rules.{after_store}
 use Rattle.thy_control.specs.Find.{with_entry_for, index_for}
 use Rattle.thy_control.specs.Keys.{block_key}
 use Rattle.thy_control.specs.State.{IsUsed, AreUsed}

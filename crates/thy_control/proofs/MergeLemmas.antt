@@ -1,5 +1,5 @@
 -- The merge of a block's buffer into the frame of its page: every block after it, and the tables.
-use Rattle.thy_places.specs.declared.place.Place.TheVariants.{Home, AlternatePage}
+use Rattle.thy_table.specs.declared.place.Place.TheVariants.{Home, AlternatePage}
 use Rattle.thy_table.specs.declared.block_entry.Pending.TheVariants.{Settled}
 use Rattle.thy_table.specs.declared.block_entry.Version.{Version}
 use Rattle.thy_table.specs.declared.block_entry.Version.TheVariants.{Out, Alt}
@@ -13,10 +13,10 @@ use Rattle.std.proofs.Common.{◌≡◌, ◌≢◌, ℕ, ◌+◌, ◌<◌, Bool,
 use Rattle.std.proofs.lemmas.Bool.{cases_eq, and_parts, false_from_ne_true}
 use Rattle.std.proofs.lemmas.List.{length-set}
 use Rattle.thy_block.specs.declared.block.Block.{Block}
-use Rattle.thy_places.specs.declared.place.Place.{Place}
+use Rattle.thy_table.specs.declared.place.Place.{Place}
 use Rattle.thy_block.specs.Device.{Device, zero_block, block_at}
 use Rattle.thy_block.specs.Geometry.{memory_blocks}
-use Rattle.thy_places.specs.Places.{IsPlace, number_of}
+use Rattle.thy_table.specs.Places.{IsPlace, number_of}
 use Rattle.thy_block.specs.Store.{page_of}
 use Rattle.thy_dram.specs.Contents.{Contents, written}
 use Rattle.thy_table.specs.Listing.{Listing, IsListing, entry_at, passes, place_of, with_entry}
@@ -27,11 +27,11 @@ use Rattle.thy_table.specs.declared.block_entry.Working.{Working}
 use Rattle.thy_table.specs.declared.block_entry.Working.TheVariants.{NoWork, InBuffer}
 use Rattle.thy_table.specs.BlockEntry.{new_entry}
 use Rattle.thy_table.specs.PageEntry.{no_page, is_framed}
-use Rattle.thy_cell.specs.declared.cell.Cell.{Cell}
-use Rattle.thy_cell.specs.Cells.{Seat, placed, seat_of, frame_at, buffer_at, worked_at, last, work}
-use Rattle.thy_cell.specs.Sound.{IsSoundCell, IsWithin, Puts}
-use Rattle.thy_cell.specs.Checkpoint.{merged, with_dirty}
-use Rattle.thy_cell.specs.BetweenCheckpoints.{MergeKeeps, DirtyKeeps, Keeps}
+use Rattle.thy_table.specs.declared.cell.Cell.{Cell}
+use Rattle.thy_table.specs.Cells.{Seat, placed, seat_of, frame_at, buffer_at, worked_at, last, work}
+use Rattle.thy_table.specs.Sound.{IsSoundCell, IsWithin, Puts}
+use Rattle.thy_table.specs.Checkpoint.{merged, with_dirty}
+use Rattle.thy_table.specs.BetweenCheckpoints.{MergeKeeps, DirtyKeeps, Keeps}
 use Rattle.thy_control.specs.Keys.{block_key, page_key}
 use Rattle.thy_control.specs.State.{State, AreSoundTables, IsSized, cell_of, reads}
 use Rattle.thy_control.specs.Overlay.{is_buffered, is_overlaid}

@@ -1,13 +1,13 @@
 -- One action of both devices is one of the NVM.
 use Rattle.std.proofs.Common.{◌≡◌, Bool, true, false, if◌then◌else◌, refl, sym, ◌∙◌, ap, subst, inl, inr, arith}
 use Rattle.thy_block.specs.declared.block.Block.{Block}
-use Rattle.thy_places.specs.declared.place.Place.{Place}
+use Rattle.thy_table.specs.declared.place.Place.{Place}
 use Rattle.thy_block.specs.Device.{written_to}
-use Rattle.thy_places.specs.Places.{IsPlace, in_dram, number_of}
+use Rattle.thy_table.specs.Places.{IsPlace, in_dram, number_of}
 use Rattle.thy_block.proofs.DeviceLemmas.{queue-written_to}
 use Rattle.thy_dram.specs.Contents.{written}
-use Rattle.thy_place.specs.Devices.{Devices}
-use Rattle.thy_place.proofs.PlaceLemmas.{within_image}
+use Rattle.thy_table.specs.Devices.{Devices}
+use Rattle.thy_table.proofs.MoveLemmas.{within_image}
 use Rattle.thy_control.specs.Guarded.{IsFree}
 use Rattle.thy_control.specs.Once.{Spot, queued, IsOneOfNvm, OneActionIsOneOfNvm}
 use Rattle.thy_control.specs.State.{State}

@@ -12,7 +12,7 @@ use Rattle.thy_table.specs.declared.block_entry.BttEntry.{BttEntry}
 use Rattle.thy_table.specs.declared.page_entry.PttEntry.{PttEntry}
 use Rattle.thy_table.specs.BlockEntry.{new_entry}
 use Rattle.thy_table.specs.PageEntry.{no_page, is_framed}
-use Rattle.thy_cell.specs.declared.cell.Cell.{Cell}
+use Rattle.thy_table.specs.declared.cell.Cell.{Cell}
 use Rattle.thy_control.specs.Find.{entry_for}
 use Rattle.thy_control.specs.Keys.{block_key, page_key}
 use Rattle.thy_control.specs.State.{State, cell_of}

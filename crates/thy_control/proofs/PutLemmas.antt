@@ -4,15 +4,15 @@ use Rattle.std.proofs.lemmas.Bool.{both_ways}
 use Rattle.std.proofs.lemmas.List.{length-set}
 use Rattle.thy_block.specs.declared.block.Block.{Block}
 use Rattle.thy_block.specs.declared.parameters.Parameters.{Parameters}
-use Rattle.thy_places.specs.declared.place.Place.{Place}
+use Rattle.thy_table.specs.declared.place.Place.{Place}
 use Rattle.thy_block.specs.Device.{Device, block_at, HasFailedToWrite}
 use Rattle.thy_block.specs.Geometry.{memory_blocks}
-use Rattle.thy_places.specs.Places.{number_of, in_dram}
+use Rattle.thy_table.specs.Places.{number_of, in_dram}
 use Rattle.thy_block.specs.Store.{page_of}
 use Rattle.thy_block.proofs.RangeLemmas.{btt_least}
 use Rattle.thy_dram.specs.Contents.{Contents}
-use Rattle.thy_place.specs.Devices.{Devices, devices_of, written_at}
-use Rattle.thy_place.proofs.PlaceLemmas.{AreSized-written_at}
+use Rattle.thy_table.specs.Devices.{Devices, devices_of, written_at}
+use Rattle.thy_table.proofs.MoveLemmas.{AreSized-written_at}
 use Rattle.thy_table.specs.Listing.{Listing, IsListing, entry_at, lists, free_place, free_count}
 use Rattle.thy_table.proofs.IndexLemmas.{count-none}
 use Rattle.thy_table.specs.declared.block_entry.BttEntry.{BttEntry}
@@ -20,14 +20,14 @@ use Rattle.thy_table.specs.declared.block_entry.Pending.TheVariants.{Settled, Fr
 use Rattle.thy_table.specs.declared.page_entry.PttEntry.{PttEntry}
 use Rattle.thy_table.specs.BlockEntry.{new_entry}
 use Rattle.thy_table.specs.PageEntry.{is_framed}
-use Rattle.thy_switch.specs.Counts.{Tally}
-use Rattle.thy_cell.specs.declared.cell.Cell.{Cell}
-use Rattle.thy_cell.specs.declared.cell.StoreRule.{StoreRule}
-use Rattle.thy_cell.specs.declared.cell.StoreRule.TheVariants.{ToFrame, PendingFirst}
-use Rattle.thy_cell.specs.Cells.{seat_of}
-use Rattle.thy_cell.specs.Sound.{IsWithin, IsSoundCell, IsWhole}
-use Rattle.thy_cell.specs.Rules.{store_rule, store_place, after_store}
-use Rattle.thy_cell.specs.Store.{put_by}
+use Rattle.thy_table.specs.Counts.{Tally}
+use Rattle.thy_table.specs.declared.cell.Cell.{Cell}
+use Rattle.thy_table.specs.declared.cell.StoreRule.{StoreRule}
+use Rattle.thy_table.specs.declared.cell.StoreRule.TheVariants.{ToFrame, PendingFirst}
+use Rattle.thy_table.specs.Cells.{seat_of}
+use Rattle.thy_table.specs.Sound.{IsWithin, IsSoundCell, IsWhole}
+use Rattle.thy_table.specs.Rules.{store_rule, store_place, after_store}
+use Rattle.thy_table.specs.Store.{put_by}
 use Rattle.thy_control.specs.Find.{index_for}
 use Rattle.thy_control.specs.Keys.{block_key, page_key}
 use Rattle.thy_control.specs.StoredTables.{btt_with, btt_after, ptt_after, counts_after}

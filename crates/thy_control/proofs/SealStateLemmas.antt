@@ -2,7 +2,7 @@
 use Rattle.std.proofs.Common.{◌≡◌, ℕ, ◌<◌, Bool, true, false, length, refl, sym, ◌∙◌, ap, subst, inl, inr, arith, Option, Some, unwrap_or, ◌⊎◌, ◌||◌, ◌*◌, if◌then◌else◌, List, map, None, option_and_then, ◌≤◌, [], ◌∷◌}
 use Rattle.std.proofs.lemmas.List.{length-map, ext_get_or}
 use Rattle.thy_block.specs.declared.block.Block.{Block}
-use Rattle.thy_places.specs.declared.place.Place.{Place}
+use Rattle.thy_table.specs.declared.place.Place.{Place}
 use Rattle.thy_block.specs.Device.{Device}
 use Rattle.thy_block.specs.Geometry.{memory_blocks}
 use Rattle.thy_block.specs.Store.{page_of}
@@ -13,11 +13,11 @@ use Rattle.thy_table.specs.declared.block_entry.BttEntry.{BttEntry}
 use Rattle.thy_table.specs.declared.page_entry.PttEntry.{PttEntry}
 use Rattle.thy_table.specs.BlockEntry.{new_entry}
 use Rattle.thy_table.specs.PageEntry.{no_page, promoted_page, is_framed}
-use Rattle.thy_switch.specs.Counts.{Tally, is_low, reset}
-use Rattle.thy_cell.specs.declared.cell.Cell.{Cell}
-use Rattle.thy_cell.specs.Cells.{penult, work}
-use Rattle.thy_cell.specs.Sound.{IsSoundCell, Holds}
-use Rattle.thy_cell.specs.Checkpoint.{sealed_by, with_listed, Moves, ListsPage, SealKeepsSound, SealMoves, SealTakesWork, ListingKeeps, sealed, sealed_entry, sealed_page, page_sealed_by, kept_index, committed_by, committed_entry, page_committed_by, committed_page, sealed_frame}
+use Rattle.thy_table.specs.Counts.{Tally, is_low, reset}
+use Rattle.thy_table.specs.declared.cell.Cell.{Cell}
+use Rattle.thy_table.specs.Cells.{penult, work}
+use Rattle.thy_table.specs.Sound.{IsSoundCell, Holds}
+use Rattle.thy_table.specs.Checkpoint.{sealed_by, with_listed, Moves, ListsPage, SealKeepsSound, SealMoves, SealTakesWork, ListingKeeps, sealed, sealed_entry, sealed_page, page_sealed_by, kept_index, committed_by, committed_entry, page_committed_by, committed_page, sealed_frame}
 use Rattle.thy_control.specs.Keys.{block_key, page_key}
 use Rattle.thy_control.specs.State.{State, IsUsed, AreSoundTables, cell_of, reads}
 use Rattle.thy_control.specs.Rules.{IsWholeState}

@@ -1,9 +1,9 @@
 -- The cell of a block: what it is of, and that its places are there; and the cells of all blocks after a store of one.
 use Rattle.std.proofs.Common.{◌≡◌, ℕ, ◌<◌, Bool, true, false, if◌then◌else◌, length, refl, arith, ◌≤◌, subst, sym, ◌≢◌, ◌⊎◌, ◌∙◌, ap, inl, inr, Option, Some, None, unwrap_or, rules}
 use Rattle.thy_block.specs.declared.parameters.Parameters.{Parameters}
-use Rattle.thy_places.specs.declared.place.Place.{Place}
+use Rattle.thy_table.specs.declared.place.Place.{Place}
 use Rattle.thy_block.specs.Geometry.{IsInRange, memory_blocks}
-use Rattle.thy_places.specs.Places.{IsPlace}
+use Rattle.thy_table.specs.Places.{IsPlace}
 use Rattle.thy_block.specs.Store.{page_of}
 use Rattle.thy_block.proofs.RangeLemmas.{btt_least}
 use Rattle.thy_table.specs.declared.block_entry.Version.{Version}
@@ -16,12 +16,12 @@ use Rattle.thy_table.specs.declared.page_entry.Site.{Site}
 use Rattle.thy_table.specs.declared.page_entry.Site.TheVariants.{AtHome, AtAlternate}
 use Rattle.thy_table.specs.BlockEntry.{new_entry, other_version}
 use Rattle.thy_table.specs.PageEntry.{no_page, is_framed}
-use Rattle.thy_cell.specs.declared.cell.Cell.{Cell}
-use Rattle.thy_cell.specs.declared.cell.StoreRule.{StoreRule}
-use Rattle.thy_cell.specs.declared.cell.StoreRule.TheVariants.{ToFrame, ToBuffer, ToNvm, PendingFirst}
-use Rattle.thy_cell.specs.Cells.{Seat, seat_of, frame_at, placed, pending_at, worked_at, penult, target, last, work}
-use Rattle.thy_cell.specs.Sound.{IsWithin, IsSoundCell, IsWhole}
-use Rattle.thy_cell.specs.Rules.{store_place, store_rule, after_store}
+use Rattle.thy_table.specs.declared.cell.Cell.{Cell}
+use Rattle.thy_table.specs.declared.cell.StoreRule.{StoreRule}
+use Rattle.thy_table.specs.declared.cell.StoreRule.TheVariants.{ToFrame, ToBuffer, ToNvm, PendingFirst}
+use Rattle.thy_table.specs.Cells.{Seat, seat_of, frame_at, placed, pending_at, worked_at, penult, target, last, work}
+use Rattle.thy_table.specs.Sound.{IsWithin, IsSoundCell, IsWhole}
+use Rattle.thy_table.specs.Rules.{store_place, store_rule, after_store}
 use Rattle.thy_control.specs.Keys.{block_key, page_key}
 use Rattle.thy_control.specs.State.{State, AreSoundTables, cell_of}
 use Rattle.thy_control.proofs.FindLemmas.{key-entry_for, index_for-inside, found_entry, entry_for-none, place_of-with_same, place_of-set, entry_for-set_same, entry_for-set_other, by_entry_for, entry_for-new, place_of-new_other, by_number}
@@ -29,8 +29,8 @@ use Rattle.std.proofs.lemmas.Bool.{cases_eq}
 use Rattle.thy_table.specs.Listing.{Listing, entry_at, place_of, free_place, with_entry}
 use Rattle.thy_table.specs.declared.block_entry.BttEntry.{BttEntry}
 use Rattle.thy_table.specs.declared.page_entry.PttEntry.{PttEntry}
-use Rattle.thy_cell.specs.Checkpoint.{with_dirty}
-use Rattle.thy_cell.proofs.StoreLemmas.{IsSoundCell-dirty, IsSoundCell-after_store}
+use Rattle.thy_table.specs.Checkpoint.{with_dirty}
+use Rattle.thy_table.proofs.StoreLemmas.{IsSoundCell-dirty, IsSoundCell-after_store}
 use Rattle.thy_control.specs.Find.{entry_for, index_for}
 use Rattle.thy_control.specs.StoredTables.{btt_with}
 use Rattle.thy_control.specs.Rules.{with_block, with_cell, rule_for}

@@ -4,25 +4,25 @@ use Rattle.std.proofs.lemmas.Bool.{cases_eq, both_ways}
 use Rattle.std.proofs.lemmas.List.{length-set, length-map, get_or-map, get_or-set_same, get_or-set_other, ext_get_or}
 use Rattle.thy_block.specs.Store.{page_of}
 use Rattle.thy_block.specs.declared.block.Block.{Block}
-use Rattle.thy_places.specs.declared.place.Place.{Place}
+use Rattle.thy_table.specs.declared.place.Place.{Place}
 use Rattle.thy_block.specs.declared.store.Stored.{Stored}
 use Rattle.thy_block.specs.declared.nvm.NvmError.{NvmError}
 use Rattle.thy_block.specs.Device.{Device, HasFailed, IsFramed, newest, written_to}
-use Rattle.thy_places.specs.Places.{in_dram, number_of, IsPlace}
+use Rattle.thy_table.specs.Places.{in_dram, number_of, IsPlace}
 use Rattle.thy_block.proofs.DeviceLemmas.{newest-written_to_other}
 use Rattle.thy_dram.specs.Contents.{written}
-use Rattle.thy_place.specs.Devices.{Devices, devices_of, written_at}
+use Rattle.thy_table.specs.Devices.{Devices, devices_of, written_at}
 use Rattle.thy_table.specs.Listing.{Listing, place_of, free_count, with_entry}
 use Rattle.thy_table.specs.declared.block_entry.BttEntry.{BttEntry}
 use Rattle.thy_table.specs.declared.page_entry.PttEntry.{PttEntry}
 use Rattle.thy_table.specs.BlockEntry.{new_entry}
 use Rattle.thy_table.specs.PageEntry.{no_page}
-use Rattle.thy_cell.specs.declared.cell.Cell.{Cell}
-use Rattle.thy_cell.specs.declared.cell.StoreRule.{StoreRule}
-use Rattle.thy_cell.specs.declared.cell.StoreRule.TheVariants.{ToFrame, PendingFirst}
-use Rattle.thy_cell.specs.Cells.{penult, target, seat_of}
-use Rattle.thy_cell.specs.Rules.{store_place, after_store}
-use Rattle.thy_cell.specs.Store.{put_by}
+use Rattle.thy_table.specs.declared.cell.Cell.{Cell}
+use Rattle.thy_table.specs.declared.cell.StoreRule.{StoreRule}
+use Rattle.thy_table.specs.declared.cell.StoreRule.TheVariants.{ToFrame, PendingFirst}
+use Rattle.thy_table.specs.Cells.{penult, target, seat_of}
+use Rattle.thy_table.specs.Rules.{store_place, after_store}
+use Rattle.thy_table.specs.Store.{put_by}
 use Rattle.thy_control.specs.Keys.{block_key, page_key}
 use Rattle.thy_control.specs.StoredTables.{btt_with}
 use Rattle.thy_control.specs.State.{State, AreSoundTables, IsSized, cell_of, reads, penult_of}

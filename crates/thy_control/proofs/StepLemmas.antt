@@ -4,20 +4,20 @@ use Rattle.std.specs.List.{count_by}
 use Rattle.std.proofs.lemmas.List.{get_or_default, length-set}
 use Rattle.std.proofs.lemmas.List.Sums.{sum_by-le}
 use Rattle.thy_block.specs.declared.block.Block.{Block}
-use Rattle.thy_places.specs.declared.place.Place.{Place}
+use Rattle.thy_table.specs.declared.place.Place.{Place}
 use Rattle.thy_block.specs.Device.{Device, zero_block}
 use Rattle.thy_block.specs.Geometry.{memory_blocks}
-use Rattle.thy_places.specs.Places.{IsPlace}
+use Rattle.thy_table.specs.Places.{IsPlace}
 use Rattle.thy_block.specs.Store.{page_of}
-use Rattle.thy_place.specs.Devices.{AreSized, devices_of, read_at, written_at}
-use Rattle.thy_place.proofs.PlaceLemmas.{read_at-written_same, read_at-written_other}
+use Rattle.thy_table.specs.Devices.{AreSized, devices_of, read_at, written_at}
+use Rattle.thy_table.proofs.MoveLemmas.{read_at-written_same, read_at-written_other}
 use Rattle.thy_table.proofs.IndexLemmas.{one_if}
 use Rattle.thy_table.specs.declared.page_entry.PttEntry.{PttEntry}
 use Rattle.thy_table.specs.PageEntry.{no_page, is_framed, page_blocks}
-use Rattle.thy_cell.specs.declared.cell.Cell.{Cell}
-use Rattle.thy_cell.specs.Cells.{seat_of, frame_at, penult, target, last, work}
-use Rattle.thy_cell.specs.Sound.{IsSoundCell, Puts, Holds}
-use Rattle.thy_cell.specs.BetweenCheckpoints.{Keeps, ReadsSame}
+use Rattle.thy_table.specs.declared.cell.Cell.{Cell}
+use Rattle.thy_table.specs.Cells.{seat_of, frame_at, penult, target, last, work}
+use Rattle.thy_table.specs.Sound.{IsSoundCell, Puts, Holds}
+use Rattle.thy_table.specs.BetweenCheckpoints.{Keeps, ReadsSame}
 use Rattle.thy_control.specs.State.{State, AreSoundTables, IsSized, cell_of, reads}
 use Rattle.thy_control.specs.Stays.{HoldAll, CellStays}
 use Rattle.thy_control.specs.Versions.{KeepsCheckpoints, KeepsWork, KeepsAll}

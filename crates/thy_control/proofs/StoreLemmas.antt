@@ -11,19 +11,19 @@ use Rattle.thy_block.specs.declared.store.Stored.TheVariants.{Done, CopyFirst}
 use Rattle.thy_block.specs.declared.nvm.NvmError.{NvmError}
 use Rattle.thy_block.specs.Device.{Device, HasFailed, IsFramed, zero_block, written_to}
 use Rattle.thy_block.specs.Geometry.{memory_blocks}
-use Rattle.thy_places.specs.Places.{image_blocks}
+use Rattle.thy_table.specs.Places.{image_blocks}
 use Rattle.thy_block.specs.Store.{page_of, IsStored, HasStored}
 use Rattle.thy_dram.specs.Contents.{written}
-use Rattle.thy_place.specs.Devices.{Devices, devices_of}
+use Rattle.thy_table.specs.Devices.{Devices, devices_of}
 use Rattle.thy_table.specs.Listing.{free_count, passes, place_of}
 use Rattle.thy_table.specs.declared.page_entry.PttEntry.{PttEntry}
 use Rattle.thy_table.specs.declared.block_entry.Pending.TheVariants.{FromBuffer}
 use Rattle.thy_table.specs.PageEntry.{no_page, is_framed}
-use Rattle.thy_cell.specs.declared.cell.StoreRule.{StoreRule}
-use Rattle.thy_cell.specs.declared.cell.StoreRule.TheVariants.{PendingFirst}
-use Rattle.thy_cell.specs.Sound.{IsWhole}
-use Rattle.thy_cell.specs.Rules.{store_place, after_store}
-use Rattle.thy_cell.specs.Store.{put_by}
+use Rattle.thy_table.specs.declared.cell.StoreRule.{StoreRule}
+use Rattle.thy_table.specs.declared.cell.StoreRule.TheVariants.{PendingFirst}
+use Rattle.thy_table.specs.Sound.{IsWhole}
+use Rattle.thy_table.specs.Rules.{store_place, after_store}
+use Rattle.thy_table.specs.Store.{put_by}
 use Rattle.thy_control.specs.Keys.{page_key}
 use Rattle.thy_control.specs.StoredTables.{btt_with, btt_after, answer_of}
 use Rattle.thy_control.specs.State.{State, AreSoundTables, IsSized, cell_of, work_of, reads}
@@ -38,7 +38,7 @@ use Rattle.thy_control.proofs.StateLemmas.{IsPlace-store, IsListed, IsListed-wit
 use Rattle.thy_control.proofs.PutLemmas.{has_free, IsWithin-before}
 use Rattle.thy_control.proofs.CountLemmas.{free-with, free-cell, waiting-with, waiting-cell, waiting-copied, promoted-cell, none-counted}
 use Rattle.thy_table.specs.declared.block_entry.BttEntry.{BttEntry}
-use Rattle.thy_cell.specs.declared.cell.Cell.{Cell}
+use Rattle.thy_table.specs.declared.cell.Cell.{Cell}
 
 -- a copy goes first only of a buffer
 pub first_waits : (b : ℕ) (s : State) → rule_for b s ≡ PendingFirst → (cell_of s b).entry.pend ≡ FromBuffer

@@ -1,8 +1,8 @@
 -- The tables of both checkpoints: what they list, and the places at which they have each block; places of two blocks are two places.
 use Rattle.std.proofs.Common.{◌≡◌, ◌≢◌, ℕ, ◌+◌, ◌*◌, ◌%◌, Bool, true, false, if◌then◌else◌, refl, sym, ◌∙◌, ap, arith, Option, Some, ◌<◌, List, map, None, option_and_then, unwrap_or}
 use Rattle.std.specs.Option.{option_map}
-use Rattle.thy_places.specs.declared.place.Place.{Place}
-use Rattle.thy_places.specs.declared.place.Place.TheVariants.{Home, AlternateBlock, AlternatePage, Buffer, Frame}
+use Rattle.thy_table.specs.declared.place.Place.{Place}
+use Rattle.thy_table.specs.declared.place.Place.TheVariants.{Home, AlternateBlock, AlternatePage, Buffer, Frame}
 use Rattle.thy_block.specs.Store.{page_of}
 use Rattle.thy_table.specs.Listing.{entry_at, place_of, Listing, IsListing, lists}
 use Rattle.thy_table.specs.declared.block_entry.BttEntry.{BttEntry}
@@ -17,11 +17,11 @@ use Rattle.thy_table.specs.declared.page_entry.Site.TheVariants.{AtHome, AtAlter
 use Rattle.thy_table.specs.declared.page_entry.PttEntry.{PttEntry}
 use Rattle.thy_table.specs.BlockEntry.{new_entry, other_version}
 use Rattle.thy_table.specs.PageEntry.{no_page, is_framed}
-use Rattle.thy_cell.specs.declared.cell.Cell.{Cell}
-use Rattle.thy_cell.specs.declared.cell.StoreRule.{StoreRule}
-use Rattle.thy_cell.specs.declared.cell.StoreRule.TheVariants.{ToFrame, ToBuffer, ToNvm, PendingFirst}
-use Rattle.thy_cell.specs.Cells.{seat_of, frame_at, alternate_at, placed, pending_at, worked_at, penult, target, last, work}
-use Rattle.thy_cell.specs.Rules.{store_place}
+use Rattle.thy_table.specs.declared.cell.Cell.{Cell}
+use Rattle.thy_table.specs.declared.cell.StoreRule.{StoreRule}
+use Rattle.thy_table.specs.declared.cell.StoreRule.TheVariants.{ToFrame, ToBuffer, ToNvm, PendingFirst}
+use Rattle.thy_table.specs.Cells.{seat_of, frame_at, alternate_at, placed, pending_at, worked_at, penult, target, last, work}
+use Rattle.thy_table.specs.Rules.{store_place}
 use Rattle.thy_control.specs.Keys.{block_key, page_key}
 use Rattle.thy_control.specs.State.{State, cell_of, AreSoundTables}
 use Rattle.thy_control.proofs.FindLemmas.{found_entry, entry_for-some, entry_for-none}

@@ -3,11 +3,11 @@
 -- the listed pages.
 use Rattle.std.specs.Prelude.{◌≡◌, ℕ, ◌+◌, ◌*◌, ◌<◌, ◌≤◌, true, false, slice_set, Option, Some, None, Result, is_some}
 use Rattle.thy_block.specs.declared.parameters.Parameters.{Parameters}
-use Rattle.thy_places.specs.declared.place.Place.TheVariants.{AlternatePage, Frame}
+use Rattle.thy_table.specs.declared.place.Place.TheVariants.{AlternatePage, Frame}
 use Rattle.thy_block.specs.declared.nvm.NvmError.{NvmError}
 use Rattle.thy_block.specs.Device.{Device, HasFailed, newest}
 use Rattle.thy_block.specs.Geometry.{memory_blocks}
-use Rattle.thy_places.specs.Places.{number_of}
+use Rattle.thy_table.specs.Places.{number_of}
 use Rattle.thy_block.specs.Store.{page_of}
 use Rattle.thy_dram.specs.Contents.{Contents, written}
 use Rattle.thy_layout.specs.Entries.{entry_at as table_entry}
@@ -17,8 +17,8 @@ use Rattle.thy_table.specs.declared.block_entry.BttEntry.{BttEntry}
 use Rattle.thy_table.specs.declared.page_entry.PttEntry.{PttEntry}
 use Rattle.thy_table.specs.BlockEntry.{listed_entry}
 use Rattle.thy_table.specs.PageEntry.{listed_page}
-use Rattle.thy_switch.specs.Counts.{most, with_last}
-use Rattle.thy_cell.specs.Sound.{Holds}
+use Rattle.thy_table.specs.Counts.{most, with_last}
+use Rattle.thy_table.specs.Sound.{Holds}
 use Rattle.thy_control.specs.Keys.{block_key, page_key}
 use Rattle.thy_control.specs.State.{State, AreSoundTables, cell_of, penult_of, work_of, reads, new_state}
 use Rattle.thy_control.specs.CheckpointTables.{tables0, tables1}

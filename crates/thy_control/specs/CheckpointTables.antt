@@ -1,7 +1,7 @@
 -- Part of the claim.
 -- The tables of both checkpoints, by what the entries of the controller's tables say.
 use Rattle.std.specs.Prelude.{◌≡◌, ℕ, ◌<◌, map, option_and_then, Option, Some, None}
-use Rattle.thy_places.specs.declared.place.Place.{Place}
+use Rattle.thy_table.specs.declared.place.Place.{Place}
 use Rattle.thy_block.specs.Geometry.{memory_blocks}
 use Rattle.thy_record.specs.Tables.{Tables, IsTables, place_of}
 use Rattle.thy_table.specs.declared.block_entry.BttEntry.{BttEntry}
@@ -10,8 +10,8 @@ use Rattle.thy_table.specs.declared.block_entry.Version.TheVariants.{Out, Alt}
 use Rattle.thy_table.specs.declared.page_entry.PttEntry.{PttEntry}
 use Rattle.thy_table.specs.declared.page_entry.Site.{Site}
 use Rattle.thy_table.specs.declared.page_entry.Site.TheVariants.{AtHome, AtAlternate}
-use Rattle.thy_cell.specs.declared.cell.Cell.{Cell}
-use Rattle.thy_cell.specs.Cells.{penult, target}
+use Rattle.thy_table.specs.declared.cell.Cell.{Cell}
+use Rattle.thy_table.specs.Cells.{penult, target}
 use Rattle.thy_control.specs.State.{State, AreSoundTables, cell_of}
 
 -- the number that a checkpoint lists at an entry, by the place at which it has the block or the page of that entry

@@ -4,8 +4,8 @@ use Rattle.std.specs.Prelude.{◌≡◌, ℕ, ◌<◌, false}
 use Rattle.thy_block.specs.Device.{Device}
 use Rattle.thy_block.specs.Geometry.{memory_blocks}
 use Rattle.thy_table.specs.Listing.{mapped}
-use Rattle.thy_cell.specs.Cells.{target}
-use Rattle.thy_cell.specs.Checkpoint.{committed_entry, committed_page, committed}
+use Rattle.thy_table.specs.Cells.{target}
+use Rattle.thy_table.specs.Checkpoint.{committed_entry, committed_page, committed}
 use Rattle.thy_control.specs.State.{State, AreSoundTables, cell_of, reads, penult_of, last_of, work_of}
 use Rattle.thy_control.specs.CheckpointTables.{tables0, tables1}
 use Rattle.thy_control.specs.Stays.{HoldAll}

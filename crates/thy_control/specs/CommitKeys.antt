@@ -7,7 +7,7 @@ use Rattle.thy_table.specs.declared.block_entry.Version.TheVariants.{Out}
 use Rattle.thy_table.specs.declared.block_entry.Working.{Working}
 use Rattle.thy_table.specs.declared.block_entry.Working.TheVariants.{NoWork}
 use Rattle.thy_table.specs.declared.page_entry.PttEntry.{PttEntry}
-use Rattle.thy_cell.specs.Checkpoint.{committed_by, committed_entry, page_committed_by, committed_page}
+use Rattle.thy_table.specs.Checkpoint.{committed_by, committed_entry, page_committed_by, committed_page}
 use Rattle.thy_control.specs.Keys.{block_key, page_key}
 
 moved : (e f : BttEntry) (v : Version) → Some (record e { v0 = v }) ≡ Some f → block_key f ≡ block_key e

@@ -3,13 +3,13 @@
 use Rattle.std.specs.Prelude.{◌≡◌, ℕ, Bool, true, false, Option, Some, None, Result, count_by}
 use Rattle.thy_block.specs.declared.nvm.NvmError.{NvmError}
 use Rattle.thy_block.specs.Device.{Device}
-use Rattle.thy_place.specs.Devices.{Devices, devices_of}
+use Rattle.thy_table.specs.Devices.{Devices, devices_of}
 use Rattle.thy_table.specs.Listing.{entry_at, with_entry, passes, next_from}
 use Rattle.thy_table.specs.declared.block_entry.BttEntry.{BttEntry}
 use Rattle.thy_table.specs.declared.block_entry.Pending.{Pending}
 use Rattle.thy_table.specs.declared.block_entry.Pending.TheVariants.{Settled}
-use Rattle.thy_cell.specs.Cells.{target, last}
-use Rattle.thy_cell.specs.Rules.{after_copy}
+use Rattle.thy_table.specs.Cells.{target, last}
+use Rattle.thy_table.specs.Rules.{after_copy}
 use Rattle.thy_control.specs.Moves.{moved, FailsMove}
 use Rattle.thy_control.specs.Outcomes.{MakesOrFails}
 use Rattle.thy_control.specs.State.{State, cell_of}

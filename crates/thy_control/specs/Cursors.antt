@@ -11,9 +11,9 @@ use Rattle.thy_control.specs.Overlay.{is_overlaid, AreWorkCounts}
 use Rattle.thy_control.specs.declared.overlay.WorkCounts.{WorkCounts}
 use Rattle.thy_control.specs.declared.cursors.Cursors.{Cursors}
 use Rattle.thy_table.specs.PageEntry.{is_framed}
-use Rattle.thy_cell.specs.declared.cell.Cell.{Cell}
-use Rattle.thy_cell.specs.declared.cell.StoreRule.{StoreRule}
-use Rattle.thy_cell.specs.declared.cell.StoreRule.TheVariants.{ToBuffer}
+use Rattle.thy_table.specs.declared.cell.Cell.{Cell}
+use Rattle.thy_table.specs.declared.cell.StoreRule.{StoreRule}
+use Rattle.thy_table.specs.declared.cell.StoreRule.TheVariants.{ToBuffer}
 
 -- no entry below a place passes a test
 abbrev pub NoneBelow : {E : Type 0} → (E → Bool) → ℕ → Listing E → Type 0

@@ -1,9 +1,9 @@
 -- Part of the claim.
 -- Writes that were queued land: by a drain of the DRAM, and by a drain or a barrier of the NVM below the controller.
 use Rattle.std.specs.Prelude.{◌≡◌, ℕ, ◌+◌, ◌<◌, length}
-use Rattle.thy_places.specs.declared.place.Place.{Place}
+use Rattle.thy_table.specs.declared.place.Place.{Place}
 use Rattle.thy_block.specs.Device.{Device, newest, HoldsNoMore, drained as nvm_drained, settled}
-use Rattle.thy_places.specs.Places.{IsPlace}
+use Rattle.thy_table.specs.Places.{IsPlace}
 use Rattle.thy_dram.specs.Contents.{drained}
 use Rattle.thy_control.specs.State.{State, AreSoundTables, IsSized, reads}
 use Rattle.thy_control.specs.Stays.{HoldAll, Stays}

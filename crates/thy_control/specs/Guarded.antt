@@ -3,12 +3,12 @@
 use Rattle.std.specs.Prelude.{◌≡◌, ◌≢◌, ℕ, ◌<◌, ◌≤◌, ◌%◌, true}
 use Rattle.thy_block.specs.Device.{Device}
 use Rattle.thy_block.specs.Geometry.{memory_blocks}
-use Rattle.thy_places.specs.Places.{number_of, first_home, blocks_one, IsApart}
-use Rattle.thy_place.specs.Devices.{NoMoreAt}
+use Rattle.thy_table.specs.Places.{number_of, first_home, blocks_one, IsApart}
+use Rattle.thy_table.specs.Devices.{NoMoreAt}
 use Rattle.thy_table.specs.declared.block_entry.Pending.TheVariants.{Settled}
-use Rattle.thy_cell.specs.declared.cell.Cell.{Cell}
-use Rattle.thy_cell.specs.Cells.{penult, target}
-use Rattle.thy_cell.specs.Checkpoint.{IsCopied}
+use Rattle.thy_table.specs.declared.cell.Cell.{Cell}
+use Rattle.thy_table.specs.Cells.{penult, target}
+use Rattle.thy_table.specs.Checkpoint.{IsCopied}
 use Rattle.thy_control.specs.State.{State, AreSoundTables, cell_of}
 
 -- the checkpoint under way has block b at its place already: it is copied, and if its page is busy, it was issued

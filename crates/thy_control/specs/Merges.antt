@@ -2,11 +2,11 @@
 -- Buffers that lie over the frames of their pages, and what the merge of one makes of the controller.
 use Rattle.std.specs.Prelude.{ℕ, Option, Some, None}
 use Rattle.thy_block.specs.Device.{block_at}
-use Rattle.thy_places.specs.Places.{number_of}
+use Rattle.thy_table.specs.Places.{number_of}
 use Rattle.thy_dram.specs.Contents.{Contents, written}
 use Rattle.thy_table.specs.Listing.{with_entry, next_from}
-use Rattle.thy_cell.specs.Cells.{seat_of, frame_at, buffer_at}
-use Rattle.thy_cell.specs.Checkpoint.{merged}
+use Rattle.thy_table.specs.Cells.{seat_of, frame_at, buffer_at}
+use Rattle.thy_table.specs.Checkpoint.{merged}
 use Rattle.thy_control.specs.Copies.{block_listed}
 use Rattle.thy_control.specs.Overlay.{is_overlaid, overlaid}
 use Rattle.thy_control.specs.State.{State, cell_of}

@@ -2,10 +2,10 @@
 -- A block moves from one place to another: a read, and then one write.
 use Rattle.std.specs.Prelude.{◌≡◌, ◌⊎◌, ℕ, ◌+◌, Bool, true, false}
 use Rattle.thy_block.specs.declared.parameters.Parameters.{Parameters}
-use Rattle.thy_places.specs.declared.place.Place.{Place}
+use Rattle.thy_table.specs.declared.place.Place.{Place}
 use Rattle.thy_block.specs.Device.{HasFailed, HasFailedToWrite}
-use Rattle.thy_places.specs.Places.{in_dram, number_of}
-use Rattle.thy_place.specs.Devices.{Devices, read_at, written_at}
+use Rattle.thy_table.specs.Places.{in_dram, number_of}
+use Rattle.thy_table.specs.Devices.{Devices, read_at, written_at}
 
 -- both devices after a block moved from one place to another
 abbrev pub moved : Parameters → Place → Place → Devices → Devices

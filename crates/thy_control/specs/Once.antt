@@ -1,13 +1,13 @@
 -- What one load or one store does: one action at both devices at most, and none of the engine's work.
 use Rattle.std.specs.Prelude.{◌≡◌, ◌⊎◌, ℕ, ◌+◌, ◌<◌, ◌≤◌, false, length}
 use Rattle.thy_block.specs.declared.block.Block.{Block}
-use Rattle.thy_places.specs.declared.place.Place.{Place}
+use Rattle.thy_table.specs.declared.place.Place.{Place}
 use Rattle.thy_block.specs.Device.{Device, HasFailed, HasFailedToWrite, IsFramed, written_to}
 use Rattle.thy_block.specs.Geometry.{memory_blocks}
-use Rattle.thy_places.specs.Places.{IsPlace, in_dram, number_of, image_blocks}
-use Rattle.thy_place.specs.Devices.{Devices, devices_of, written_at}
+use Rattle.thy_table.specs.Places.{IsPlace, in_dram, number_of, image_blocks}
+use Rattle.thy_table.specs.Devices.{Devices, devices_of, written_at}
 use Rattle.thy_table.specs.declared.block_entry.Pending.TheVariants.{Settled, FromBuffer}
-use Rattle.thy_cell.specs.declared.cell.Cell.{Cell}
+use Rattle.thy_table.specs.declared.cell.Cell.{Cell}
 use Rattle.thy_control.specs.Guarded.{IsFree}
 use Rattle.thy_control.specs.State.{State, cell_of}
 use Rattle.thy_control.specs.Stays.{Stays}

@@ -4,10 +4,10 @@ use Rattle.std.proofs.Common.{sym, ◌∙◌, ap, subst, arith}
 use Rattle.thy_block.specs.declared.parameters.Parameters.{Parameters}
 use Rattle.thy_block.specs.Device.{Device}
 use Rattle.thy_block.specs.Geometry.{memory_blocks}
-use Rattle.thy_places.specs.Places.{number_of, image_blocks, IsApart}
-use Rattle.thy_place.specs.Devices.{NoMoreAt}
-use Rattle.thy_cell.specs.declared.cell.Cell.{Cell}
-use Rattle.thy_cell.specs.Cells.{penult, target}
+use Rattle.thy_table.specs.Places.{number_of, image_blocks, IsApart}
+use Rattle.thy_table.specs.Devices.{NoMoreAt}
+use Rattle.thy_table.specs.declared.cell.Cell.{Cell}
+use Rattle.thy_table.specs.Cells.{penult, target}
 use Rattle.thy_control.specs.Guarded.{IsPlaced}
 use Rattle.thy_control.specs.State.{State, cell_of}
 use Rattle.thy_control.specs.Stays.{AreCopied, CellStays, StaysHeld, StaysUp, Stays}

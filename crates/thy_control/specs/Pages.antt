@@ -4,12 +4,12 @@ use Rattle.std.specs.Prelude.{◌≡◌, ℕ, ◌+◌, ◌-◌, ◌*◌, Bool, �
 use Rattle.std.specs.List.{sum_by}
 use Rattle.thy_block.specs.declared.nvm.NvmError.{NvmError}
 use Rattle.thy_block.specs.Device.{Device}
-use Rattle.thy_place.specs.Devices.{Devices, devices_of}
+use Rattle.thy_table.specs.Devices.{Devices, devices_of}
 use Rattle.thy_table.specs.Listing.{entry_at, with_entry, next_from}
 use Rattle.thy_table.specs.declared.page_entry.PttEntry.{PttEntry}
 use Rattle.thy_table.specs.PageEntry.{page_blocks}
-use Rattle.thy_cell.specs.Cells.{seat_of, frame_at, target}
-use Rattle.thy_cell.specs.Checkpoint.{page_issued}
+use Rattle.thy_table.specs.Cells.{seat_of, frame_at, target}
+use Rattle.thy_table.specs.Checkpoint.{page_issued}
 use Rattle.thy_control.specs.Moves.{moved, FailsMove}
 use Rattle.thy_control.specs.Outcomes.{MakesOrFails}
 use Rattle.thy_control.specs.State.{State, cell_of}

@@ -4,13 +4,13 @@ use Rattle.std.specs.Prelude.{◌≡◌, ℕ, false, ◌-◌, if◌then◌else�
 use Rattle.std.specs.List.{sum_by}
 use Rattle.thy_block.specs.declared.nvm.NvmError.{NvmError}
 use Rattle.thy_block.specs.Device.{Device, HasFailed}
-use Rattle.thy_places.specs.Places.{in_dram}
-use Rattle.thy_place.specs.Devices.{Devices, devices_of}
+use Rattle.thy_table.specs.Places.{in_dram}
+use Rattle.thy_table.specs.Devices.{Devices, devices_of}
 use Rattle.thy_table.specs.Listing.{entry_at, with_entry, next_from}
 use Rattle.thy_table.specs.declared.page_entry.PttEntry.{PttEntry}
 use Rattle.thy_table.specs.PageEntry.{page_blocks}
-use Rattle.thy_cell.specs.Cells.{seat_of, frame_at, work}
-use Rattle.thy_cell.specs.Checkpoint.{with_filled}
+use Rattle.thy_table.specs.Cells.{seat_of, frame_at, work}
+use Rattle.thy_table.specs.Checkpoint.{with_filled}
 use Rattle.thy_control.specs.Holding.{is_promoted}
 use Rattle.thy_control.specs.Moves.{moved}
 use Rattle.thy_control.specs.Outcomes.{MakesOrFails}

@@ -3,15 +3,15 @@
 use Rattle.std.specs.Prelude.{◌≡◌, ℕ, ◌<◌, false}
 use Rattle.thy_block.specs.declared.block.Block.{Block}
 use Rattle.thy_block.specs.Device.{Device, HasFailedToWrite}
-use Rattle.thy_places.specs.Places.{in_dram, number_of}
+use Rattle.thy_table.specs.Places.{in_dram, number_of}
 use Rattle.thy_block.specs.Geometry.{memory_blocks}
 use Rattle.thy_block.specs.Store.{page_of}
-use Rattle.thy_place.specs.Devices.{Devices, devices_of, written_at}
-use Rattle.thy_cell.specs.declared.cell.Cell.{Cell}
-use Rattle.thy_cell.specs.declared.cell.StoreRule.{StoreRule}
-use Rattle.thy_cell.specs.Rules.{store_rule, store_place, after_store}
-use Rattle.thy_cell.specs.Sound.{IsWhole}
-use Rattle.thy_cell.specs.Store.{put_by}
+use Rattle.thy_table.specs.Devices.{Devices, devices_of, written_at}
+use Rattle.thy_table.specs.declared.cell.Cell.{Cell}
+use Rattle.thy_table.specs.declared.cell.StoreRule.{StoreRule}
+use Rattle.thy_table.specs.Rules.{store_rule, store_place, after_store}
+use Rattle.thy_table.specs.Sound.{IsWhole}
+use Rattle.thy_table.specs.Store.{put_by}
 use Rattle.thy_control.specs.Guarded.{IsFree}
 use Rattle.thy_control.specs.StoredTables.{btt_with, btt_after, ptt_after, counts_after}
 use Rattle.thy_control.specs.State.{State, cell_of, reads}

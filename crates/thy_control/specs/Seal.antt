@@ -9,9 +9,9 @@ use Rattle.thy_table.specs.Listing.{Listing, free_count, mapped}
 use Rattle.thy_table.specs.declared.block_entry.BttEntry.{BttEntry}
 use Rattle.thy_table.specs.declared.page_entry.PttEntry.{PttEntry}
 use Rattle.thy_table.specs.PageEntry.{no_page, promoted_page, is_framed}
-use Rattle.thy_switch.specs.Counts.{Tally, is_dense, is_low, reset}
-use Rattle.thy_cell.specs.declared.cell.Cell.{Cell}
-use Rattle.thy_cell.specs.Checkpoint.{IsBare, sealed_entry, sealed_page, sealed, with_listed}
+use Rattle.thy_table.specs.Counts.{Tally, is_dense, is_low, reset}
+use Rattle.thy_table.specs.declared.cell.Cell.{Cell}
+use Rattle.thy_table.specs.Checkpoint.{IsBare, sealed_entry, sealed_page, sealed, with_listed}
 use Rattle.thy_control.specs.Find.{entry_for, with_entry_for}
 use Rattle.thy_control.specs.Keys.{page_key}
 use Rattle.thy_control.specs.State.{State, AreSoundTables, cell_of, penult_of, last_of, work_of}

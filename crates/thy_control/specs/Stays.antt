@@ -4,12 +4,12 @@
 use Rattle.std.specs.Prelude.{◌≡◌, ℕ, ◌<◌, ◌≤◌, true, false, length}
 use Rattle.thy_block.specs.Device.{Device, newest}
 use Rattle.thy_block.specs.Geometry.{memory_blocks}
-use Rattle.thy_places.specs.Places.{image_blocks, IsApart}
+use Rattle.thy_table.specs.Places.{image_blocks, IsApart}
 use Rattle.thy_table.specs.declared.block_entry.Pending.TheVariants.{Settled}
-use Rattle.thy_cell.specs.declared.cell.Cell.{Cell}
-use Rattle.thy_cell.specs.Cells.{penult, target}
-use Rattle.thy_cell.specs.Sound.{Holds}
-use Rattle.thy_cell.specs.Checkpoint.{IsCopied}
+use Rattle.thy_table.specs.declared.cell.Cell.{Cell}
+use Rattle.thy_table.specs.Cells.{penult, target}
+use Rattle.thy_table.specs.Sound.{Holds}
+use Rattle.thy_table.specs.Checkpoint.{IsCopied}
 use Rattle.thy_control.specs.State.{State, cell_of, penult_of, last_of, reads}
 use Rattle.thy_control.specs.CheckpointTables.{tables0, tables1}
 use Rattle.thy_control.specs.Guarded.{LeavesGuarded}

@@ -7,10 +7,10 @@ use Rattle.thy_table.specs.Listing.{Listing, with_entry}
 use Rattle.thy_table.specs.declared.block_entry.BttEntry.{BttEntry}
 use Rattle.thy_table.specs.declared.page_entry.PttEntry.{PttEntry}
 use Rattle.thy_table.specs.BlockEntry.{new_entry}
-use Rattle.thy_switch.specs.Counts.{Tally, counted}
-use Rattle.thy_cell.specs.declared.cell.Cell.{Cell}
-use Rattle.thy_cell.specs.declared.cell.StoreRule.{StoreRule}
-use Rattle.thy_cell.specs.declared.cell.StoreRule.TheVariants.{ToFrame, PendingFirst}
+use Rattle.thy_table.specs.Counts.{Tally, counted}
+use Rattle.thy_table.specs.declared.cell.Cell.{Cell}
+use Rattle.thy_table.specs.declared.cell.StoreRule.{StoreRule}
+use Rattle.thy_table.specs.declared.cell.StoreRule.TheVariants.{ToFrame, PendingFirst}
 use Rattle.thy_control.specs.Find.{with_entry_for}
 use Rattle.thy_control.specs.Keys.{block_key}
 

@@ -3,14 +3,14 @@ ghost use Rattle.std.specs.Prelude.{◌≡◌, ◌≢◌, true, nat_lt, None, �
 ghost use Rattle.thy_block.specs.Device.{HasFailed, IsFramed, CountsFault, block_at};
 ghost use Rattle.thy_block.specs.Geometry.{memory_blocks};
 ghost use Rattle.thy_block.specs.Places.{dram_blocks};
-ghost use Rattle.thy_places.specs.Places.{in_dram, number_of, IsPlace};
+ghost use Rattle.thy_table.specs.Places.{in_dram, number_of, IsPlace};
 ghost use Rattle.thy_table.specs.Listing.{free_count, lists, entry_at, place_of};
 ghost use Rattle.thy_table.specs.BlockEntry.{new_entry};
 ghost use Rattle.thy_table.specs.PageEntry.{no_page};
 ghost use Rattle.thy_control.specs.Find.{index_for, entry_for, with_entry_for};
 ghost use Rattle.thy_control.specs.Keys.{block_key, page_key};
-ghost use Rattle.thy_cell.specs.Cells.{work as work_place};
-ghost use Rattle.thy_cell.specs.Store.{put_by};
+ghost use Rattle.thy_table.specs.Cells.{work as work_place};
+ghost use Rattle.thy_table.specs.Store.{put_by};
 ghost use Rattle.thy_control.specs.StoredTables.{btt_with, btt_after, ptt_after, counts_after, answer_of};
 
 mod boot;
@@ -29,17 +29,14 @@ use crate::seal::{CommitBlocks, CommitPages, seal_blocks, seal_pages};
 use std::alloc::{AllocError, Global};
 use std::marker::Model;
 use thy_block::{Block, Geometry, Nvm, NvmError, PAGE_BLOCKS, Stored, page_of};
-use thy_cell::{
-    Cell, StoreRule, a_commit_keeps_entries_sound, a_commit_takes_the_last,
-    a_listing_keeps_versions, a_seal_keeps_entries_sound, a_seal_leaves_no_work,
-    a_seal_takes_the_work, a_store_goes_elsewhere, a_store_is_read, a_store_leaves_the_target,
-    a_store_leaves_what_has_to_stand, new_cells_are_sound,
-};
 use thy_dram::Dram;
-use thy_place::{read_place, write_place};
-use thy_places::Place;
-use thy_switch::Counts;
-use thy_table::{Btt, BttEntry, Ptt, PttEntry, Table};
+use thy_table::{
+    Btt, BttEntry, Cell, Counts, Place, Ptt, PttEntry, StoreRule, Table,
+    a_commit_keeps_entries_sound, a_commit_takes_the_last, a_listing_keeps_versions,
+    a_seal_keeps_entries_sound, a_seal_leaves_no_work, a_seal_takes_the_work,
+    a_store_goes_elsewhere, a_store_is_read, a_store_leaves_the_target,
+    a_store_leaves_what_has_to_stand, new_cells_are_sound, read_place, write_place,
+};
 
 /// The controller of a hybrid memory. Blocks are numbered from the start of memory; only `new` allocates.
 #[derive(Drop)]

@@ -5,7 +5,7 @@ ghost use Rattle.thy_table.specs.declared.block_entry.BttEntry.{BttEntry as Bloc
 ghost use Rattle.thy_table.specs.declared.page_entry.PttEntry.{PttEntry as PageEntry};
 ghost use Rattle.thy_control.specs.Cursors.{AreCursors, AreLowered};
 
-use thy_cell::{Cell, StoreRule};
+use thy_table::{Cell, StoreRule};
 
 /// For each kind of work that is looked for in a table, a place below which no entry has any. So from one seal or commit to
 /// the next each search goes over its table once, and again only from the place that a store set it back to.

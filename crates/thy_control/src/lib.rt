@@ -3,8 +3,8 @@
 //! state; a store keeps both checkpoints. With the NVM below it, it is a store of blocks, by src/block_store.rt.
 //!
 //! Open specs/State.antt first, then specs/Stays.antt, and src/control.rt; docs/CONTROLLER.md has the rules. It depends
-//! on thy_record, thy_cell, thy_table, thy_switch, thy_place, thy_dram and their dependencies; thy_recover,
-//! and the scheme above it, thy_dual_laws and thy_dual, depend on it.
+//! on thy_record, thy_table, thy_dram and their dependencies; the scheme above it, thy_dual_parts and
+//! thy_dual, depends on it.
 #![tactic(auto)]
 
 mod block_store;

@@ -5,8 +5,7 @@ ghost use Rattle.thy_control.specs.Holding.{is_promoted, promoted};
 ghost use Rattle.thy_control.specs.Overlay.{is_buffered, is_overlaid, overlaid, covers, AreWorkCounts};
 
 use crate::seal::block_is_framed;
-use thy_cell::{Cell, StoreRule};
-use thy_table::{Btt, Ptt, Working};
+use thy_table::{Btt, Cell, Ptt, StoreRule, Working};
 
 /// What the controller counts, so that it can see in one step whether there is any.
 #[derive(Clone, Copy, Debug)]

@@ -2,15 +2,16 @@
 ghost use Rattle.std.specs.Prelude.{◌≡◌, ◌<◌, ◌≤◌, ◌+◌, length, option_and_then};
 ghost use Rattle.thy_table.specs.Listing.{entry_at, with_entry, mapped};
 ghost use Rattle.thy_table.specs.PageEntry.{promoted_page};
-ghost use Rattle.thy_cell.specs.Checkpoint.{committed_entry, committed_page};
+ghost use Rattle.thy_table.specs.Checkpoint.{committed_entry, committed_page};
 ghost use Rattle.thy_control.specs.Find.{with_entry_for};
 ghost use Rattle.thy_control.specs.Keys.{page_key};
 ghost use Rattle.thy_control.specs.Seal.{block_is_framed, sealed_in, sealed_as_counted, dense_below, with_pages, with_dense, sealed_ptt, ListsDense};
 
 use thy_block::{BLOCK_COUNTS, page_of};
-use thy_cell::{committed_entry, committed_page, sealed_entry, sealed_page};
-use thy_switch::Counts;
-use thy_table::{Btt, BttEntry, Ptt, PttEntry, Rule};
+use thy_table::{
+    Btt, BttEntry, Counts, Ptt, PttEntry, Rule, committed_entry, committed_page, sealed_entry,
+    sealed_page,
+};
 
 /// Whether the page of a block is framed.
 pub fn block_is_framed(ptt: &Ptt, b: u64) -> bool
@@ -151,7 +152,7 @@ fn list_page(ptt: &mut Ptt, page: u64)
 pub struct CommitBlocks;
 
 impl Rule<BttEntry> for CommitBlocks {
-    ghost use Rattle.thy_cell.specs.Checkpoint.{committed_entry};
+    ghost use Rattle.thy_table.specs.Checkpoint.{committed_entry};
     ghost use Rattle.thy_control.specs.CommitKeys.{committed_entry-block};
 
     ghost gives = { λ rule e. committed_entry e };
@@ -168,7 +169,7 @@ impl Rule<BttEntry> for CommitBlocks {
 pub struct CommitPages;
 
 impl Rule<PttEntry> for CommitPages {
-    ghost use Rattle.thy_cell.specs.Checkpoint.{committed_page};
+    ghost use Rattle.thy_table.specs.Checkpoint.{committed_page};
     ghost use Rattle.thy_control.specs.CommitKeys.{committed_page-page};
 
     ghost gives = { λ rule e. committed_page e };

@@ -3,10 +3,10 @@ use Rattle.std.proofs.Common.{◌≡◌, ℕ, true, false, refl, sym, ◌∙◌,
 use Rattle.thy_block.specs.declared.block.Block.{Block}
 use Rattle.thy_block.specs.Device.{Device}
 use Rattle.thy_block.specs.Geometry.{memory_blocks}
-use Rattle.thy_places.specs.Places.{image_blocks}
+use Rattle.thy_table.specs.Places.{image_blocks}
 use Rattle.thy_block.proofs.BasicLemmas.{not_some}
-use Rattle.thy_place.specs.Devices.{devices_of}
-use Rattle.thy_place.proofs.PlaceLemmas.{down-written}
+use Rattle.thy_table.specs.Devices.{devices_of}
+use Rattle.thy_table.proofs.MoveLemmas.{down-written}
 use Rattle.thy_control.specs.Copies.{next_copy, devices_after_copy, devices_copied, after_next_copy}
 use Rattle.thy_control.specs.Merges.{after_merge, merged_block}
 use Rattle.thy_control.specs.Pages.{next_page, devices_after_write, devices_issued, after_next_write}

@@ -3,7 +3,7 @@ use Rattle.std.proofs.Common.{◌≡◌, ℕ, ◌+◌, ◌≤◌, true, false, l
 use Rattle.std.proofs.lemmas.Bool.{both_ways}
 use Rattle.thy_block.specs.declared.parameters.Parameters.{Parameters}
 use Rattle.thy_block.specs.Device.{Device, IsFramed}
-use Rattle.thy_places.specs.Places.{image_blocks}
+use Rattle.thy_table.specs.Places.{image_blocks}
 use Rattle.thy_block.specs.Geometry.{memory_blocks}
 use Rattle.thy_isa.specs.declared.state.CpuState.{CpuState}
 use Rattle.thy_control.specs.Drains.{after_drain}
@@ -12,16 +12,16 @@ use Rattle.thy_control.specs.Promotions.{next_promotion, after_promotion}
 use Rattle.thy_control.specs.Seal.{sealed_state}
 use Rattle.thy_control.specs.State.{State, AreSoundTables}
 use Rattle.thy_control.specs.Stays.{Stays}
-use Rattle.thy_engine.specs.Items.{Phase, Resting, Making, Made, Applying}
-use Rattle.thy_engine.specs.Progress.{Progress, Fits, new_engine, begun, phase_of, action_next}
-use Rattle.thy_recover.specs.Filling.{filling_dual}
+use Rattle.thy_checkpoint.specs.Items.{Phase, Resting, Making, Made, Applying}
+use Rattle.thy_checkpoint.specs.Progress.{Progress, Fits, new_engine, begun, phase_of, action_next}
+use Rattle.thy_dual_parts.specs.Filling.{filling_dual}
 use Rattle.thy_view.specs.Action.{after}
 use Rattle.thy_view.proofs.ActionLemmas.{down-after}
-use Rattle.thy_dual_laws.specs.Design.{is_promoting, items_dual}
-use Rattle.thy_dual_laws.specs.Fitting.{PromotesAtRest, IdleFits, SealFits}
-use Rattle.thy_dual_laws.proofs.DesignLemmas.{stands_drained}
-use Rattle.thy_dual_laws.proofs.MergeLemmas.{IsPromoted-next}
-use Rattle.thy_dual_laws.proofs.StoreLemmas.{work_same}
+use Rattle.thy_dual_parts.specs.Design.{is_promoting, items_dual}
+use Rattle.thy_dual_parts.specs.Fitting.{PromotesAtRest, IdleFits, SealFits}
+use Rattle.thy_dual_parts.proofs.DesignLemmas.{stands_drained}
+use Rattle.thy_dual_parts.proofs.MergeLemmas.{IsPromoted-next}
+use Rattle.thy_dual_parts.proofs.StoreLemmas.{work_same}
 use Rattle.thy_control_tests.specs.Driven.{Drives}
 use Rattle.thy_control_tests.specs.Memory.{MemoryParts, IsMemory, HasRoom}
 use Rattle.thy_control_tests.proofs.DrivenLemmas.{Drives-sealed, Drives-stays}

@@ -5,32 +5,32 @@ use Rattle.std.proofs.lemmas.List.{length-replicate, get_or-replicate, get_or_pa
 use Rattle.thy_block.specs.declared.parameters.Parameters.{Parameters}
 use Rattle.thy_block.specs.Device.{Device, IsCut}
 use Rattle.thy_block.specs.Geometry.{IsInRange, memory_blocks}
-use Rattle.thy_places.specs.Places.{slot_blocks, image_blocks}
+use Rattle.thy_table.specs.Places.{slot_blocks, image_blocks}
 use Rattle.thy_block.specs.Places.{dram_blocks}
 use Rattle.thy_block.proofs.BasicLemmas.{room-cut}
 use Rattle.thy_control.specs.State.{State, AreSoundTables, new_state}
 use Rattle.thy_dram.specs.Contents.{Contents, lost}
 use Rattle.thy_dram.proofs.DrawLemmas.{length-over}
 use Rattle.thy_isa.specs.Step.{State as Plain}
-use Rattle.thy_boot.specs.declared.stage.Stage.{Stage}
-use Rattle.thy_boot.specs.declared.stage.Stage.TheVariants.{Reads, Loads, Migrates, Over}
-use Rattle.thy_boot.specs.declared.stage.ReadStage.TheVariants.{Unread, Header, Slot, Fills, Refusing}
-use Rattle.thy_boot.specs.declared.stage.End.TheVariants.{Restored, Loaded}
-use Rattle.thy_protocol.specs.declared.round.Round.{Round}
-use Rattle.thy_protocol.specs.declared.round.Round.TheVariants.{Write, Settle, Commit, Confirm}
-use Rattle.thy_protocol.specs.Round.{round_action}
-use Rattle.thy_boot.specs.Boot.{Booting, answer_at, new_boot}
-use Rattle.thy_boot.specs.Filling.{first_by}
-use Rattle.thy_boot.specs.Loads.{first_writes}
-use Rattle.thy_boot.specs.Migrating.{migrated_by, renewing}
-use Rattle.thy_boot.specs.Recovers.{HasReadAt}
-use Rattle.thy_boot.specs.Steps.{Steps, StepsAt}
-use Rattle.thy_boot.proofs.ReadLemmas.{HasRead-new}
+use Rattle.thy_checkpoint.specs.declared.boot_stage.Stage.{Stage}
+use Rattle.thy_checkpoint.specs.declared.boot_stage.Stage.TheVariants.{Reads, Loads, Migrates, Over}
+use Rattle.thy_checkpoint.specs.declared.boot_stage.ReadStage.TheVariants.{Unread, Header, Slot, Fills, Refusing}
+use Rattle.thy_checkpoint.specs.declared.boot_stage.End.TheVariants.{Restored, Loaded}
+use Rattle.thy_view.specs.declared.round.Round.{Round}
+use Rattle.thy_view.specs.declared.round.Round.TheVariants.{Write, Settle, Commit, Confirm}
+use Rattle.thy_view.specs.Round.{round_action}
+use Rattle.thy_checkpoint.specs.Boot.{Booting, answer_at, new_boot}
+use Rattle.thy_checkpoint.specs.Filling.{first_by}
+use Rattle.thy_checkpoint.specs.Loads.{first_writes}
+use Rattle.thy_checkpoint.specs.Migrating.{migrated_by, renewing}
+use Rattle.thy_checkpoint.specs.Recovers.{HasReadAt}
+use Rattle.thy_checkpoint.specs.Steps.{Steps, StepsAt}
+use Rattle.thy_checkpoint.proofs.ReadLemmas.{HasRead-new}
 use Rattle.thy_isa.specs.declared.state.Status.{Status}
 use Rattle.thy_layout.specs.Cpu.{status_tag, status_value, is_status, IsOtherRecordable}
-use Rattle.thy_boot.specs.Start.{CanStart}
-use Rattle.thy_recover.specs.Filling.{filling_dual}
-use Rattle.thy_recover.proofs.LiveLemmas.{IsFresh-new}
+use Rattle.thy_checkpoint.specs.Start.{CanStart}
+use Rattle.thy_dual_parts.specs.Filling.{filling_dual}
+use Rattle.thy_dual_parts.proofs.LiveLemmas.{IsFresh-new}
 use Rattle.thy_control_tests.specs.Beside.{all}
 use Rattle.thy_control_tests.specs.Boots.{Boots, IsLeastStart}
 use Rattle.thy_control_tests.specs.Memory.{HasRoom}

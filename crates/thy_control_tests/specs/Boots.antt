@@ -7,11 +7,11 @@ use Rattle.thy_isa.specs.Step.{State as Plain}
 use Rattle.thy_control.specs.State.{State, new_state}
 use Rattle.thy_view.specs.declared.boot_step.BootStep.{BootStep}
 use Rattle.thy_view.specs.declared.boot_step.BootStep.TheVariants.{GoesOn}
-use Rattle.thy_boot.specs.Boot.{Booting, IsBoot}
-use Rattle.thy_boot.specs.Steps.{CanStep}
+use Rattle.thy_checkpoint.specs.Boot.{Booting, IsBoot}
+use Rattle.thy_checkpoint.specs.Steps.{CanStep}
 use Rattle.thy_isa.specs.declared.state.Status.TheVariants.{Running}
-use Rattle.thy_boot.specs.Start.{CanStart}
-use Rattle.thy_recover.specs.Filling.{filling_dual}
+use Rattle.thy_checkpoint.specs.Start.{CanStart}
+use Rattle.thy_dual_parts.specs.Filling.{filling_dual}
 
 -- a boot may take a step, with this start
 pub record Boots (s : Plain) (n : Device) (b : Booting) (c : State) : Type 0 where

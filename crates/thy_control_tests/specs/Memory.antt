@@ -3,9 +3,9 @@ use Rattle.std.specs.Prelude.{◌≡◌, ℕ, ◌+◌, ◌≤◌, length}
 use Rattle.thy_block.specs.declared.parameters.Parameters.{Parameters}
 use Rattle.thy_block.specs.Device.{Device}
 use Rattle.thy_control.specs.State.{State}
-use Rattle.thy_dual_laws.specs.Design.{items_dual}
-use Rattle.thy_engine.specs.Progress.{Progress, Fits}
-use Rattle.thy_recover.specs.Filling.{filling_dual}
+use Rattle.thy_dual_parts.specs.Design.{items_dual}
+use Rattle.thy_checkpoint.specs.Progress.{Progress, Fits}
+use Rattle.thy_dual_parts.specs.Filling.{filling_dual}
 use Rattle.thy_control_tests.specs.Driven.{Drives}
 
 pub record MemoryParts : Type 0 where

@@ -3,14 +3,14 @@ use Rattle.std.specs.Prelude.{◌≡◌, ℕ, Bool, true, false, [], length}
 use Rattle.thy_block.specs.declared.parameters.Parameters.{Parameters}
 use Rattle.thy_block.specs.Device.{Device}
 use Rattle.thy_block.specs.Geometry.{memory_blocks}
-use Rattle.thy_places.specs.Places.{image_blocks}
+use Rattle.thy_table.specs.Places.{image_blocks}
 use Rattle.thy_block.specs.Places.{dram_blocks}
 use Rattle.thy_control.specs.State.{State}
 use Rattle.thy_dram.specs.Contents.{Contents}
 use Rattle.thy_isa.specs.Step.{State as Plain}
 use Rattle.thy_view.specs.declared.boot_step.BootStep.{BootStep}
 use Rattle.thy_view.specs.declared.boot_step.BootStep.TheVariants.{Refused}
-use Rattle.thy_boot.specs.Boot.{Booting}
+use Rattle.thy_checkpoint.specs.Boot.{Booting}
 use Rattle.thy_control_tests.specs.Beside.{all}
 use Rattle.thy_control_tests.specs.Boots.{Boots}
 use Rattle.thy_control_tests.specs.Memory.{HasRoom}

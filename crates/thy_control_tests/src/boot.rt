@@ -10,15 +10,14 @@ use crate::support::starting::{has_least_memory, new_boot};
 use std::alloc::Global;
 use std::process::Abort;
 use thy_base::{Block, Bytes, Geometry, Nvm, Parameters, SchemeName, Shape};
-use thy_boot::{Boot, End, Stage, a_boot_may_go_on};
+use thy_checkpoint::{Boot, End, Stage, a_boot_may_go_on};
 use thy_control::Control;
 use thy_dram::Dram;
 use thy_dual::DualTables;
 use thy_isa::{CpuState, MachState, Regs, Status};
 use thy_layout::Start;
 use thy_nvm::MemNvm;
-use thy_protocol::Round;
-use thy_view::BootStep;
+use thy_view::{BootStep, Round};
 
 /// The least memory: seven pages of the program and one of the console.
 fn least() -> Parameters

@@ -1,6 +1,6 @@
 //! The controller over the simulated NVM, compared with a plain list of blocks: random loads and stores of one epoch.
 ghost use Rattle.std.specs.Prelude.{◌≡◌, ◌<◌, true, false, length};
-ghost use Rattle.thy_places.specs.Places.{image_blocks};
+ghost use Rattle.thy_table.specs.Places.{image_blocks};
 ghost use Rattle.thy_control.specs.Holding.{holding_of};
 ghost use Rattle.thy_control_tests.specs.Beside.{Takes};
 
@@ -13,7 +13,7 @@ use thy_base::{Block, BlockStore, Geometry, Lcg, Nvm, Parameters, SchemeName, Sh
 use thy_control::{Control, a_new_controller_is_ready, blocks_are_works};
 use thy_dram::Dram;
 use thy_nvm::MemNvm;
-use thy_places::{blocks, home};
+use thy_table::{blocks, home};
 
 /// The least memory, 512 blocks. The block table has room for 64 of them.
 static LEAST: Parameters = Parameters {

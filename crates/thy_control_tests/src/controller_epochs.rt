@@ -1,6 +1,6 @@
 //! The controller over the simulated NVM, compared with three lists of blocks: random calls of all kinds, over many epochs.
 ghost use Rattle.std.specs.Prelude.{◌≡◌, ◌<◌, true, false, length, IfSome};
-ghost use Rattle.thy_places.specs.Places.{image_blocks};
+ghost use Rattle.thy_table.specs.Places.{image_blocks};
 ghost use Rattle.thy_control_tests.specs.Driven.{Drives};
 
 use crate::support::drawn::{block_in, drawn, drawn_image};
@@ -15,7 +15,7 @@ use std::process::Abort;
 use thy_base::{Block, Geometry, Lcg, Nvm, Parameters, SchemeName, Stored};
 use thy_control::Control;
 use thy_nvm::MemNvm;
-use thy_places::home;
+use thy_table::home;
 
 /// How many entries the block table has.
 const ENTRIES: u64 = 16;

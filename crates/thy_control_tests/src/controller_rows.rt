@@ -12,7 +12,7 @@ use std::process::Abort;
 use thy_base::{Block, Nvm, Parameters, SchemeName, Stored};
 use thy_control::Control;
 use thy_nvm::MemNvm;
-use thy_places::blocks;
+use thy_table::blocks;
 
 /// The least memory, with a block table of `btt` entries. A page is stored to densely by more than 22 stores of an
 /// epoch, and no longer by fewer than 16.

@@ -1,6 +1,6 @@
 //! What the tests of this crate share; no test stands here.
-pub(crate) mod driven;
 pub(crate) mod drawn;
+pub(crate) mod driven;
 pub(crate) mod expect;
 pub(crate) mod geometry;
 pub(crate) mod memory;

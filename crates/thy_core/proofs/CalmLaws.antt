@@ -8,7 +8,7 @@ use Rattle.thy_block.specs.declared.nvm.NvmError.{NvmError}
 use Rattle.thy_block.specs.Device.{Device}
 use Rattle.thy_block.proofs.BasicLemmas.{not_some}
 use Rattle.thy_cache.specs.Contents.{Contents, dirty_count}
-use Rattle.thy_epoch.specs.Epoch.{Epoch}
+use Rattle.thy_hart.specs.Epoch.{Epoch}
 use Rattle.thy_hart.specs.declared.hand.HartStep.{HartStep}
 use Rattle.thy_hart.specs.declared.hand.HartStep.TheVariants.{Moved, Retired, Waiting, Over}
 use Rattle.thy_hart.specs.HartState.{HartState}
@@ -30,9 +30,9 @@ use Rattle.thy_core.specs.MachineParts.{machine_of}
 use Rattle.thy_core.specs.Turns.{stopped_now, waits_now, stall_now, hart_of, hart_now, engine_now, turn_now}
 use Rattle.thy_core.specs.Calm.{is_calm, KnowsCalm, is_over}
 use Rattle.thy_core.specs.Cycles.{noted}
-use Rattle.thy_core_laws.specs.Machine.{Machine, moment_of, shortage_of}
-use Rattle.thy_core_laws.specs.Calls.{ends_by, begun_by_hart, after_hart}
-use Rattle.thy_core_laws.proofs.ToldLemmas.{Told, told}
+use Rattle.thy_scheme.specs.Machine.{Machine, moment_of, shortage_of}
+use Rattle.thy_scheme.specs.MachineCalls.{ends_by, begun_by_hart, after_hart}
+use Rattle.thy_scheme.proofs.ToldLemmas.{Told, told}
 use Rattle.thy_core.proofs.CycleLaws.{CalledOnce}
 
 -- ---- what is known of a calm machine

@@ -42,24 +42,24 @@ use Rattle.thy_scheme.specs.Calls.{IsOneAccess, Merges, Promotes, PromotionFails
 use Rattle.thy_scheme.specs.Boots.{BootsOn, BootFails, BootDrains}
 use Rattle.thy_core.specs.declared.parts.MachineParts.{MachineParts}
 use Rattle.thy_core.specs.MachineParts.{machine_of}
-use Rattle.thy_core_laws.specs.Machine.{Machine, cpu_fronted, processor_of, view_of, moment_of, pressure_of}
-use Rattle.thy_core_laws.specs.Sound.{Sound}
-use Rattle.thy_core_laws.specs.Calls.{IsAsked, HartCall, FlushCall, retires_by, begun_by_hart, hart_did, after_hart, after_flush, after_call, after_drain, after_seal, after_engine, after_boot}
-use Rattle.thy_core_laws.specs.Exact.{IsOutcome, sealed_for, MakesFirst, LeavesBelow}
-use Rattle.thy_core_laws.specs.Rows.{IsMoment, At, HartAdvances, IsSealing, SimulatesCycle}
+use Rattle.thy_scheme.specs.Machine.{Machine, cpu_fronted, processor_of, view_of, moment_of, pressure_of}
+use Rattle.thy_scheme.specs.Sound.{Sound}
+use Rattle.thy_scheme.specs.MachineCalls.{IsAsked, HartCall, FlushCall, retires_by, begun_by_hart, hart_did, after_hart, after_flush, after_call, after_drain, after_seal, after_engine, after_boot}
+use Rattle.thy_scheme.specs.MachineExact.{IsOutcome, sealed_for, MakesFirst, LeavesBelow}
+use Rattle.thy_scheme.specs.Rows.{IsMoment, At, HartAdvances, IsSealing, SimulatesCycle}
 use Rattle.thy_core.specs.Cycles.{IsEngineDue, IsTurnOf, IsAnyRun, IsCycle, HasFailedAs, HasTaken, did_by, stepped_by, reported}
-use Rattle.thy_core_laws.proofs.Facts.{view-run, sound-run, holds-run, is-going}
-use Rattle.thy_core_laws.proofs.KeepsLaws.{stands, runs_behind}
-use Rattle.thy_core_laws.proofs.BegunLaws.{begun-processor, IsBegun, is-begun}
-use Rattle.thy_core_laws.proofs.BootingLaws.{sound-boot}
-use Rattle.thy_core_laws.proofs.DrainRows.{nvm_drain_simulates, halt_simulates, dram_drain_simulates, boot_drain_simulates}
-use Rattle.thy_core_laws.proofs.CallRows.{merge_simulates, promotion_simulates}
-use Rattle.thy_core_laws.proofs.EngineRow.{engine_simulates}
-use Rattle.thy_core_laws.proofs.FlushRow.{flush_simulates}
-use Rattle.thy_core_laws.proofs.SealRow.{standing, seal_simulates}
-use Rattle.thy_core_laws.proofs.HartCases.{hart-simulates, hart-hands-on}
-use Rattle.thy_core_laws.proofs.FailRows.{hart_fails, flush_fails, promotion_leaves, engine_leaves, boot_leaves, drain_fails}
-use Rattle.thy_core_laws.proofs.BootRow.{boot_simulates}
+use Rattle.thy_scheme.proofs.Facts.{view-run, sound-run, holds-run, is-going}
+use Rattle.thy_scheme.proofs.KeepsLaws.{stands, runs_behind}
+use Rattle.thy_scheme.proofs.BegunLaws.{begun-processor, IsBegun, is-begun}
+use Rattle.thy_scheme.proofs.BootingLaws.{sound-boot}
+use Rattle.thy_scheme.proofs.DrainRows.{nvm_drain_simulates, halt_simulates, dram_drain_simulates, boot_drain_simulates}
+use Rattle.thy_scheme.proofs.CallRows.{merge_simulates, promotion_simulates}
+use Rattle.thy_scheme.proofs.EngineRow.{engine_simulates}
+use Rattle.thy_scheme.proofs.FlushRow.{flush_simulates}
+use Rattle.thy_scheme.proofs.SealRow.{standing, seal_simulates}
+use Rattle.thy_scheme.proofs.HartCases.{hart-simulates, hart-hands-on}
+use Rattle.thy_scheme.proofs.FailRows.{hart_fails, flush_fails, promotion_leaves, engine_leaves, boot_leaves, drain_fails}
+use Rattle.thy_scheme.proofs.BootRow.{boot_simulates}
 
 does_boot : (step : BootStep) → Does (boot_did step) (Stalled Booting)
 does_boot GoesOn = refl

@@ -7,8 +7,8 @@ use Rattle.thy_view.specs.Origin.{Origin}
 use Rattle.thy_view.specs.Views.{is_boot, loads}
 use Rattle.thy_scheme.specs.Laws.{IsLawful}
 use Rattle.thy_scheme.specs.Scheme.{SchemeOf}
-use Rattle.thy_core_laws.specs.Machine.{Machine, run_view, view_in, view_of, has_read_in, has_read_of}
-use Rattle.thy_core_laws.specs.Sound.{SoundIn, Sound}
+use Rattle.thy_scheme.specs.Machine.{Machine, run_view, view_in, view_of, has_read_in, has_read_of}
+use Rattle.thy_scheme.specs.Sound.{SoundIn, Sound}
 
 -- at a moment the scheme is one of the run's geometry
 geometry_in : {S : Type 0} (K : SchemeOf S) (l : IsLawful K) (o : Origin) (m : Machine S) (n : Device) (phase : Phase) → n.down ≡ false → SoundIn K o phase m n

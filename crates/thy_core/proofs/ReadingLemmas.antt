@@ -6,11 +6,11 @@ use Rattle.thy_block.specs.declared.parameters.Parameters.{Parameters}
 use Rattle.thy_block.specs.Blocks.{block_bytes}
 use Rattle.thy_block.specs.Device.{zero_block, block_at}
 use Rattle.thy_block.specs.Geometry.{program_size}
-use Rattle.thy_flat.specs.Flat.{flat, console_bytes}
+use Rattle.thy_block.specs.Flat.{flat, console_bytes}
 use Rattle.thy_cache.specs.Contents.{Contents, peeked}
 use Rattle.thy_cache.specs.Flat.{flat as cached}
 use Rattle.thy_cache.proofs.FlatLemmas.{length-flat, block_at-flat}
-use Rattle.thy_flat.proofs.FlatLemmas.{flat-nil, flat-one, flat-append, flat-take, flat-drop}
+use Rattle.thy_block.proofs.FlatLemmas.{flat-nil, flat-one, flat-append, flat-take, flat-drop}
 
 -- ---- a block through the cache
 

@@ -26,10 +26,10 @@ use Rattle.thy_view.specs.Turn.{Advances, begins}
 use Rattle.thy_scheme.specs.Laws.{IsLawful}
 use Rattle.thy_scheme.specs.Scheme.{SchemeOf}
 use Rattle.thy_scheme.specs.SchemeStore.{held_by_scheme}
-use Rattle.thy_core_laws.specs.Calls.{HartCall, retires_by, begun_by_hart, after_hart}
-use Rattle.thy_core_laws.specs.Kind.{kind_over}
-use Rattle.thy_core_laws.specs.Machine.{Machine, moment_of}
-use Rattle.thy_core_laws.proofs.BegunLaws.{ended-hand, cpu-fronted-twice}
+use Rattle.thy_scheme.specs.MachineCalls.{HartCall, retires_by, begun_by_hart, after_hart}
+use Rattle.thy_scheme.specs.Kind.{kind_over}
+use Rattle.thy_scheme.specs.Machine.{Machine, moment_of}
+use Rattle.thy_scheme.proofs.BegunLaws.{ended-hand, cpu-fronted-twice}
 use Rattle.thy_core.specs.Calm.{is_calm}
 use Rattle.thy_core.specs.Cycles.{HasStart, HasTaken, HasReported, reported}
 use Rattle.thy_core.specs.Row.{advance_by, advances_by, after_row, ends_epoch, ends_last, put_back}

@@ -9,9 +9,9 @@ use Rattle.thy_block.specs.declared.bytes.Bytes.{Bytes}
 use Rattle.thy_block.specs.Bytes.{bytes_of}
 use Rattle.thy_block.specs.Device.{Device}
 use Rattle.thy_block.specs.Geometry.{program_size, console_room}
-use Rattle.thy_flat.specs.Flat.{flat, console_bytes}
-use Rattle.thy_flat.proofs.FlatLemmas.{flat-take}
-use Rattle.thy_flat.proofs.MemoryLaws.{room_inside}
+use Rattle.thy_block.specs.Flat.{flat, console_bytes}
+use Rattle.thy_block.proofs.FlatLemmas.{flat-take}
+use Rattle.thy_block.proofs.MemoryLaws.{room_inside}
 use Rattle.thy_hart.specs.declared.hand.Hand.TheVariants.{Nothing}
 use Rattle.thy_hart.specs.HartState.{HartState, has_written}
 use Rattle.thy_hart.specs.Laws.{IsSized}
@@ -30,13 +30,13 @@ use Rattle.thy_view.specs.Turn.{front_of}
 use Rattle.thy_view.specs.Views.{is_boot, is_halt, is_between}
 use Rattle.thy_scheme.specs.Scheme.{SchemeOf, CanRun}
 use Rattle.thy_scheme.specs.Laws.{IsLawful, IsCommitted}
-use Rattle.thy_core_laws.specs.Kind.{kind_over}
-use Rattle.thy_core_laws.specs.Machine.{Machine, cpu_fronted, processor_of, hart_put_back, memory_of, run_view, view_in, view_of}
-use Rattle.thy_core_laws.specs.Sound.{SoundRun, SoundIn, Sound, SoundStopped}
+use Rattle.thy_scheme.specs.Kind.{kind_over}
+use Rattle.thy_scheme.specs.Machine.{Machine, cpu_fronted, processor_of, hart_put_back, memory_of, run_view, view_in, view_of}
+use Rattle.thy_scheme.specs.Sound.{SoundRun, SoundIn, Sound, SoundStopped}
 use Rattle.thy_core.specs.Reading.{IsRoomy, IsUnwritten, ReadsState}
 use Rattle.thy_isa.proofs.HartLaws.{blocks-cross}
-use Rattle.thy_core_laws.proofs.BegunLaws.{cpu-fronted-suc, fronted-twice}
-use Rattle.thy_core_laws.proofs.MomentLaws.{sound-here}
+use Rattle.thy_scheme.proofs.BegunLaws.{cpu-fronted-suc, fronted-twice}
+use Rattle.thy_scheme.proofs.MomentLaws.{sound-here}
 use Rattle.thy_core.proofs.TakenLaws.{phase_in}
 
 -- the bytes of memory and console make the state

@@ -17,11 +17,11 @@ use Rattle.thy_view.specs.Turn.{Actor, Advances, Does, HandsOn, told_at, turn_of
 use Rattle.thy_view.specs.Views.{is_halt}
 use Rattle.thy_scheme.specs.Scheme.{SchemeOf}
 use Rattle.thy_scheme.specs.Laws.{IsLawful}
-use Rattle.thy_core_laws.specs.Machine.{Machine, view_in, view_of, pressure_of}
-use Rattle.thy_core_laws.specs.Sound.{Sound, IsAt}
-use Rattle.thy_core_laws.specs.Exact.{MakesCycle}
-use Rattle.thy_core_laws.specs.Kind.{kind_over}
-use Rattle.thy_core_laws.specs.Rows.{IsMoment, At}
+use Rattle.thy_scheme.specs.Machine.{Machine, view_in, view_of, pressure_of}
+use Rattle.thy_scheme.specs.Sound.{Sound, IsAt}
+use Rattle.thy_scheme.specs.MachineExact.{MakesCycle}
+use Rattle.thy_scheme.specs.Kind.{kind_over}
+use Rattle.thy_scheme.specs.Rows.{IsMoment, At}
 use Rattle.thy_core.specs.declared.turn.Actor.{Actor as ActorHere}
 use Rattle.thy_core.specs.declared.turn.Actor.TheVariants as here
 use Rattle.thy_core.specs.MachineParts.{actor_seen}
@@ -29,10 +29,10 @@ use Rattle.thy_core.specs.Turns.{turn_now}
 use Rattle.thy_core.specs.Cycles.{HasStart, IsTurnOf, IsCycle, HasFailedAs, HasTaken, HasReported, reported, noted}
 use Rattle.thy_view.proofs.TurnLaws.{Begins-told}
 use Rattle.thy_view.proofs.ReachLaws.{finds-turns}
-use Rattle.thy_core_laws.proofs.Facts.{view-run}
-use Rattle.thy_core_laws.proofs.MomentLaws.{sound-here, view-alike, leads_to_moment}
-use Rattle.thy_core_laws.proofs.BootingLaws.{view-boot, holds-boot, uncounted}
-use Rattle.thy_core_laws.proofs.StepLaws.{simulating_is_step, failing_is_safe}
+use Rattle.thy_scheme.proofs.Facts.{view-run}
+use Rattle.thy_scheme.proofs.MomentLaws.{sound-here, view-alike, leads_to_moment}
+use Rattle.thy_scheme.proofs.BootingLaws.{view-boot, holds-boot, uncounted}
+use Rattle.thy_scheme.proofs.StepLaws.{simulating_is_step, failing_is_safe}
 use Rattle.thy_core.proofs.TurnLaws.{turn_is, at_turn}
 
 pub at_run : {S : Type 0} (K : SchemeOf S) (l : IsLawful K) (o : Origin) (cycles : ℕ) (m : Machine S) (n : Device) → Sound K o cycles m n → cycles < 2 ^ 62

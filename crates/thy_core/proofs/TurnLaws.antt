@@ -14,12 +14,12 @@ use Rattle.thy_view.specs.declared.view.Phase.TheVariants.{Boot, Run, Halt}
 use Rattle.thy_view.specs.Origin.{Origin, runs_at}
 use Rattle.thy_view.specs.Turn.{Nvm, Dram, Checkpoint, has_stopped, stall_in, rested, begins, hart_at, advancing, hart_turn, engine_turn, turn_of}
 use Rattle.thy_scheme.specs.Scheme.{SchemeOf}
-use Rattle.thy_core_laws.specs.Machine.{Machine, view_in, view_of, shortage_of, pressure_of}
-use Rattle.thy_core_laws.specs.Rows.{IsMoment, HartAdvances}
+use Rattle.thy_scheme.specs.Machine.{Machine, view_in, view_of, shortage_of, pressure_of}
+use Rattle.thy_scheme.specs.Rows.{IsMoment, HartAdvances}
 use Rattle.thy_core.specs.Turns.{stopped_now, waits_now, stall_now, hart_of, hart_now, engine_now, turn_now}
 use Rattle.thy_core.specs.Cycles.{IsTurnOf}
-use Rattle.thy_core_laws.proofs.Facts.{view-run, sound-run}
-use Rattle.thy_core_laws.proofs.BootingLaws.{view-boot, holds-boot, uncounted}
+use Rattle.thy_scheme.proofs.Facts.{view-run, sound-run}
+use Rattle.thy_scheme.proofs.BootingLaws.{view-boot, holds-boot, uncounted}
 
 -- the sealed state has ended, by the note of it
 ended_is : (o : Origin) (sealed : Option Mark) (ends whole : Bool) → ((s : Mark) → sealed ≡ Some s → ends ≡ not (runs_at o s.count))

@@ -6,7 +6,7 @@ use Rattle.thy_scheme.specs.Scheme.{SchemeOf}
 use Rattle.thy_core.specs.declared.parts.MachineParts.{MachineParts}
 use Rattle.thy_core.specs.MachineParts.{machine_of}
 use Rattle.thy_core.specs.Turns.{stall_now}
-use Rattle.thy_core_laws.specs.Machine.{Machine}
+use Rattle.thy_scheme.specs.Machine.{Machine}
 
 -- no checkpoint is under way, no write is queued in the DRAM, and nothing keeps a hart from its turn: so each pick is a hart's
 -- while no write is queued in the NVM

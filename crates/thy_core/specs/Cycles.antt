@@ -15,10 +15,10 @@ use Rattle.thy_view.specs.Told.{IsThere, HasTurn}
 use Rattle.thy_view.specs.Turn.{Actor, Nvm, Dram, Checkpoint, Advances, Stalled, HandsOn, Does, Prepares, told_at}
 use Rattle.thy_view.specs.Views.{is_halt}
 use Rattle.thy_scheme.specs.Scheme.{SchemeOf}
-use Rattle.thy_core_laws.specs.Exact.{MakesCycle}
-use Rattle.thy_core_laws.specs.Machine.{Machine, processor_of, view_of, pressure_of}
-use Rattle.thy_core_laws.specs.Rows.{IsMoment, At, HartAdvances, IsSealing, SimulatesCycle}
-use Rattle.thy_core_laws.specs.Failures.{Fails}
+use Rattle.thy_scheme.specs.MachineExact.{MakesCycle}
+use Rattle.thy_scheme.specs.Machine.{Machine, processor_of, view_of, pressure_of}
+use Rattle.thy_scheme.specs.Rows.{IsMoment, At, HartAdvances, IsSealing, SimulatesCycle}
+use Rattle.thy_scheme.specs.Failures.{Fails}
 
 -- a checkpoint is under way, after the boot
 abbrev pub IsEngineDue : {S : Type 0} → SchemeOf S → Machine S → Type 0

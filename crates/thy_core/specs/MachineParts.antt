@@ -11,7 +11,7 @@ use Rattle.thy_core.specs.declared.turn.Actor.{Actor as ActorHere}
 use Rattle.thy_core.specs.declared.turn.Actor.TheVariants as here
 use Rattle.thy_core.specs.declared.turn.Turn.{Turn}
 use Rattle.thy_core.specs.declared.turn.Turn.TheVariants as turns
-use Rattle.thy_core_laws.specs.Machine.{Machine, Lengths}
+use Rattle.thy_scheme.specs.Machine.{Machine, Lengths}
 
 abbrev pub marks_of : Checkpoints → CheckpointMarks
 marks_of k = record { done = k.done; sealed = k.sealed; written = k.written }

@@ -17,8 +17,8 @@ use Rattle.thy_view.specs.Views.{is_boot}
 use Rattle.thy_scheme.specs.Scheme.{SchemeOf}
 use Rattle.thy_core.specs.declared.reading.MemoryVersion.{MemoryVersion}
 use Rattle.thy_core.specs.declared.reading.MemoryVersion.TheVariants.{Executing, Committed}
-use Rattle.thy_core_laws.specs.Machine.{Machine, memory_of, processor_of, view_of}
-use Rattle.thy_core_laws.specs.Sound.{Sound}
+use Rattle.thy_scheme.specs.Machine.{Machine, memory_of, processor_of, view_of}
+use Rattle.thy_scheme.specs.Sound.{Sound}
 
 -- memory in a version
 abbrev pub blocks_in : {S : Type 0} → SchemeOf S → MemoryVersion → Machine S → Device → List Block

@@ -3,8 +3,8 @@ use Rattle.std.specs.Prelude.{ℕ, ◌+◌, Bool, false, if◌then◌else◌, Li
 use Rattle.thy_hart.specs.declared.hand.HartStep.{HartStep}
 use Rattle.thy_view.specs.declared.did.Advance.{Advance}
 use Rattle.thy_view.specs.declared.did.Advance.TheVariants.{Moved, Retired}
-use Rattle.thy_core_laws.specs.Calls.{retires_by, ends_by, after_hart}
-use Rattle.thy_core_laws.specs.Machine.{Machine, cpu_fronted}
+use Rattle.thy_scheme.specs.MachineCalls.{retires_by, ends_by, after_hart}
+use Rattle.thy_scheme.specs.Machine.{Machine, cpu_fronted}
 use Rattle.thy_core.specs.Calm.{is_over}
 
 -- what a step of this hart did in its cycle

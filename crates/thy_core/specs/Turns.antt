@@ -8,7 +8,7 @@ use Rattle.thy_view.specs.declared.view.Phase.{Phase}
 use Rattle.thy_view.specs.declared.view.Phase.TheVariants.{Boot, Run, Halt}
 use Rattle.thy_view.specs.Turn.{Actor, Nvm, Dram, Checkpoint, advancing, hart_at}
 use Rattle.thy_scheme.specs.Scheme.{SchemeOf}
-use Rattle.thy_core_laws.specs.Machine.{Machine, shortage_of, pressure_of}
+use Rattle.thy_scheme.specs.Machine.{Machine, shortage_of, pressure_of}
 
 -- fewer entries are free than the dirty lines and the blocks need that room is to be reserved for
 abbrev pub lacks : ℕ → ℕ → Option ℕ → Bool

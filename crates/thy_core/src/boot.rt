@@ -6,7 +6,7 @@ ghost use Rattle.thy_view.specs.Booting.{boot_did};
 ghost use Rattle.thy_view.specs.Origin.{Origin, Begins};
 ghost use Rattle.thy_view.specs.Turn.{Stalled};
 ghost use Rattle.thy_scheme.specs.Restart.{WritesNothing};
-ghost use Rattle.thy_core_laws.specs.Calls.{running_from, after_boot};
+ghost use Rattle.thy_scheme.specs.MachineCalls.{running_from, after_boot};
 ghost use Rattle.thy_core.specs.Cycles.{HasStart, CanTake, HasTaken};
 ghost use Rattle.thy_core.specs.MachineParts.{machine_of, IsRestartBelow};
 

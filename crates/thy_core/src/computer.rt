@@ -13,8 +13,8 @@ use thy_view::{Advance, Computer, CoreError, Row, Stepped};
 /// that turn asks; before a seal the first that is left of promotions, flushes and merges. While a boot restores a checkpoint
 /// and does not migrate it, no step is counted among the NVM's writes, whether or not it failed.
 impl<S: Scheme> Computer for Machine<S> {
-    ghost use Rattle.thy_core_laws.specs.Kind.{kind_over};
-    ghost use Rattle.thy_core_laws.proofs.LawfulLaws.{machine_is_lawful};
+    ghost use Rattle.thy_scheme.specs.Kind.{kind_over};
+    ghost use Rattle.thy_scheme.proofs.LawfulLaws.{machine_is_lawful};
 
     ghost kind = { kind_over S.scheme };
 

@@ -2,7 +2,7 @@
 ghost use Rattle.std.specs.Prelude.{◌≡◌, ◌+◌, ◌<◌, ◌^◌, if◌then◌else◌, Ok};
 ghost use Rattle.thy_view.specs.Turn.{Dram, Checkpoint};
 ghost use Rattle.thy_scheme.specs.Calls.{engine_did};
-ghost use Rattle.thy_core_laws.specs.Calls.{after_engine};
+ghost use Rattle.thy_scheme.specs.MachineCalls.{after_engine};
 ghost use Rattle.thy_core.specs.Cycles.{IsAnyRun, CanTake, HasTaken};
 ghost use Rattle.thy_core.specs.MachineParts.{machine_of};
 

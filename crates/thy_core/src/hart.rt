@@ -3,9 +3,9 @@ ghost use Rattle.std.specs.Prelude.{◌≡◌, ℕ, None, Some, true, ◌+◌, �
 ghost use Rattle.thy_view.specs.Advances.{did_of, SimulatesRow, row_of};
 ghost use Rattle.thy_view.specs.Turn.{Advances};
 ghost use Rattle.thy_hart.specs.declared.hand.Hand.TheVariants.{Nothing};
-ghost use Rattle.thy_core_laws.specs.Calls.{retires_over, retires_by, ends_by, begun_by_hart, hart_did, after_hart};
-ghost use Rattle.thy_core_laws.specs.Machine.{cpu_fronted};
-ghost use Rattle.thy_core_laws.specs.Kind.{kind_over};
+ghost use Rattle.thy_scheme.specs.MachineCalls.{retires_over, retires_by, ends_by, begun_by_hart, hart_did, after_hart};
+ghost use Rattle.thy_scheme.specs.Machine.{cpu_fronted};
+ghost use Rattle.thy_scheme.specs.Kind.{kind_over};
 ghost use Rattle.thy_core.specs.Calm.{is_calm, KnowsCalm, is_over};
 ghost use Rattle.thy_core.specs.Cycles.{HasStart, HasInput, CanTake, HasTaken, did_by};
 ghost use Rattle.thy_core.specs.MachineParts.{machine_of};

@@ -8,8 +8,8 @@ ghost use Rattle.thy_view.specs.Kind.{CanStep, CanRead, CanSnapshot, Simulates, 
 ghost use Rattle.thy_view.specs.Origin.{Origin};
 ghost use Rattle.thy_view.specs.Restart.{RestartsUnwritten};
 ghost use Rattle.thy_isa.specs.Step.{zero_cpu};
-ghost use Rattle.thy_core_laws.specs.Kind.{kind_over};
-ghost use Rattle.thy_core_laws.specs.Sound.{IsAt, SoundStopped, IsPowered};
+ghost use Rattle.thy_scheme.specs.Kind.{kind_over};
+ghost use Rattle.thy_scheme.specs.Sound.{IsAt, SoundStopped, IsPowered};
 ghost use Rattle.thy_core.specs.Reading.{ReadsBare, ReadsState, ShowsNone};
 
 use crate::parts::MachineParts;
@@ -32,7 +32,7 @@ pub struct Machine<S: Scheme> {
 }
 
 impl<S: Scheme> Model for Machine<S> {
-    ghost use Rattle.thy_core_laws.specs.Machine.{Machine as MachineOver};
+    ghost use Rattle.thy_scheme.specs.Machine.{Machine as MachineOver};
 
     ghost Value = { MachineOver S };
 

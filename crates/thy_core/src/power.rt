@@ -6,9 +6,9 @@ ghost use Rattle.thy_view.specs.declared.view.View.{View};
 ghost use Rattle.thy_view.specs.Kind.{IsDramOf, TellsLoading};
 ghost use Rattle.thy_view.specs.Origin.{Origin};
 ghost use Rattle.thy_isa.specs.Step.{zero_cpu};
-ghost use Rattle.thy_core_laws.specs.Kind.{kind_over};
+ghost use Rattle.thy_scheme.specs.Kind.{kind_over};
 ghost use Rattle.thy_core.specs.MachineParts.{machine_of};
-ghost use Rattle.thy_core_laws.specs.Sound.{IsAt, SoundStopped, IsPowered};
+ghost use Rattle.thy_scheme.specs.Sound.{IsAt, SoundStopped, IsPowered};
 
 use crate::parts::{Checkpoints, Consoles, MachineParts};
 use std::alloc::{AllocError, Global};

@@ -3,10 +3,10 @@ ghost use Rattle.std.specs.Prelude.{◌≡◌, ◌<◌, ◌≤◌, ◌^◌, ◌+
 ghost use Rattle.thy_block.specs.Blocks.{block_bytes};
 ghost use Rattle.thy_block.specs.Bytes.{bytes_of};
 ghost use Rattle.thy_block.specs.Device.{block_at, HasFailed, IsFramed, CountsFault};
-ghost use Rattle.thy_flat.specs.Flat.{flat, console_bytes};
+ghost use Rattle.thy_block.specs.Flat.{flat, console_bytes};
 ghost use Rattle.thy_view.specs.Kind.{ReadsNothing, HasFailedToRead};
 ghost use Rattle.thy_scheme.specs.Scheme.{CanRun};
-ghost use Rattle.thy_core_laws.specs.Machine.{memory_of};
+ghost use Rattle.thy_scheme.specs.Machine.{memory_of};
 ghost use Rattle.thy_core.specs.MachineParts.{machine_of};
 ghost use Rattle.thy_core.specs.Reading.{blocks_in, IsRoomy};
 

@@ -3,7 +3,7 @@ ghost use Rattle.std.specs.Prelude.{◌≡◌, ◌≢◌, Ok, None, Some, true, 
 ghost use Rattle.thy_cache.specs.Contents.{dirty_count};
 ghost use Rattle.thy_view.specs.declared.did.Stall.TheVariants.{Sealing};
 ghost use Rattle.thy_view.specs.Turn.{Stalled};
-ghost use Rattle.thy_core_laws.specs.Calls.{after_seal};
+ghost use Rattle.thy_scheme.specs.MachineCalls.{after_seal};
 ghost use Rattle.thy_core.specs.Cycles.{IsAnyRun, CanTake, HasTaken};
 ghost use Rattle.thy_core.specs.MachineParts.{machine_of};
 

@@ -7,8 +7,8 @@ ghost use Rattle.thy_isa.specs.Step.{state_of, state_with};
 ghost use Rattle.thy_block.specs.Bytes.{bytes_of};
 ghost use Rattle.thy_scheme.specs.Scheme.{CanRun};
 ghost use Rattle.thy_view.specs.Kind.{CanRead, CanSnapshot, SnapshotsStopped, ShowsConsole, LeavesAlonePast, HasFailedToRead};
-ghost use Rattle.thy_core_laws.specs.Kind.{kind_over};
-ghost use Rattle.thy_core_laws.specs.Machine.{cpu_fronted, memory_of, processor_of, hart_put_back};
+ghost use Rattle.thy_scheme.specs.Kind.{kind_over};
+ghost use Rattle.thy_scheme.specs.Machine.{cpu_fronted, memory_of, processor_of, hart_put_back};
 ghost use Rattle.thy_core.specs.MachineParts.{machine_of};
 ghost use Rattle.thy_core.specs.Reading.{ReadsBare, ReadsState, ShowsNone};
 

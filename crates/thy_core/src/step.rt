@@ -4,7 +4,7 @@ ghost use Rattle.thy_block.specs.Device.{IsFramed, CountsFault};
 ghost use Rattle.thy_view.specs.Advances.{IfAdvanced, IsOthersTurn, SimulatesRow, row_of};
 ghost use Rattle.thy_view.specs.Kind.{CanStep, Simulates, FailsSafe};
 ghost use Rattle.thy_view.specs.Restart.{RestartsUnwritten};
-ghost use Rattle.thy_core_laws.specs.Kind.{kind_over};
+ghost use Rattle.thy_scheme.specs.Kind.{kind_over};
 ghost use Rattle.thy_core.specs.Calm.{KnowsCalm};
 ghost use Rattle.thy_core.specs.MachineParts.{machine_of};
 

@@ -1,7 +1,7 @@
 //! Whose turn a cycle is.
 ghost use Rattle.std.specs.Prelude.{◌≡◌, ◌&&◌, ◌==◌, false, is_some, length};
 ghost use Rattle.thy_core.specs.Calm.{is_calm, KnowsCalm};
-ghost use Rattle.thy_core_laws.specs.Machine.{shortage_of};
+ghost use Rattle.thy_scheme.specs.Machine.{shortage_of};
 ghost use Rattle.thy_core.specs.MachineParts.{machine_of, turn_seen};
 ghost use Rattle.thy_core.specs.Turns.{lacks, stopped_now, waits_now, stall_now, hart_of, hart_now, engine_now, turn_now};
 ghost use Rattle.thy_block.specs.declared.mix.Pick.TheVariants.{Engine as EnginePick};

@@ -2,19 +2,19 @@
 use Rattle.std.proofs.Common.{◌≡◌, ℕ, true, false, is_some, Option, Some, None, refl, sym, ◌∙◌, ap, subst, inl, inr}
 use Rattle.thy_block.specs.Device.{Device, written_to, HasFailedToWrite}
 use Rattle.thy_block.proofs.DeviceLemmas.{no_more-with_queued}
-use Rattle.thy_places.specs.declared.place.Place.{Place}
-use Rattle.thy_places.specs.Places.{in_dram, number_of}
-use Rattle.thy_place.specs.Devices.{devices_of}
-use Rattle.thy_cell.specs.Cells.{seat_of, frame_at, target, last}
+use Rattle.thy_table.specs.declared.place.Place.{Place}
+use Rattle.thy_table.specs.Places.{in_dram, number_of}
+use Rattle.thy_table.specs.Devices.{devices_of}
+use Rattle.thy_table.specs.Cells.{seat_of, frame_at, target, last}
 use Rattle.thy_view.specs.Action.{after, FailsTo}
 use Rattle.thy_control.specs.Copies.{next_copy, block_listed, devices_copied, after_next_copy, devices_after_copy, FailsNextCopy}
 use Rattle.thy_control.specs.Moves.{FailsMove}
 use Rattle.thy_control.specs.Pages.{next_page, block_to_write, devices_issued, after_next_write, devices_after_write, FailsNextWrite}
 use Rattle.thy_control.specs.Positions.{position_by, next_position}
 use Rattle.thy_control.specs.State.{State, cell_of, reads}
-use Rattle.thy_dual_laws.specs.Design.{block_by, source_by, action_next, written_by, written_next}
-use Rattle.thy_dual_laws.proofs.HeldLemmas.{written-nvm, target-in_nvm}
-use Rattle.thy_dual_laws.proofs.ItemLemmas.{copied_is, issued_is}
+use Rattle.thy_dual_parts.specs.Design.{block_by, source_by, action_next, written_by, written_next}
+use Rattle.thy_dual_parts.proofs.HeldLemmas.{written-nvm, target-in_nvm}
+use Rattle.thy_dual_parts.proofs.ItemLemmas.{copied_is, issued_is}
 
 -- a move that failed may have written its target
 move_fails : (s : State) (from to : Place) (m n : Device) → FailsMove s.p from to (devices_of m s.dram) (devices_of n s.dram)

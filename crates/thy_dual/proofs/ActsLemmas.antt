@@ -7,19 +7,19 @@ use Rattle.thy_block.specs.Counts.{Rose}
 use Rattle.thy_block.specs.Device.{Device, IsFramed, CountsFault}
 use Rattle.thy_view.specs.Action.{Action, FailsTo}
 use Rattle.thy_control.specs.Copies.{next_copy, after_next_copy, devices_after_copy}
-use Rattle.thy_cell.specs.declared.cell.Cell.{Cell}
-use Rattle.thy_cell.specs.declared.cell.StoreRule.{StoreRule}
-use Rattle.thy_cell.specs.Rules.{store_place}
-use Rattle.thy_cell.specs.Store.{put_by}
-use Rattle.thy_places.specs.declared.place.Place.{Place}
-use Rattle.thy_places.specs.Places.{in_dram, number_of}
+use Rattle.thy_table.specs.declared.cell.Cell.{Cell}
+use Rattle.thy_table.specs.declared.cell.StoreRule.{StoreRule}
+use Rattle.thy_table.specs.Rules.{store_place}
+use Rattle.thy_table.specs.Store.{put_by}
+use Rattle.thy_table.specs.declared.place.Place.{Place}
+use Rattle.thy_table.specs.Places.{in_dram, number_of}
 use Rattle.thy_control.specs.Rules.{rule_for, cell_before, devices_after, state_after, FailsStore}
 use Rattle.thy_control.specs.State.{State, reads}
 use Rattle.thy_control.proofs.PutLemmas.{put_by-reads}
-use Rattle.thy_engine.specs.Progress.{Acts}
-use Rattle.thy_dual_laws.specs.Design.{action_next, written_next, write_there, store_action}
+use Rattle.thy_checkpoint.specs.Progress.{Acts}
+use Rattle.thy_dual_parts.specs.Design.{action_next, written_next, write_there, store_action}
 use Rattle.thy_dual.proofs.ActLemmas.{some_copy, no_copy, copy_state, copy_device}
-use Rattle.thy_dual_laws.proofs.StoreLemmas.{action_is}
+use Rattle.thy_dual_parts.proofs.StoreLemmas.{action_is}
 
 -- an action that failed
 pub err_acts : {C T : Type 0} (action : Action) (later : C) (r : Result T NvmError) (s : C) (n : Device) (t : C) (m : Device) → IsErr r

@@ -6,8 +6,8 @@ use Rattle.thy_block.specs.declared.nvm.NvmError.{NvmError}
 use Rattle.thy_block.specs.Device.{Device, block_at, zero_block}
 use Rattle.thy_block.specs.Geometry.{memory_blocks}
 use Rattle.thy_control.specs.State.{State, penult_of, work_of}
-use Rattle.thy_recover.specs.Filling.{loads}
-use Rattle.thy_dual_laws.specs.Design.{penults}
+use Rattle.thy_dual_parts.specs.Filling.{loads}
+use Rattle.thy_dual_parts.specs.Design.{penults}
 
 pub small : (s : State) (n : Device) (b : ℕ) → b < length (loads s n) → b < memory_blocks s.p
 small s n b low = omega (arith, low, length-map-range_with_len (work_of s n) 0 (memory_blocks s.p))

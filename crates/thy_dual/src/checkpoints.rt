@@ -3,13 +3,13 @@ ghost use Rattle.std.specs.Prelude.{◌≡◌, false, Some as Next, None as NoCo
 ghost use Rattle.thy_control.specs.Copies.{next_copy};
 ghost use Rattle.thy_control.specs.Positions.{next_position};
 ghost use Rattle.thy_control.specs.State.{IsSized};
-ghost use Rattle.thy_dual_laws.specs.Design.{action_next, written_next};
-ghost use Rattle.thy_engine.specs.Progress.{Acts};
+ghost use Rattle.thy_dual_parts.specs.Design.{action_next, written_next};
+ghost use Rattle.thy_checkpoint.specs.Progress.{Acts};
 
 use crate::fills::DualTables;
 use thy_block::{Block, Geometry, Nvm, NvmError};
+use thy_checkpoint::Checkpoints;
 use thy_control::Control;
-use thy_engine::Checkpoints;
 use thy_layout::EngineStep;
 
 /// Writes the position that is next: the copy that is, else the next block of a page.
@@ -43,7 +43,7 @@ fn write_page<N: Nvm>(control: &mut Control, k: u64, nvm: &mut N) -> Result<(), 
 /// The body copies each version that is pending to its place, and then writes the pages from their frames. Nothing follows the
 /// commit: no tail is ever written.
 impl Checkpoints for DualTables {
-    ghost use Rattle.thy_dual_laws.specs.Design.{items_dual};
+    ghost use Rattle.thy_dual_parts.specs.Design.{items_dual};
 
     ghost items = { items_dual };
 

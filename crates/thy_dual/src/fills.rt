@@ -1,10 +1,10 @@
 //! What the boot fills: images of both versions, read into the controller.
 use thy_block::{Block, Geometry, Nvm, NvmError, PAGE_BLOCKS};
-use thy_boot::Fills;
+use thy_checkpoint::Fills;
 use thy_control::Control;
+use thy_dual_parts::{fill, first_place, first_slot, list_slot, next_fill};
 use thy_isa::MachState;
 use thy_record::ThynvmImages;
-use thy_recover::{fill, first_place, first_slot, list_slot, next_fill};
 
 /// The part of the boot, of the engine, and of loads and stores: both tables.
 #[derive(Drop)]
@@ -12,8 +12,8 @@ pub struct DualTables;
 
 impl Fills for DualTables {
     ghost use Rattle.std.specs.Prelude.{refl};
-    ghost use Rattle.thy_recover.proofs.FillingLemmas.{filling_is_lawful};
-    ghost use Rattle.thy_recover.specs.Filling.{filling_dual};
+    ghost use Rattle.thy_dual_parts.proofs.FillingLemmas.{filling_is_lawful};
+    ghost use Rattle.thy_dual_parts.specs.Filling.{filling_dual};
 
     type Images = ThynvmImages;
 

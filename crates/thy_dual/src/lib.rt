@@ -2,7 +2,7 @@
 //! writes the next one into the NVM while the hart runs. A boot writes the checkpoint of an image of version 1 anew in
 //! version 2, before the hart runs.
 //!
-//! Open src/checkpoints.rt first, then src/parts.rt. It depends on thy_control, thy_recover, thy_compose, thy_dual_laws and
+//! Open src/checkpoints.rt first, then src/parts.rt. It depends on thy_control, thy_dual_parts, thy_compose and
 //! their dependencies; thy_cli, which names the type, depends on it.
 #![tactic(auto)]
 

@@ -3,16 +3,16 @@
 use crate::fills::DualTables;
 use std::alloc::{AllocError, Global};
 use thy_block::{Block, Geometry, Nvm, NvmError, Stored};
+use thy_checkpoint::EngineStage;
 use thy_control::Control;
 use thy_dram::Dram;
-use thy_engine::EngineStage;
 use thy_parts::Parts;
 
 /// Each block is loaded from the place of its working version, and stored by its rule. While a checkpoint is under way nothing
 /// is merged or sealed; no machine asks for it.
 impl Parts for DualTables {
-    ghost use Rattle.thy_dual_laws.proofs.PartsLemmas.{are_parts as parts_of_tables};
-    ghost use Rattle.thy_dual_laws.specs.Design.{dual_parts};
+    ghost use Rattle.thy_dual_parts.proofs.PartsLemmas.{are_parts as parts_of_tables};
+    ghost use Rattle.thy_dual_parts.specs.Design.{dual_parts};
 
     ghost parts = { dual_parts };
 

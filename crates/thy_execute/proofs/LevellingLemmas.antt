@@ -12,7 +12,7 @@ use Rattle.thy_block.specs.Counts.{next}
 use Rattle.thy_block.specs.Device.{Device, Crash, HasFailedToFit, IsCut, lent_by}
 use Rattle.thy_block.specs.Outside.{Stock}
 use Rattle.thy_block.proofs.LoanLemmas.{framed_within, same_loan}
-use Rattle.thy_flat.specs.Flat.{flat}
+use Rattle.thy_block.specs.Flat.{flat}
 use Rattle.thy_gap.specs.declared.registers.Registers.{Registers}
 use Rattle.thy_gap.specs.Lines.{no_lines}
 use Rattle.thy_gap.specs.Meaning.{ImageMeansSeen, CrashMeansSeen, LeftMeansSeen}

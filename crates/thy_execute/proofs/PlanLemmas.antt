@@ -11,7 +11,7 @@ use Rattle.thy_block.specs.declared.outside.PutError.{PutError}
 use Rattle.thy_block.specs.Device.{Device, HasFailedToFit, fitted, zero_block}
 use Rattle.thy_block.specs.Outside.{Stock, Stream}
 use Rattle.thy_block.specs.Bytes.{bytes_of}
-use Rattle.thy_image.specs.Meaning.{decode_of, blocks_of_image}
+use Rattle.thy_answer.specs.Meaning.{decode_of, blocks_of_image}
 use Rattle.thy_isa.specs.Step.{state_of}
 use Rattle.thy_layout.specs.declared.start.Start.{Start}
 use Rattle.thy_words.specs.Settings.{Job}

@@ -14,8 +14,8 @@ use Rattle.thy_block.specs.Bytes.{bytes_of}
 use Rattle.thy_block.specs.Marks.{mark}
 use Rattle.thy_layout.specs.Decoded.{At}
 use Rattle.thy_layout.specs.Files.{blocks_of}
-use Rattle.thy_image.specs.Meaning.{decode_bytes}
-use Rattle.thy_image.proofs.LawLemmas.{file_is_image}
+use Rattle.thy_answer.specs.Meaning.{decode_bytes}
+use Rattle.thy_answer.proofs.LawLemmas.{file_is_image}
 use Rattle.thy_isa.specs.Step.{State, state_of}
 use Rattle.thy_isa.proofs.MemoryBounds.{anywhere}
 use Rattle.thy_layout.specs.declared.start.Start.{Start}

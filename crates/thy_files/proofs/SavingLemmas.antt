@@ -6,8 +6,8 @@ use Rattle.std.proofs.lemmas.Option.{get_or_from_slice_get, slice_get_within}
 use Rattle.thy_block.specs.declared.block.Block.{Block}
 use Rattle.thy_block.specs.Blocks.{block_bytes}
 use Rattle.thy_block.specs.Device.{block_at, zero_block}
-use Rattle.thy_flat.specs.Flat.{flat}
-use Rattle.thy_flat.proofs.FlatLemmas.{flat_more}
+use Rattle.thy_block.specs.Flat.{flat}
+use Rattle.thy_block.proofs.FlatLemmas.{flat_more}
 use Rattle.thy_text.specs.Event.{Event, Reload}
 use Rattle.thy_run.specs.Cuts.{is_cut, cuts_among}
 use Rattle.thy_run.proofs.ListedLemmas.{cuts_among-append}

@@ -11,7 +11,7 @@ use Rattle.thy_block.specs.Outside.{Stock}
 use Rattle.thy_elf.specs.Image.{contents_of}
 use Rattle.thy_isa.specs.Step.{state_of}
 use Rattle.thy_layout.specs.declared.start.Start.{Start}
-use Rattle.thy_image.specs.Saved.{AreOfCheckpoint}
+use Rattle.thy_answer.specs.Saved.{AreOfCheckpoint}
 use Rattle.thy_view.specs.Origin.{IsOrigin}
 use Rattle.thy_view.specs.Safe.{ceiling}
 use Rattle.thy_words.specs.Settings.{Job}

@@ -10,9 +10,8 @@ ghost use Rattle.thy_files.specs.Beginnings.{Begins, BeginsAs, IsElf, IsPlannedF
 use crate::restoring::{Beginning, restore};
 use crate::source::{FetchedBytes, fetch_both, program_of};
 use std::alloc::Global;
-use thy_answer::{ProgramSource, Refusal};
+use thy_answer::{ProgramSource, Refusal, check};
 use thy_base::{Geometry, Shelf};
-use thy_image::check;
 use thy_layout::{BadImage, Found, Start};
 use thy_plain::start_of;
 

@@ -2,7 +2,7 @@
 //! a run leaves (`save`); a made program (`make`).
 //!
 //! Open specs/Beginnings.antt first, then src/beginning.rt. It depends on thy_answer and on its dependencies;
-//! thy_plain_run, thy_execute, thy_compare and thy_order depend on it, and thy_cli on its law that machines read the files
+//! thy_execute and thy_commands depend on it, and thy_cli on its law that machines read the files
 //! of their scheme.
 #![tactic(auto)]
 

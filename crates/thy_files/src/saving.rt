@@ -2,7 +2,7 @@
 ghost use Rattle.std.specs.Prelude.{◌≡◌, ◌<◌, ◌++◌, length, IfOk, OnOk};
 ghost use Rattle.thy_block.specs.Blocks.{block_bytes};
 ghost use Rattle.thy_block.specs.Device.{block_at, IsCut};
-ghost use Rattle.thy_flat.specs.Flat.{flat};
+ghost use Rattle.thy_block.specs.Flat.{flat};
 ghost use Rattle.thy_text.specs.Seen.{event_of};
 ghost use Rattle.thy_run.specs.Cuts.{is_cut, cuts_among};
 ghost use Rattle.thy_answer.specs.Saving.{image_left, saves, save_pick, IsPut};

@@ -9,8 +9,8 @@ use std::test::Fail;
 use thy_base::{BLOCK_SIZE, Geometry, Parameters, SchemeName};
 use thy_isa::{MachState, OtherHart, Reg, Regs, Reservation, Status};
 use thy_layout::{BadImage, Found, table_block};
-use thy_places::blocks;
 use thy_record::{check, header_block, state};
+use thy_table::blocks;
 
 /// The smallest machine: 8 pages, one of them the console's, and 8 entries in each table. Its image has 1064 blocks:
 /// the header, the commit block, 512 homes from block 16 on, and 8 alternate blocks from block 528 on. The others are 8

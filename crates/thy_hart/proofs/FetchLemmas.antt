@@ -11,9 +11,9 @@ use Rattle.thy_block.proofs.LittleEndianLemmas.{number_at-take, number_at-drop}
 use Rattle.thy_block.proofs.RangeLemmas.{base_aligned}
 use Rattle.thy_cache.specs.Contents.{Contents}
 use Rattle.thy_cache.specs.Flat.{flat, ReadsAs}
-use Rattle.thy_flat.specs.declared.span.Span.{Span}
-use Rattle.thy_flat.specs.Spans.{span, first_block, first_byte, head_len, rest_of, head_in, head_read, gathered}
-use Rattle.thy_flat.proofs.SpanLaws.{gathered-none, gathered-rest, rest_of-none}
+use Rattle.thy_block.specs.declared.span.Span.{Span}
+use Rattle.thy_block.specs.Spans.{span, first_block, first_byte, head_len, rest_of, head_in, head_read, gathered}
+use Rattle.thy_block.proofs.SpanLaws.{gathered-none, gathered-rest, rest_of-none}
 use Rattle.thy_isa.specs.declared.state.Cause.{Cause}
 use Rattle.thy_isa.specs.declared.state.Cause.TheVariants.{FetchMisaligned, FetchAccess}
 use Rattle.thy_isa.specs.declared.state.CpuState.{CpuState}

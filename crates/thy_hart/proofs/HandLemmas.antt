@@ -6,9 +6,9 @@ use Rattle.thy_block.specs.declared.block.Block.{Block}
 use Rattle.thy_block.specs.declared.parameters.Parameters.{Parameters}
 use Rattle.thy_block.specs.Geometry.{IsInRange, memory_blocks, program_size}
 use Rattle.thy_block.proofs.BasicLemmas.{not_zero}
-use Rattle.thy_flat.specs.declared.span.Span.{Span}
-use Rattle.thy_flat.specs.Spans.{IsSpanOf, span, first_block, first_byte, head_len, rest_of, head_in}
-use Rattle.thy_flat.proofs.SpanLaws.{head_len-most, rest_of-rest, rest_of-none, length-head_in}
+use Rattle.thy_block.specs.declared.span.Span.{Span}
+use Rattle.thy_block.specs.Spans.{IsSpanOf, span, first_block, first_byte, head_len, rest_of, head_in}
+use Rattle.thy_block.proofs.SpanLaws.{head_len-most, rest_of-rest, rest_of-none, length-head_in}
 use Rattle.thy_isa.specs.declared.state.CallState.{CallState}
 use Rattle.thy_isa.specs.declared.state.CpuState.{CpuState}
 use Rattle.thy_isa.specs.declared.state.Effect.{Effect}

@@ -6,8 +6,8 @@ use Rattle.thy_block.specs.Geometry.{memory_blocks}
 use Rattle.thy_block.specs.LittleEndian.{number_bytes}
 use Rattle.thy_cache.specs.Contents.{Contents}
 use Rattle.thy_cache.specs.Flat.{flat, ReadsAs}
-use Rattle.thy_flat.specs.declared.span.Span.{Span}
-use Rattle.thy_flat.specs.Spans.{span, first_block, first_byte, head_len, head_in, head_read, rest_of}
+use Rattle.thy_block.specs.declared.span.Span.{Span}
+use Rattle.thy_block.specs.Spans.{span, first_block, first_byte, head_len, head_in, head_read, rest_of}
 use Rattle.thy_isa.specs.declared.instr.Extend.{Extend}
 use Rattle.thy_isa.specs.declared.instr.Width.{Width}
 use Rattle.thy_isa.specs.declared.instr.Width.TheVariants.{Byte, Half, Word, Double}

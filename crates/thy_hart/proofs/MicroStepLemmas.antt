@@ -5,8 +5,8 @@ use Rattle.thy_block.specs.Geometry.{memory_blocks}
 use Rattle.thy_cache.specs.declared.line.LinePlace.{LinePlace}
 use Rattle.thy_cache.specs.Contents.{Contents, hits, dirty_count, read_from, KeepsSize}
 use Rattle.thy_cache.specs.Flat.{flat, AgreesStill, KeepsLines}
-use Rattle.thy_flat.specs.declared.span.Span.{Span}
-use Rattle.thy_flat.specs.Spans.{first_block, head_len}
+use Rattle.thy_block.specs.declared.span.Span.{Span}
+use Rattle.thy_block.specs.Spans.{first_block, head_len}
 use Rattle.thy_isa.specs.declared.state.Cause.{Cause}
 use Rattle.thy_isa.specs.declared.state.Effect.{Effect}
 use Rattle.thy_isa.specs.declared.state.Effect.TheVariants.{Trap}

@@ -5,12 +5,12 @@ use Rattle.thy_block.specs.Geometry.{memory_blocks, program_size}
 use Rattle.thy_block.specs.Store.{Holding}
 use Rattle.thy_cache.specs.Contents.{Contents, hits, victim_of, dirty_count}
 use Rattle.thy_cache.specs.Flat.{flat, Agrees}
-use Rattle.thy_flat.specs.Flat.{AllLong}
+use Rattle.thy_block.specs.Flat.{AllLong}
 use Rattle.thy_isa.specs.declared.state.CpuState.{CpuState}
 use Rattle.thy_block.specs.declared.parameters.Parameters.{Parameters}
 use Rattle.thy_isa.specs.Step.{fetch_fault}
 use Rattle.thy_block.proofs.BasicLemmas.{some_same}
-use Rattle.thy_flat.specs.Spans.{span, first_block}
+use Rattle.thy_block.specs.Spans.{span, first_block}
 use Rattle.thy_hart.specs.declared.hand.Hand.{Hand}
 use Rattle.thy_hart.specs.declared.hand.Hand.TheVariants.{Nothing, Reading, Reserving, Writing, Retiring}
 use Rattle.thy_hart.specs.declared.hand.HartStep.{HartStep}

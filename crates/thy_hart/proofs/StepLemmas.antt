@@ -8,11 +8,11 @@ use Rattle.thy_block.specs.declared.parameters.Parameters.{Parameters}
 use Rattle.thy_block.specs.Device.{block_at}
 use Rattle.thy_block.specs.Geometry.{program_size, console_room}
 use Rattle.thy_cache.specs.Contents.{Contents, hits, victim_of, is_dirty_victim}
-use Rattle.thy_flat.specs.declared.span.Span.{Span}
-use Rattle.thy_flat.specs.Flat.{AllLong}
-use Rattle.thy_flat.specs.Spans.{span, first_block, head_len, rest_of, head_read, gathered, head_put, scattered}
-use Rattle.thy_flat.proofs.LongLemmas.{AllLong-head_put}
-use Rattle.thy_flat.proofs.SpanLaws.{gathered-none, gathered-rest, scattered-none, scattered-rest, head_put-others}
+use Rattle.thy_block.specs.declared.span.Span.{Span}
+use Rattle.thy_block.specs.Flat.{AllLong}
+use Rattle.thy_block.specs.Spans.{span, first_block, head_len, rest_of, head_read, gathered, head_put, scattered}
+use Rattle.thy_block.proofs.LongLemmas.{AllLong-head_put}
+use Rattle.thy_block.proofs.SpanLaws.{gathered-none, gathered-rest, scattered-none, scattered-rest, head_put-others}
 use Rattle.thy_isa.specs.declared.state.Cause.{Cause}
 use Rattle.thy_isa.specs.declared.state.CpuState.{CpuState}
 use Rattle.thy_isa.specs.declared.state.Effect.{Effect}
@@ -21,7 +21,7 @@ use Rattle.thy_isa.specs.Moves.{moves_of, number_in, outgoing}
 use Rattle.thy_isa.specs.OnBlocks.{calls_in, effect_in, bytes_in, cpu_after, blocks_after}
 use Rattle.thy_isa.specs.Step.{fetched as unless_trapped, fetch_fault, is_running}
 use Rattle.thy_isa.proofs.StorableLaws.{finished-room}
-use Rattle.thy_epoch.specs.Epoch.{exhausted}
+use Rattle.thy_hart.specs.Epoch.{exhausted}
 use Rattle.thy_hart.specs.declared.hand.Hand.{Hand}
 use Rattle.thy_hart.specs.declared.hand.Hand.TheVariants.{Nothing, Reading, Reserving, Writing, Retiring}
 use Rattle.thy_hart.specs.declared.hand.HartStep.{HartStep}

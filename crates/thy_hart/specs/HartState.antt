@@ -3,8 +3,8 @@
 use Rattle.std.specs.Prelude.{◌≡◌, ℕ, ◌+◌, ◌-◌, ◌<◌, ◌≤◌, ◌==◌, Bool, true, false, if◌then◌else◌, List, [], length, Option, Some, None}
 use Rattle.thy_block.specs.declared.parameters.Parameters.{Parameters}
 use Rattle.thy_block.specs.Geometry.{IsInRange, memory_blocks, program_size}
-use Rattle.thy_flat.specs.declared.span.Span.{Span}
-use Rattle.thy_flat.specs.Spans.{IsSpanOf, span, first_block, rest_of}
+use Rattle.thy_block.specs.declared.span.Span.{Span}
+use Rattle.thy_block.specs.Spans.{IsSpanOf, span, first_block, rest_of}
 use Rattle.thy_isa.specs.declared.state.Cause.{Cause}
 use Rattle.thy_isa.specs.declared.state.CpuState.{CpuState}
 use Rattle.thy_isa.specs.declared.state.Effect.{Effect}
@@ -12,8 +12,8 @@ use Rattle.thy_isa.specs.declared.state.Effect.TheVariants.{Next, Set, Read, Wri
 use Rattle.thy_isa.specs.Effects.{size_of}
 use Rattle.thy_isa.specs.Moves.{outgoing_len}
 use Rattle.thy_isa.specs.Step.{fetch_fault}
-use Rattle.thy_epoch.specs.Epoch.{Epoch}
-use Rattle.thy_epoch.specs.Epoch as epochs
+use Rattle.thy_hart.specs.Epoch.{Epoch}
+use Rattle.thy_hart.specs.Epoch as epochs
 use Rattle.thy_hart.specs.declared.hand.Hand.{Hand}
 use Rattle.thy_hart.specs.declared.hand.Hand.TheVariants.{Nothing, Reading, Reserving, Writing, Retiring}
 

@@ -7,3 +7,4 @@ pub mod MicroSteps
 pub mod OneStep
 pub mod Laws
 pub mod Rows
+pub mod Epoch

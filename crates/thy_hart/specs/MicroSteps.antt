@@ -7,8 +7,8 @@ use Rattle.thy_block.specs.Geometry.{memory_blocks, program_size}
 use Rattle.thy_block.specs.LittleEndian.{number_at}
 use Rattle.thy_cache.specs.Contents.{Contents, hits, dirty_count, KeepsSize}
 use Rattle.thy_cache.specs.Flat.{flat, AgreesStill}
-use Rattle.thy_flat.specs.declared.span.Span.{Span}
-use Rattle.thy_flat.specs.Spans.{span, first_block, gathered, head_put}
+use Rattle.thy_block.specs.declared.span.Span.{Span}
+use Rattle.thy_block.specs.Spans.{span, first_block, gathered, head_put}
 use Rattle.thy_isa.specs.declared.state.Cause.{Cause}
 use Rattle.thy_isa.specs.declared.state.CpuState.{CpuState}
 use Rattle.thy_isa.specs.declared.state.Effect.{Effect}

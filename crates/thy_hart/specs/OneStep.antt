@@ -8,8 +8,8 @@ use Rattle.thy_block.specs.Device.{block_at}
 use Rattle.thy_block.specs.Geometry.{console_room}
 use Rattle.thy_block.specs.Store.{Holding}
 use Rattle.thy_cache.specs.Contents.{victim_of, dirty_count, KeepsSize}
-use Rattle.thy_flat.specs.Flat.{AllLong}
-use Rattle.thy_flat.specs.Spans.{gathered, scattered}
+use Rattle.thy_block.specs.Flat.{AllLong}
+use Rattle.thy_block.specs.Spans.{gathered, scattered}
 use Rattle.thy_isa.specs.declared.state.Effect.{Effect}
 use Rattle.thy_isa.specs.Moves.{outgoing}
 use Rattle.thy_isa.specs.OnBlocks.{state_from, effect_in, bytes_in, cpu_after, blocks_after}

@@ -5,14 +5,14 @@ use Rattle.thy_block.specs.declared.block.Block.{Block}
 use Rattle.thy_block.specs.declared.cause.EndCause.{EndCause}
 use Rattle.thy_block.specs.declared.cause.EndCause.TheVariants.{Exhausted}
 use Rattle.thy_cache.specs.Contents.{Contents, read_from, written_at}
-use Rattle.thy_flat.specs.declared.span.Span.{Span}
-use Rattle.thy_flat.specs.Spans.{first_block, first_byte, head_len, head_read, head_put, rest_of}
+use Rattle.thy_block.specs.declared.span.Span.{Span}
+use Rattle.thy_block.specs.Spans.{first_block, first_byte, head_len, head_read, head_put, rest_of}
 use Rattle.thy_isa.specs.declared.state.CpuState.{CpuState}
 use Rattle.thy_isa.specs.declared.state.Effect.{Effect}
 use Rattle.thy_isa.specs.Moves.{moves_of, brings, outgoing}
 use Rattle.thy_isa.specs.OnBlocks.{calls_in, effect_in, cpu_after}
 use Rattle.thy_isa.specs.Step.{is_running}
-use Rattle.thy_epoch.specs.Epoch.{Epoch, retired_once, exhausted}
+use Rattle.thy_hart.specs.Epoch.{Epoch, retired_once, exhausted}
 use Rattle.thy_hart.specs.declared.hand.Hand.{Hand}
 use Rattle.thy_hart.specs.declared.hand.Hand.TheVariants.{Nothing, Reading, Reserving, Writing, Retiring}
 use Rattle.thy_hart.specs.declared.hand.HartStep.{HartStep}

@@ -7,8 +7,7 @@ ghost use Rattle.thy_hart.specs.MicroSteps.{EndsBy, micro_step};
 ghost use Rattle.thy_hart.specs.Outcomes.{begun, written_on};
 ghost use Rattle.thy_hart.specs.HartState.{blocks_of};
 
-use thy_block::EndCause;
-use thy_flat::Span;
+use thy_block::{EndCause, Span};
 use thy_isa::Effect;
 
 /// What the hart does next of the instruction in hand. A span that it names has bytes, at most 64, in one or

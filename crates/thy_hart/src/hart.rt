@@ -5,7 +5,7 @@ ghost use Rattle.thy_cache.specs.Contents.{dirty_count};
 ghost use Rattle.thy_isa.specs.declared.state.Status.TheVariants.{Running};
 ghost use Rattle.thy_isa.specs.Step.{cpu_crossed};
 ghost use Rattle.thy_hart.specs.declared.hand.Hand.TheVariants.{Nothing};
-ghost use Rattle.thy_epoch.specs.Epoch.{next_epoch};
+ghost use Rattle.thy_hart.specs.Epoch.{next_epoch};
 ghost use Rattle.thy_hart.specs.HartState.{new_hart, to_reserve};
 ghost use Rattle.thy_hart.specs.Outcomes.{given};
 ghost use Rattle.thy_hart.specs.Moments.{moment, brings_line, IsReady};
@@ -13,6 +13,7 @@ ghost use Rattle.thy_hart.specs.OneStep.{IsStep};
 ghost use Rattle.thy_hart.specs.Rows.{Takes, moved_then};
 ghost use Rattle.thy_block.specs.Store.{Holding};
 
+use crate::EpochState;
 use crate::bring::bring;
 use crate::hand::{HartStep, MicroStep};
 use crate::in_hand::InHand;
@@ -21,7 +22,6 @@ use std::marker::Model;
 use thy_block::{BlockStore, Geometry, NvmError};
 use thy_cache::Cache;
 use thy_decoded::DecodedWords;
-use thy_epoch::EpochState;
 use thy_isa::CpuState;
 
 /// The hart in front, of RV64IM, with its epoch and the other hart, if there are two. It executes an instruction in

@@ -4,7 +4,7 @@
 #![tactic(auto)]
 
 ghost use Rattle.std.specs.Prelude.{◌≡◌, ◌+◌, ◌%◌, ◌≤◌, IfSome};
-ghost use Rattle.thy_flat.specs.Spans.{first_byte};
+ghost use Rattle.thy_block.specs.Spans.{first_byte};
 ghost use Rattle.thy_isa.specs.Effects.{size_of};
 ghost use Rattle.thy_isa.specs.declared.state.Effect.TheVariants.{Next, Set};
 ghost use Rattle.thy_hart.specs.declared.in_hand.Stage.TheVariants.{Idle};
@@ -12,8 +12,7 @@ ghost use Rattle.thy_hart.specs.InHand.{span_of, load_of, store_of};
 
 use crate::hand::Hand;
 use std::marker::Model;
-use thy_block::BLOCK_SIZE;
-use thy_flat::{Piece, Span};
+use thy_block::{BLOCK_SIZE, Piece, Span};
 use thy_isa::{Effect, Extend, Reg, Width, bytes_in};
 
 /// The bytes that a load or a store moves, which lie within one block: where in memory the first is, and how many they are.

@@ -1,12 +1,15 @@
 //! One hart: an instruction in micro-steps through a write-back cache, over any store of blocks. Callers rely on
 //! `Hart::step`, which equals its specification, and on `a_step_follows_on`: the step that retires an instruction makes
-//! the plain machine's next state.
+//! the plain machine's next state. `EpochState` is the state of the epoch under execution: its number, what it has
+//! retired, and why it is over. Each of its calls equals its specification, and the epoch retires less than its length
+//! until it is over.
 //!
-//! Open specs/Moments.antt first, then specs/OneStep.antt, and src/hart.rt. It depends on thy_block, thy_flat, thy_isa,
-//! thy_decoded, thy_cache and thy_epoch; thy_core_laws and thy_core depend on it.
+//! Open specs/Moments.antt first, then specs/OneStep.antt and specs/Epoch.antt, and src/hart.rt. It depends on
+//! thy_block, thy_isa, thy_decoded and thy_cache; thy_scheme and thy_core depend on it.
 #![tactic(auto)]
 
 mod bring;
+mod epoch;
 mod hand;
 mod hart;
 mod in_hand;
@@ -14,6 +17,7 @@ mod laws;
 mod micro_steps;
 mod pieces;
 
+pub use epoch::EpochState;
 pub use hand::{Hand, HartStep};
 pub use hart::Hart;
 pub use laws::{

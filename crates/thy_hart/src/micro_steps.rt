@@ -6,7 +6,7 @@ ghost use Rattle.thy_block.specs.Geometry.{IsInRange, memory_blocks, program_siz
 ghost use Rattle.thy_block.specs.LittleEndian.{number_bytes};
 ghost use Rattle.thy_cache.specs.Contents.{Contents, dirty_count, place_of, read_from, KeepsSize};
 ghost use Rattle.thy_cache.specs.Flat.{AgreesStill, KeepsLines};
-ghost use Rattle.thy_flat.specs.Spans.{IsSpanOf, span, first_block, first_byte};
+ghost use Rattle.thy_block.specs.Spans.{IsSpanOf, span, first_block, first_byte};
 ghost use Rattle.thy_isa.specs.Access.{IsWithin};
 ghost use Rattle.thy_isa.specs.declared.state.CallState.{CallState as Calls};
 ghost use Rattle.thy_isa.specs.declared.state.Effect.TheVariants.{Next, Set, Read, Write, Environment};
@@ -23,13 +23,12 @@ ghost use Rattle.thy_hart.specs.declared.hand.HartStep.TheVariants.{Moved};
 ghost use Rattle.thy_hart.specs.declared.hand.MicroStep.TheVariants.{Taken};
 ghost use Rattle.thy_hart.specs.MicroSteps.{ActsAll, IsFetchedSpan, ReadsWord, FetchesIn, ReadsIn, WritesIn, IsActed, micro_step};
 
+use crate::EpochState;
 use crate::hand::{HartStep, MicroStep, ShortStep};
 use crate::in_hand::{Access, InHand, Stage};
-use thy_block::{EndCause, Geometry};
+use thy_block::{EndCause, Geometry, Span};
 use thy_cache::{Cache, LinePlace};
 use thy_decoded::{DecodedWords, holds, operated};
-use thy_epoch::EpochState;
-use thy_flat::Span;
 use thy_isa::{
     Cause, CpuState, Effect, Extend, Instr, Reg, Width, after, bytes_in, fetch_fault, finish_alone,
     is_running, number, within, word,

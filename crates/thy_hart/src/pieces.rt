@@ -7,7 +7,7 @@ ghost use Rattle.arrayvec.specs.ArrayVec.{array_vec_len};
 ghost use Rattle.thy_block.specs.Geometry.{IsInRange, memory_blocks, program_size};
 ghost use Rattle.thy_cache.specs.Contents.{dirty_count, place_of, read_from, KeepsSize};
 ghost use Rattle.thy_cache.specs.Flat.{AgreesStill, KeepsLines};
-ghost use Rattle.thy_flat.specs.Spans.{first_block};
+ghost use Rattle.thy_block.specs.Spans.{first_block};
 ghost use Rattle.thy_isa.specs.Access.{IsWithin};
 ghost use Rattle.thy_isa.specs.declared.state.Effect.TheVariants.{Environment, Trap};
 ghost use Rattle.thy_isa.specs.Moves.{outgoing};
@@ -24,9 +24,8 @@ ghost use Rattle.thy_hart.specs.MicroSteps.{ReadsIn, WritesIn, IsActed, EndsBy, 
 use crate::hand::{Hand, HartStep, MicroStep, ShortStep, begun, written_on};
 use crate::in_hand::Stage;
 use crate::micro_steps::{HartParts, blocks_of};
-use thy_block::EndCause;
+use thy_block::{EndCause, Piece, Span, take_head};
 use thy_cache::{Cache, LinePlace};
-use thy_flat::{Piece, Span, take_head};
 use thy_isa::{
     CallState, Cause, Effect, brought, finish, finish_alone, is_running, modified_bytes, moves,
     number_in,

@@ -10,10 +10,10 @@ use Rattle.thy_block.specs.LittleEndian.{number_at, number_bytes}
 use Rattle.thy_block.proofs.InsideLemmas.{is_inside-true}
 use Rattle.thy_block.proofs.LittleEndianLemmas.{number_at-take, number_at-drop}
 use Rattle.thy_block.proofs.WrittenLemmas.{take-written, drop-written, take-written_behind, drop-written_behind, take-written_end, take-drop_take}
-use Rattle.thy_flat.specs.Flat.{flat, memory_bytes, console_bytes}
-use Rattle.thy_flat.specs.Spans.{span, IsSpanOf, gathered, scattered}
-use Rattle.thy_flat.proofs.MemoryLaws.{size_inside, room_inside, length-memory_bytes, length-console_bytes}
-use Rattle.thy_flat.proofs.SpanLaws.{gathered-none, gathered-flat, scattered-none, flat-scattered}
+use Rattle.thy_block.specs.Flat.{flat, memory_bytes, console_bytes}
+use Rattle.thy_block.specs.Spans.{span, IsSpanOf, gathered, scattered}
+use Rattle.thy_block.proofs.MemoryLaws.{size_inside, room_inside, length-memory_bytes, length-console_bytes}
+use Rattle.thy_block.proofs.SpanLaws.{gathered-none, gathered-flat, scattered-none, flat-scattered}
 use Rattle.thy_isa.specs.declared.instr.Amo.{Amo}
 use Rattle.thy_isa.specs.declared.instr.Width.{Width}
 use Rattle.thy_isa.specs.declared.state.Cause.{Cause}

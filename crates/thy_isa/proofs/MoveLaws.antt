@@ -3,7 +3,7 @@ use Rattle.std.proofs.Common.{◌≡◌, ℕ, ◌+◌, ◌-◌, ◌≤◌, List,
 use Rattle.std.proofs.lemmas.List.{length-take-le, length-drop}
 use Rattle.thy_block.specs.declared.parameters.Parameters.{Parameters}
 use Rattle.thy_block.specs.Geometry.{IsInRange, memory_blocks, program_size}
-use Rattle.thy_flat.specs.Spans.{span, IsSpanOf}
+use Rattle.thy_block.specs.Spans.{span, IsSpanOf}
 use Rattle.thy_isa.specs.declared.instr.Width.{Width}
 use Rattle.thy_isa.specs.declared.instr.Width.TheVariants.{Byte, Half, Word, Double}
 use Rattle.thy_isa.specs.declared.state.Call.{Call}

@@ -3,7 +3,7 @@
 -- that it writes. The blocks of the console follow those of program memory.
 use Rattle.std.specs.Prelude.{ℕ, ◌+◌, ◌-◌, List, [], take, drop}
 use Rattle.thy_block.specs.LittleEndian.{number_at, number_bytes}
-use Rattle.thy_flat.specs.Spans.{span}
+use Rattle.thy_block.specs.Spans.{span}
 use Rattle.thy_isa.specs.declared.state.Call.{Call}
 use Rattle.thy_isa.specs.declared.state.Call.TheVariants.{Answer, Exit, Break, Take, Give}
 use Rattle.thy_isa.specs.declared.state.CallState.{CallState}

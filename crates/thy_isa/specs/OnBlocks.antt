@@ -5,8 +5,8 @@ use Rattle.thy_block.specs.declared.block.Block.{Block}
 use Rattle.thy_block.specs.declared.parameters.Parameters.{Parameters}
 use Rattle.thy_block.specs.Geometry.{program_size, console_room}
 use Rattle.thy_block.specs.LittleEndian.{number_at}
-use Rattle.thy_flat.specs.Flat.{memory_bytes, console_bytes}
-use Rattle.thy_flat.specs.Spans.{span, gathered, scattered}
+use Rattle.thy_block.specs.Flat.{memory_bytes, console_bytes}
+use Rattle.thy_block.specs.Spans.{span, gathered, scattered}
 use Rattle.thy_isa.specs.declared.state.CallState.{CallState}
 use Rattle.thy_isa.specs.declared.state.CpuState.{CpuState}
 use Rattle.thy_isa.specs.declared.state.Effect.{Effect}

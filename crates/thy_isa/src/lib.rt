@@ -3,7 +3,7 @@
 //! of a step, which equal their specifications, and on `blocks_make_the_step`: done over blocks they are the step
 //! over bytes.
 //!
-//! Open specs/Step.antt first, then specs/Table.antt, and src/effects.rt. It depends on thy_block and thy_flat; every
+//! Open specs/Step.antt first, then specs/Table.antt, and src/effects.rt. It depends on thy_block; every
 //! crate that names a processor or a state depends on it: thy_plain, thy_make, thy_hart, thy_record, thy_text and all
 //! from thy_control on.
 #![tactic(auto)]

@@ -16,7 +16,7 @@ use crate::instr::{Amo, Width};
 use crate::numbers::number;
 use crate::regs::Regs;
 use crate::state::{Call, CallState, Effect, Moves};
-use thy_flat::{Piece, Span, extend};
+use thy_block::{Piece, Span, extend};
 
 /// No bytes.
 const NONE: Span = Span { at: 0, len: 0 };

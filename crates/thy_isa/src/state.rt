@@ -5,8 +5,7 @@ ghost use Rattle.thy_isa.specs.Step.{cpu_of, state_of, zero_cpu};
 
 use crate::instr::{Amo, Extend, Reg, Width};
 use crate::regs::Regs;
-use thy_block::Bytes;
-use thy_flat::Span;
+use thy_block::{Bytes, Span};
 
 /// Whether the program runs, and how it ended if it does not.
 #[derive(Clone, Copy, Debug, PartialEq, Eq)]

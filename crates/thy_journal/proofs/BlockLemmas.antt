@@ -5,12 +5,12 @@ use Rattle.std.proofs.lemmas.List.FromFn.{length-map-range_with_len, get_or-map-
 use Rattle.thy_block.specs.declared.block.Block.{Block}
 use Rattle.thy_block.specs.Device.{Device, block_at, zero_block}
 use Rattle.thy_block.specs.Geometry.{memory_blocks}
-use Rattle.thy_engine.specs.declared.stage.EngineStage.{EngineStage}
-use Rattle.thy_engine.specs.declared.stage.EngineStage.TheVariants.{Idle, Body, InRound, Tail}
-use Rattle.thy_engine.specs.Progress.{phase_of, is_applying}
-use Rattle.thy_log.specs.Holding.{works}
-use Rattle.thy_log.specs.State.{State, home_of, work_of}
-use Rattle.thy_journal_laws.specs.Design.{committed_at}
+use Rattle.thy_checkpoint.specs.declared.engine_stage.EngineStage.{EngineStage}
+use Rattle.thy_checkpoint.specs.declared.engine_stage.EngineStage.TheVariants.{Idle, Body, InRound, Tail}
+use Rattle.thy_checkpoint.specs.Progress.{phase_of, is_applying}
+use Rattle.thy_journal_parts.specs.Holding.{works}
+use Rattle.thy_journal_parts.specs.State.{State, home_of, work_of}
+use Rattle.thy_journal_parts.specs.Design.{committed_at}
 
 pub small : (s : State) (n : Device) (b : ℕ) → b < length (works s n) → b < memory_blocks s.p
 small s n b low = omega (arith, low, length-map-range_with_len (work_of s n) 0 (memory_blocks s.p))

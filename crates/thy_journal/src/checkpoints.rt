@@ -3,9 +3,9 @@ ghost use Rattle.std.specs.Prelude.{◌≡◌};
 
 use crate::fills::Refill;
 use thy_block::{Block, Geometry, Nvm, NvmError};
-use thy_engine::Checkpoints;
+use thy_checkpoint::Checkpoints;
+use thy_journal_parts::Log;
 use thy_layout::{EngineStep, slot_of_epoch};
-use thy_log::Log;
 
 /// An entry as a position.
 fn position(entry: Option<usize>) -> Option<u64>
@@ -20,7 +20,7 @@ fn position(entry: Option<usize>) -> Option<u64>
 /// A position is an entry of the table. The body writes each live entry's buffer into the journal of the epoch's slot, the
 /// tail to the home of its block; after that all entries are free.
 impl Checkpoints for Refill {
-    ghost use Rattle.thy_journal_laws.specs.Design.{items_journal};
+    ghost use Rattle.thy_journal_parts.specs.Design.{items_journal};
 
     ghost items = { items_journal };
 

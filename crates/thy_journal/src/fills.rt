@@ -1,11 +1,10 @@
 //! What the boot fills.
 use thy_block::{Block, Geometry, Nvm, NvmError};
-use thy_boot::Fills;
+use thy_checkpoint::Fills;
 use thy_isa::MachState;
 use thy_journal_image::{JournalImages, home};
+use thy_journal_parts::{Log, list_all, next_listed, start_slot_block};
 use thy_layout::{epoch_in, slot_of_epoch};
-use thy_log::Log;
-use thy_refill::{list_all, next_listed, start_slot_block};
 
 /// The journal's part of the boot: the log, whose buffers are filled from the journal of the slot that the commit block
 /// names.
@@ -18,8 +17,8 @@ impl Fills for Refill {
     type Control = Log;
 
     ghost use Rattle.std.specs.Prelude.{refl};
-    ghost use Rattle.thy_refill.specs.Filling.{filling_journal};
-    ghost use Rattle.thy_refill.proofs.LawLemmas.{log_is_filled};
+    ghost use Rattle.thy_journal_parts.specs.Filling.{filling_journal};
+    ghost use Rattle.thy_journal_parts.proofs.LawLemmas.{log_is_filled};
 
     ghost filling = { filling_journal };
 

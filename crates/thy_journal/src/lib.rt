@@ -1,7 +1,7 @@
 //! The redo journal: a scheme of checkpoints whose stores go into buffers of the DRAM. A checkpoint writes them into
 //! the journal of its slot, commits, and then copies each block home, while the hart waits.
 //!
-//! Open src/checkpoints.rt first, then src/parts.rt. It depends on thy_log, thy_refill, thy_compose, thy_journal_laws and
+//! Open src/checkpoints.rt first, then src/parts.rt. It depends on thy_journal_parts, thy_compose and
 //! their dependencies.
 #![tactic(auto)]
 

@@ -1,13 +1,13 @@
 //! Power, loads and stores.
 ghost use Rattle.std.specs.Prelude.{◌≡◌};
-ghost use Rattle.thy_engine.specs.Progress.{is_applying};
+ghost use Rattle.thy_checkpoint.specs.Progress.{is_applying};
 
 use crate::fills::Refill;
 use std::alloc::{AllocError, Global};
 use thy_block::{Block, Geometry, Nvm, NvmError, Stored};
+use thy_checkpoint::EngineStage;
 use thy_dram::Dram;
-use thy_engine::EngineStage;
-use thy_log::Log;
+use thy_journal_parts::Log;
 use thy_parts::Parts;
 
 /// Whether the journal of the committed checkpoint is applied.
@@ -20,8 +20,8 @@ fn is_applied(stage: EngineStage) -> bool
 /// Blocks that the log's table lists are loaded from their buffers, all others from their homes; a store goes into a buffer.
 /// Every seal leaves the log as it is, and no block has ever to be merged or promoted.
 impl Parts for Refill {
-    ghost use Rattle.thy_journal_laws.proofs.PartsLemmas.{are_parts as parts_of_journal};
-    ghost use Rattle.thy_journal_laws.specs.Design.{journal_parts};
+    ghost use Rattle.thy_journal_parts.proofs.PartsLemmas.{are_parts as parts_of_journal};
+    ghost use Rattle.thy_journal_parts.specs.Design.{journal_parts};
 
     ghost parts = { journal_parts };
 

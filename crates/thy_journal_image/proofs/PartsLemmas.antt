@@ -16,10 +16,10 @@ use Rattle.thy_layout.specs.Entries.{entry_of}
 use Rattle.thy_layout.proofs.EntryLemmas.{entry_of-Some, Lists-inside}
 use Rattle.thy_layout.proofs.AskingLemmas.{half}
 use Rattle.thy_layout.proofs.ReadBackLemmas.{epoch_of-commit_of, commit_fault-commit_of, is_zero-commit_of}
-use Rattle.thy_crash.proofs.SavedLemmas.{next_image-commit}
-use Rattle.thy_protocol.specs.Issuing.{CheckpointParts, slot_of, ArePlaced, ArePartsOf, IsCheckpoint}
+use Rattle.thy_layout.proofs.SavedLemmas.{next_image-commit}
+use Rattle.thy_view.specs.Issuing.{CheckpointParts, slot_of, ArePlaced, ArePartsOf, IsCheckpoint}
 use Rattle.thy_layout.specs.Layout.{fault_of}
-use Rattle.thy_protocol.proofs.IssuingLemmas.{issued_is_checkpoint}
+use Rattle.thy_view.proofs.IssuingLemmas.{issued_is_checkpoint}
 use Rattle.thy_journal_image.specs.Places.{scheme_number, slot_blocks, slot_place, first_home, image_blocks, journal_place, place_by, place_of}
 use Rattle.thy_journal_image.specs.Slots.{IsTable, table_in, slot_fault}
 use Rattle.thy_journal_image.specs.Layout.{journal_layouts}

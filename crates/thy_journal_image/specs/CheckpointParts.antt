@@ -7,14 +7,14 @@ use Rattle.thy_block.specs.declared.parameters.Parameters.{Parameters}
 use Rattle.thy_block.specs.Device.{Device, block_at, newest}
 use Rattle.thy_block.specs.Geometry.{IsInRange, memory_blocks}
 use Rattle.thy_block.specs.Places.{commit_place, header_place}
-use Rattle.thy_crash.specs.Saved.{IsIssued, next_image}
+use Rattle.thy_layout.specs.Saved.{IsIssued, next_image}
 use Rattle.thy_isa.specs.declared.state.CpuState.{CpuState}
 use Rattle.thy_isa.specs.OnBlocks.{state_from}
 use Rattle.thy_layout.specs.Commit.{epoch_of, commit_of, slot_of_epoch}
 use Rattle.thy_layout.specs.Cpu.{IsRecordable, cpu_of_record}
 use Rattle.thy_layout.specs.Decoded.{At}
 use Rattle.thy_layout.specs.Header.{header_fault}
-use Rattle.thy_protocol.specs.Issuing.{CheckpointParts, AreIssued}
+use Rattle.thy_view.specs.Issuing.{CheckpointParts, AreIssued}
 use Rattle.thy_layout.specs.Layout.{decode_by, looked_by, slot_in}
 use Rattle.thy_layout.specs.TableSlots.{slot_block_of}
 use Rattle.thy_journal_image.specs.Places.{scheme_number, slot_blocks, slot_place, image_blocks, place_of}

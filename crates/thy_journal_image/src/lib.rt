@@ -3,7 +3,7 @@
 //! `a_checkpoint_is_issued`, `free_is_not_looked_at`, and `JournalImages`, by which files and devices are read.
 //!
 //! Open specs/Places.antt first, then specs/Slots.antt and specs/Layout.antt, and src/laws.rt. It depends on thy_block,
-//! thy_crash, thy_isa, thy_layout and thy_protocol; thy_log and the scheme above it depend on it.
+//! thy_isa, thy_layout and thy_view; thy_journal_parts and thy_answer depend on it.
 #![tactic(auto)]
 
 mod images;

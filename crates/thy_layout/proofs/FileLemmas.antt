@@ -9,8 +9,8 @@ use Rattle.thy_block.specs.Device.{zero_block, block_at}
 use Rattle.thy_block.specs.LittleEndian.{number_at}
 use Rattle.thy_block.proofs.BlockLemmas.{length-block_bytes, block_bytes-long}
 use Rattle.thy_block.proofs.LittleEndianLemmas.{number_at-take, number_at-drop}
-use Rattle.thy_flat.specs.Flat.{flat, AllLong}
-use Rattle.thy_flat.proofs.FlatLemmas.{length-flat, flat_part}
+use Rattle.thy_block.specs.Flat.{flat, AllLong}
+use Rattle.thy_block.proofs.FlatLemmas.{length-flat, flat_part}
 use Rattle.thy_block.specs.Words.{word_of}
 use Rattle.thy_layout.specs.Cpu.{record_word}
 use Rattle.thy_layout.specs.Entries.{entry_from}

@@ -10,7 +10,7 @@ use Rattle.thy_layout.specs.declared.bad_image.BadImage.{BadImage}
 use Rattle.thy_layout.specs.declared.bad_image.BadImage.TheVariants.{Empty}
 use Rattle.thy_layout.specs.Commit.{is_zero, epoch_of}
 use Rattle.thy_layout.specs.Decoded.{Decoded, Nothing, Refused, At}
-use Rattle.thy_crash.specs.Saved.{IsCopy}
+use Rattle.thy_layout.specs.Saved.{IsCopy}
 use Rattle.thy_layout.proofs.AskingLemmas.{map-alike}
 use Rattle.thy_layout.proofs.EntryFaultLemmas.{neither}
 use Rattle.thy_layout.specs.Layout.{Layout, header_bad, commit_bad, state_by, blocks_at, slot_places, memory_places, slot_in, memory_in, is_length, is_long, is_sized, fault_of, fault_in, refused_or_at, meaning_of, decode_sized, decode_by, parts_of, looked_by, IsWhole}

@@ -18,3 +18,6 @@ pub mod ReaderLemmas
 pub mod TableRefusalLemmas
 pub mod TableSlotLemmas
 pub mod LookedLemmas
+pub mod FixedLemmas
+pub mod SavedLemmas
+pub mod SparesLemmas

@@ -11,8 +11,8 @@ use Rattle.thy_block.specs.Device.{zero_block, block_at}
 use Rattle.thy_block.specs.Geometry.{IsInRange, memory_blocks, program_size}
 use Rattle.thy_block.proofs.BlockLemmas.{block_bytes-long}
 use Rattle.thy_block.proofs.RangeLemmas.{console_below}
-use Rattle.thy_flat.specs.Flat.{flat, memory_bytes, console_bytes, AllLong}
-use Rattle.thy_flat.proofs.FlatLemmas.{flat_more, flat-take, flat-drop, length-flat}
+use Rattle.thy_block.specs.Flat.{flat, memory_bytes, console_bytes, AllLong}
+use Rattle.thy_block.proofs.FlatLemmas.{flat_more, flat-take, flat-drop, length-flat}
 use Rattle.thy_isa.specs.declared.state.CpuState.{CpuState}
 use Rattle.thy_isa.specs.OnBlocks.{state_from}
 use Rattle.thy_isa.specs.Step.{State, state_with}

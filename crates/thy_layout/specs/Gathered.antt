@@ -2,7 +2,7 @@
 use Rattle.std.specs.Prelude.{ℕ, ◌<◌, List, length, map, take, drop, slice_index_or}
 use Rattle.thy_block.specs.declared.block.Block.{Block}
 use Rattle.thy_block.specs.Device.{block_at}
-use Rattle.thy_flat.specs.Flat.{flat}
+use Rattle.thy_block.specs.Flat.{flat}
 
 -- these are numbers of an image's blocks
 pub record AreInside (image : List Block) (places : List ℕ) : Type 0 where

@@ -15,7 +15,7 @@ use Rattle.thy_layout.specs.Commit.{is_zero, epoch_of, commit_fault}
 use Rattle.thy_layout.specs.Cpu.{cpu_of_record}
 use Rattle.thy_layout.specs.Decoded.{Decoded, Nothing, Refused, At, Reading}
 use Rattle.thy_layout.specs.Header.{header_fault}
-use Rattle.thy_crash.specs.Saved.{Looking}
+use Rattle.thy_layout.specs.Saved.{Looking}
 
 -- An image has a header, block 0, and a commit block, block 1. That names a slot, whose blocks give memory's places. A slot
 -- begins with the record of the processor.

@@ -4,12 +4,12 @@ use Rattle.thy_block.specs.declared.block.Block.{Block}
 use Rattle.thy_block.specs.declared.parameters.Parameters.{Parameters}
 use Rattle.thy_block.specs.Device.{zero_block, block_at}
 use Rattle.thy_block.specs.Places.{commit_place}
-use Rattle.thy_flat.specs.Flat.{flat, AllLong}
+use Rattle.thy_block.specs.Flat.{flat, AllLong}
 use Rattle.thy_isa.specs.Step.{State}
 use Rattle.thy_layout.specs.AreLayouts.{AreLayouts}
 use Rattle.thy_layout.specs.Commit.{is_zero}
 use Rattle.thy_layout.specs.Decoded.{Nothing, At}
-use Rattle.thy_crash.specs.Saved.{IsCopy}
+use Rattle.thy_layout.specs.Saved.{IsCopy}
 use Rattle.thy_layout.specs.Files.{decode_file}
 use Rattle.thy_layout.specs.Layout.{Layout, Layouts, decode_by, looked_by, IsWhole}
 

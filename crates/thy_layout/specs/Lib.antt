@@ -14,3 +14,7 @@ pub mod LayoutLaws
 pub mod AreLayouts
 pub mod TableSlots
 pub mod TableRefusals
+pub mod Fixed
+pub mod Laws
+pub mod Saved
+pub mod Spares

@@ -1,14 +1,20 @@
-//! What every image has, whatever its layout: header and commit block, by the number of the scheme, the processor's record,
-//! entries of tables, and the refusals. A layout says where slot and memory are and what else a slot has; with it an image
-//! means a state or nothing.
+//! What every image has, whatever its layout, and what power cuts leave of it. An image has a header and a commit
+//! block, by the number of the scheme, the processor's record, and entries of tables; a file may be refused. A layout
+//! says where slot and memory are and what else a slot has; with it an image means a state or nothing.
 //!
-//! Open specs/Layout.antt first, then specs/Commit.antt and specs/Cpu.antt, and src/slot.rt. It depends on thy_block,
-//! thy_crash, thy_flat and thy_isa; thy_record, thy_text and thy_view depend on it.
+//! A checkpoint is a whole image, and which of its places determine what it means is a function of the image, a list.
+//! The laws of src/crash_laws.rt say what each device call keeps of it and how the next image takes its place; a
+//! controller must show that its other writes spare the guarded places, and that two commit blocks in a row differ in
+//! one word. `a_cut_leaves_a_copy` is the first law.
+//!
+//! Open specs/Layout.antt first, then specs/Commit.antt, specs/Cpu.antt and specs/Saved.antt, and src/slot.rt. It
+//! depends on thy_block and thy_isa; thy_text, thy_view and what is above them depend on it.
 #![tactic(auto)]
 
 mod bad_image;
 mod commit;
 mod cpu;
+mod crash_laws;
 mod engine_step;
 mod file_blocks;
 mod found;
@@ -27,6 +33,11 @@ mod tables;
 pub use bad_image::BadImage;
 pub use commit::{commit_block, commit_fault, epoch_in, is_zero, slot_of_epoch, version_of};
 pub use cpu::cpu_block;
+pub use crash_laws::{
+    a_barrier_ends_the_doubt, a_barrier_makes_ready, a_commit_leaves_doubt, a_cut_leaves_a_copy,
+    blocks_are_written_in_turn, calls_spare, one_word_is_not_torn, reads_stay, spared_stays,
+    sparing_adds_up, what_is_left_is_kept, what_is_written_is_issued, whole_blocks_are_words,
+};
 pub use engine_step::EngineStep;
 pub use file_blocks::block_in;
 pub use found::Found;

@@ -8,7 +8,7 @@ use Rattle.thy_block.specs.Geometry.{IsInRange}
 use Rattle.thy_isa.specs.declared.state.Status.{Status}
 use Rattle.thy_isa.specs.Step.{State as Plain}
 use Rattle.thy_layout.specs.Cpu.{status_tag, status_value, is_status, IsOtherRecordable}
-use Rattle.thy_boot.specs.Start.{CanStart}
+use Rattle.thy_checkpoint.specs.Start.{CanStart}
 use Rattle.thy_machine_tests.specs.Least.{HasRoom, IsLeastStart}
 
 -- the start of a test fits the least memory, and can be recorded

@@ -2,3 +2,4 @@ mod LeastLemmas
 mod LogLemmas
 mod PoolLemmas
 mod PoweredLemmas
+mod CallLemmas

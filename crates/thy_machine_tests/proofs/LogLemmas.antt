@@ -11,25 +11,25 @@ use Rattle.thy_dram.proofs.DrawLemmas.{length-over}
 use Rattle.thy_isa.specs.Step.{State as Plain}
 use Rattle.thy_view.specs.Action.{after}
 use Rattle.thy_view.proofs.ActionLemmas.{down-after}
-use Rattle.thy_boot.specs.declared.stage.Stage.{Stage}
-use Rattle.thy_boot.specs.declared.stage.Stage.TheVariants.{Reads, Loads, Migrates, Over}
-use Rattle.thy_boot.specs.Boot.{Booting, new_boot}
-use Rattle.thy_boot.specs.Filling.{first_by}
-use Rattle.thy_boot.specs.Loads.{first_writes}
-use Rattle.thy_boot.specs.Migrating.{renewing}
-use Rattle.thy_protocol.specs.declared.round.Round.TheVariants.{Write, Settle, Commit, Confirm}
-use Rattle.thy_protocol.specs.Round.{round_action}
-use Rattle.thy_boot.specs.Start.{CanStart}
-use Rattle.thy_boot.specs.Steps.{Steps, StepsAt}
-use Rattle.thy_boot.proofs.ReadLemmas.{HasRead-new}
+use Rattle.thy_checkpoint.specs.declared.boot_stage.Stage.{Stage}
+use Rattle.thy_checkpoint.specs.declared.boot_stage.Stage.TheVariants.{Reads, Loads, Migrates, Over}
+use Rattle.thy_checkpoint.specs.Boot.{Booting, new_boot}
+use Rattle.thy_checkpoint.specs.Filling.{first_by}
+use Rattle.thy_checkpoint.specs.Loads.{first_writes}
+use Rattle.thy_checkpoint.specs.Migrating.{renewing}
+use Rattle.thy_view.specs.declared.round.Round.TheVariants.{Write, Settle, Commit, Confirm}
+use Rattle.thy_view.specs.Round.{round_action}
+use Rattle.thy_checkpoint.specs.Start.{CanStart}
+use Rattle.thy_checkpoint.specs.Steps.{Steps, StepsAt}
+use Rattle.thy_checkpoint.proofs.ReadLemmas.{HasRead-new}
 use Rattle.thy_journal_image.specs.Places.{slot_blocks, image_blocks}
-use Rattle.thy_log.specs.declared.entry.Listed.{Listed}
-use Rattle.thy_engine.specs.Progress.{Progress, Fits, Item, NoItem, BodyItem, RoundItem, TailItem, ReleaseItem, control_after, control_next, action_next, item_of}
-use Rattle.thy_journal_laws.specs.Design.{items_journal}
+use Rattle.thy_journal_parts.specs.declared.entry.Listed.{Listed}
+use Rattle.thy_checkpoint.specs.Progress.{Progress, Fits, Item, NoItem, BodyItem, RoundItem, TailItem, ReleaseItem, control_after, control_next, action_next, item_of}
+use Rattle.thy_journal_parts.specs.Design.{items_journal}
 use Rattle.thy_block.specs.Geometry.{memory_blocks}
-use Rattle.thy_log.specs.State.{State, IsSoundState, new_state}
-use Rattle.thy_log.specs.Stores.{after_store}
-use Rattle.thy_refill.specs.Filling.{filling_journal}
+use Rattle.thy_journal_parts.specs.State.{State, IsSoundState, new_state}
+use Rattle.thy_journal_parts.specs.Stores.{after_store}
+use Rattle.thy_journal_parts.specs.Filling.{filling_journal}
 use Rattle.thy_machine_tests.specs.Least.{all, HasRoom, off}
 use Rattle.thy_machine_tests.specs.LogParts.{IsOff, IsBegun, Boots, parts, AreParts}
 use Rattle.thy_machine_tests.proofs.LeastLemmas.{HasRoom-framed}

@@ -13,29 +13,29 @@ use Rattle.thy_isa.specs.declared.state.CpuState.{CpuState}
 use Rattle.thy_isa.specs.Step.{State as Plain}
 use Rattle.thy_view.specs.Action.{after}
 use Rattle.thy_view.proofs.ActionLemmas.{down-after}
-use Rattle.thy_boot.specs.declared.stage.Stage.{Stage}
-use Rattle.thy_boot.specs.declared.stage.Stage.TheVariants.{Reads, Loads, Migrates, Over}
-use Rattle.thy_boot.specs.Boot.{Booting, new_boot}
-use Rattle.thy_boot.specs.Filling.{first_by}
-use Rattle.thy_boot.specs.Loads.{first_writes}
-use Rattle.thy_boot.specs.Migrating.{renewing}
-use Rattle.thy_protocol.specs.declared.round.Round.TheVariants.{Write, Settle, Commit, Confirm}
-use Rattle.thy_protocol.specs.Round.{round_action}
-use Rattle.thy_boot.specs.Start.{CanStart}
-use Rattle.thy_boot.specs.Steps.{Steps, StepsAt}
-use Rattle.thy_boot.proofs.ReadLemmas.{HasRead-new}
+use Rattle.thy_checkpoint.specs.declared.boot_stage.Stage.{Stage}
+use Rattle.thy_checkpoint.specs.declared.boot_stage.Stage.TheVariants.{Reads, Loads, Migrates, Over}
+use Rattle.thy_checkpoint.specs.Boot.{Booting, new_boot}
+use Rattle.thy_checkpoint.specs.Filling.{first_by}
+use Rattle.thy_checkpoint.specs.Loads.{first_writes}
+use Rattle.thy_checkpoint.specs.Migrating.{renewing}
+use Rattle.thy_view.specs.declared.round.Round.TheVariants.{Write, Settle, Commit, Confirm}
+use Rattle.thy_view.specs.Round.{round_action}
+use Rattle.thy_checkpoint.specs.Start.{CanStart}
+use Rattle.thy_checkpoint.specs.Steps.{Steps, StepsAt}
+use Rattle.thy_checkpoint.proofs.ReadLemmas.{HasRead-new}
 use Rattle.thy_shadow_image.specs.Places.{slot_blocks, image_blocks}
-use Rattle.thy_engine.specs.declared.stage.EngineStage.{EngineStage}
-use Rattle.thy_engine.specs.declared.stage.EngineStage.TheVariants.{Idle, Body, InRound, Tail}
-use Rattle.thy_engine.specs.Progress.{Progress, Fits, Item, NoItem, BodyItem, RoundItem, TailItem, ReleaseItem, new_engine, begun, is_under_way, phase_of, control_after, control_next, action_next, item_of}
-use Rattle.thy_pool.specs.Commit.{sealed_state}
-use Rattle.thy_pool.specs.State.{State, IsSoundState}
-use Rattle.thy_pool.specs.Stores.{StoreCase, Into, Fill, Copy, store_case, after_case, after_store, after_drain, new_state}
+use Rattle.thy_checkpoint.specs.declared.engine_stage.EngineStage.{EngineStage}
+use Rattle.thy_checkpoint.specs.declared.engine_stage.EngineStage.TheVariants.{Idle, Body, InRound, Tail}
+use Rattle.thy_checkpoint.specs.Progress.{Progress, Fits, Item, NoItem, BodyItem, RoundItem, TailItem, ReleaseItem, new_engine, begun, is_under_way, phase_of, control_after, control_next, action_next, item_of}
+use Rattle.thy_shadow_parts.specs.Commit.{sealed_state}
+use Rattle.thy_shadow_parts.specs.State.{State, IsSoundState}
+use Rattle.thy_shadow_parts.specs.Stores.{StoreCase, Into, Fill, Copy, store_case, after_case, after_store, after_drain, new_state}
 use Rattle.thy_table.proofs.ListingLaws.{entry_at-empty}
-use Rattle.thy_repool.specs.Filling.{filling_shadow}
-use Rattle.thy_shadow_laws.specs.Design.{items_shadow, stands_at}
-use Rattle.thy_shadow_laws.proofs.DesignLemmas.{stands_drained}
-use Rattle.thy_shadow_laws.proofs.PartsLemmas.{first_committed}
+use Rattle.thy_shadow_parts.specs.Filling.{filling_shadow}
+use Rattle.thy_shadow_parts.specs.Design.{items_shadow, stands_at}
+use Rattle.thy_shadow_parts.proofs.DesignLemmas.{stands_drained}
+use Rattle.thy_shadow_parts.proofs.PartsLemmas.{first_committed}
 use Rattle.thy_machine_tests.specs.Least.{all, HasRoom, off}
 use Rattle.thy_machine_tests.specs.PoolParts.{IsOff, Boots, parts, AreParts}
 use Rattle.thy_machine_tests.proofs.LeastLemmas.{HasRoom-framed}

@@ -5,16 +5,16 @@ use Rattle.thy_block.specs.Device.{Device}
 use Rattle.thy_block.specs.Geometry.{memory_blocks}
 use Rattle.thy_block.specs.Places.{dram_blocks}
 use Rattle.thy_isa.specs.Step.{State as Plain}
-use Rattle.thy_boot.specs.Boot.{Booting, IsBoot}
-use Rattle.thy_boot.specs.Start.{CanStart}
-use Rattle.thy_boot.specs.Steps.{CanStep}
+use Rattle.thy_checkpoint.specs.Boot.{Booting, IsBoot}
+use Rattle.thy_checkpoint.specs.Start.{CanStart}
+use Rattle.thy_checkpoint.specs.Steps.{CanStep}
 use Rattle.thy_journal_image.specs.Places.{image_blocks}
-use Rattle.thy_protocol.specs.declared.round.Round.{Round}
-use Rattle.thy_engine.specs.declared.stage.EngineStage.TheVariants.{InRound}
-use Rattle.thy_engine.specs.Progress.{Progress, Fits}
-use Rattle.thy_journal_laws.specs.Design.{items_journal}
-use Rattle.thy_log.specs.State.{State}
-use Rattle.thy_refill.specs.Filling.{filling_journal}
+use Rattle.thy_view.specs.declared.round.Round.{Round}
+use Rattle.thy_checkpoint.specs.declared.engine_stage.EngineStage.TheVariants.{InRound}
+use Rattle.thy_checkpoint.specs.Progress.{Progress, Fits}
+use Rattle.thy_journal_parts.specs.Design.{items_journal}
+use Rattle.thy_journal_parts.specs.State.{State}
+use Rattle.thy_journal_parts.specs.Filling.{filling_journal}
 use Rattle.thy_machine_tests.specs.Least.{all, HasRoom, Off}
 
 -- both devices have the sizes of the least memory; the NVM is up, with nothing queued

@@ -7,7 +7,7 @@
 //!
 //! Open specs/Kinds.antt first, then specs/EventCycles.antt, specs/Shares.antt and src/tally.rt; for the causes
 //! specs/Causes.antt, specs/Epochs.antt and src/ledger.rt; for the program counters specs/Replaying.antt and src/replay.rt, and
-//! for the states specs/States.antt too. It stands on thy_base, thy_isa, thy_plain, thy_layout, thy_view and thy_run; on it
+//! for the states specs/States.antt too. It stands on thy_block, thy_base, thy_isa, thy_plain, thy_layout, thy_view and thy_run; on it
 //! stands the program observe.
 #![tactic(auto)]
 

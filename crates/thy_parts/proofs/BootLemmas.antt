@@ -14,26 +14,26 @@ use Rattle.thy_view.specs.declared.view.View.{View}
 use Rattle.thy_view.specs.Origin.{Origin, IsOrigin}
 use Rattle.thy_view.specs.Safe.{ceiling, Safe}
 use Rattle.thy_view.specs.Views.{doubt_of, loads}
-use Rattle.thy_protocol.specs.Keeps.{Tells}
+use Rattle.thy_view.specs.Keeps.{Tells}
 use Rattle.thy_parts.proofs.SlotLemmas.{is_long-own}
-use Rattle.thy_boot.specs.declared.stage.Stage.TheVariants.{Reads}
-use Rattle.thy_boot.specs.declared.stage.ReadStage.TheVariants.{Unread}
-use Rattle.thy_boot.specs.Boot.{Booting, IsBoot, new_boot}
-use Rattle.thy_boot.specs.Filling.{FillingOf, layout_at}
-use Rattle.thy_boot.specs.Laws.{IsGoing}
-use Rattle.thy_boot.specs.Left.{boot_left}
-use Rattle.thy_boot.specs.Shows.{seen_at}
-use Rattle.thy_boot.specs.Sound.{BootImages, IsSoundBoot, layout_for}
-use Rattle.thy_boot.proofs.FoundLemmas.{drains_keep_boot}
-use Rattle.thy_boot.proofs.SafeLemmas.{new_is_sound, sound_is_safe}
+use Rattle.thy_checkpoint.specs.declared.boot_stage.Stage.TheVariants.{Reads}
+use Rattle.thy_checkpoint.specs.declared.boot_stage.ReadStage.TheVariants.{Unread}
+use Rattle.thy_checkpoint.specs.Boot.{Booting, IsBoot, new_boot}
+use Rattle.thy_checkpoint.specs.Filling.{FillingOf, layout_at}
+use Rattle.thy_checkpoint.specs.Laws.{IsGoing}
+use Rattle.thy_checkpoint.specs.Left.{boot_left}
+use Rattle.thy_checkpoint.specs.Shows.{seen_at}
+use Rattle.thy_checkpoint.specs.Sound.{BootImages, IsSoundBoot, layout_for}
+use Rattle.thy_checkpoint.proofs.FoundLemmas.{drains_keep_boot}
+use Rattle.thy_checkpoint.proofs.SafeLemmas.{new_is_sound, sound_is_safe}
 use Rattle.thy_scheme.specs.Boots.{IsBootView, BootStays, BootDrains}
 use Rattle.thy_scheme.specs.Laws.{IsFound, BootsFound, BootHolds}
-use Rattle.thy_boot_laws.specs.Seen.{view_at, has_read_at, loads_at}
-use Rattle.thy_boot_laws.specs.Laws.{IsReadBy}
-use Rattle.thy_boot_laws.specs.Schemes.{BootIsSound, PowerIsNew, ZerosAreNothing}
-use Rattle.thy_boot_laws.proofs.StepLemmas.{view_is_kept, found_is_settled, sized-is, unread-at, loads_if_none}
-use Rattle.thy_boot_laws.proofs.PowerLemmas.{own_has_mark, new-is_boot}
-use Rattle.thy_engine.specs.Progress.{Progress, new_engine, is_under_way}
+use Rattle.thy_parts.specs.Seen.{view_at, has_read_at, loads_at}
+use Rattle.thy_parts.specs.BootLaws.{IsReadBy}
+use Rattle.thy_parts.specs.Schemes.{BootIsSound, PowerIsNew, ZerosAreNothing}
+use Rattle.thy_parts.proofs.SeenLemmas.{view_is_kept, found_is_settled, sized-is, unread-at, loads_if_none}
+use Rattle.thy_parts.proofs.PowerLemmas.{own_has_mark, new-is_boot}
+use Rattle.thy_checkpoint.specs.Progress.{Progress, new_engine, is_under_way}
 use Rattle.thy_parts.specs.AreParts.{AreParts}
 use Rattle.thy_parts.specs.Boots.{Boots, IsPowered}
 use Rattle.thy_parts.specs.Calls.{powered_on}

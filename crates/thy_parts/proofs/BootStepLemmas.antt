@@ -7,7 +7,7 @@ use Rattle.thy_block.specs.Device.{Device, block_at, newest, IsFramed}
 use Rattle.thy_block.proofs.DeviceLemmas.{newest-empty}
 use Rattle.thy_block.specs.declared.nvm.NvmError.{NvmError}
 use Rattle.thy_block.specs.Marks.{mark}
-use Rattle.thy_crash.specs.Saved.{Kept}
+use Rattle.thy_layout.specs.Saved.{Kept}
 use Rattle.thy_isa.specs.declared.state.CpuState.{CpuState}
 use Rattle.thy_isa.specs.OnBlocks.{state_from}
 use Rattle.thy_isa.specs.Step.{cpu_of, State as Plain, state_of}
@@ -29,36 +29,36 @@ use Rattle.thy_view.specs.Dram.{ActsOnDram}
 use Rattle.thy_view.specs.Safe.{ceiling, Safe}
 use Rattle.thy_view.proofs.StorableAt.{IsRecordable-at}
 use Rattle.thy_view.proofs.ActionLemmas.{down-after}
-use Rattle.thy_protocol.specs.Keeps.{Keeps}
-use Rattle.thy_protocol.specs.declared.round.Round.{Round}
-use Rattle.thy_protocol.specs.Moves.{IsKeeping}
+use Rattle.thy_view.specs.Keeps.{Keeps}
+use Rattle.thy_view.specs.declared.round.Round.{Round}
+use Rattle.thy_view.specs.Moves.{IsKeeping}
 use Rattle.thy_scheme.specs.CheckpointMarks.{only}
 use Rattle.thy_scheme.specs.Boots.{IsBooted, Loads, Restarts, Answers, BootsOn, BootFails}
 use Rattle.thy_scheme.specs.Scheme.{IsBooting, CanBoot}
-use Rattle.thy_boot.specs.Boot.{Booting, slot_read, IsBoot, answer_at, answer_of}
-use Rattle.thy_boot.specs.Filling.{layout_at, first_slot_of, FillingOf}
-use Rattle.thy_boot.specs.Recovers.{IsRestored}
-use Rattle.thy_boot.specs.Sound.{BootImages, start_mark, IsLoaded, layout_for, first_of, standing_in_boot, images_after, IsRecovering, IsSoundAt, IsLoaded as IsLoadedBoot}
-use Rattle.thy_boot.specs.Start.{CanStart}
-use Rattle.thy_boot.proofs.LoadedLemmas.{loaded-state, loaded-header}
-use Rattle.thy_boot.proofs.StartLemmas.{CanStart-origin}
-use Rattle.thy_boot.specs.declared.stage.Stage.{Stage}
-use Rattle.thy_boot.specs.declared.stage.Stage.TheVariants.{Reads, Over}
-use Rattle.thy_boot.specs.declared.stage.ReadStage.TheVariants.{Refusing}
-use Rattle.thy_boot.specs.declared.stage.End.TheVariants.{Restored, Loaded}
-use Rattle.thy_boot.specs.Laws.{IsGoing, IsMoved, failed_answer}
-use Rattle.thy_boot.specs.Left.{boot_left}
-use Rattle.thy_boot.specs.Shows.{migrates_at, seen_at}
-use Rattle.thy_boot.specs.Steps.{CanStep, Steps, action_of, Fails, TakesStep}
-use Rattle.thy_boot.proofs.ActLemmas.{steps_act, found_stays, steps_fill, failures_act, steps_come_nearer}
-use Rattle.thy_boot.proofs.FoundLemmas.{restored_is_kept, never_refused}
-use Rattle.thy_boot.proofs.SafeLemmas.{sound_may_step, failures_move, steps_move}
-use Rattle.thy_boot_laws.specs.Seen.{view_at, has_read_at}
-use Rattle.thy_boot_laws.proofs.StepLemmas.{not-unread, kept-on, WasLoading, was-loading, was-found, fewer_has_read, found_fails_unwritten, queue-on}
-use Rattle.thy_engine.specs.declared.stage.EngineStage.{EngineStage}
-use Rattle.thy_engine.specs.declared.stage.EngineStage.TheVariants.{Idle, InRound, Tail}
-use Rattle.thy_engine.specs.Items.{Resting, Applying, phase_committed}
-use Rattle.thy_engine.specs.Progress.{phase_of, applying, is_under_way}
+use Rattle.thy_checkpoint.specs.Boot.{Booting, slot_read, IsBoot, answer_at, answer_of}
+use Rattle.thy_checkpoint.specs.Filling.{layout_at, first_slot_of, FillingOf}
+use Rattle.thy_checkpoint.specs.Recovers.{IsRestored}
+use Rattle.thy_checkpoint.specs.Sound.{BootImages, start_mark, IsLoaded, layout_for, first_of, standing_in_boot, images_after, IsRecovering, IsSoundAt, IsLoaded as IsLoadedBoot}
+use Rattle.thy_checkpoint.specs.Start.{CanStart}
+use Rattle.thy_checkpoint.proofs.LoadedLemmas.{loaded-state, loaded-header}
+use Rattle.thy_checkpoint.proofs.StartLemmas.{CanStart-origin}
+use Rattle.thy_checkpoint.specs.declared.boot_stage.Stage.{Stage}
+use Rattle.thy_checkpoint.specs.declared.boot_stage.Stage.TheVariants.{Reads, Over}
+use Rattle.thy_checkpoint.specs.declared.boot_stage.ReadStage.TheVariants.{Refusing}
+use Rattle.thy_checkpoint.specs.declared.boot_stage.End.TheVariants.{Restored, Loaded}
+use Rattle.thy_checkpoint.specs.Laws.{IsGoing, IsMoved, failed_answer}
+use Rattle.thy_checkpoint.specs.Left.{boot_left}
+use Rattle.thy_checkpoint.specs.Shows.{migrates_at, seen_at}
+use Rattle.thy_checkpoint.specs.Steps.{CanStep, Steps, action_of, Fails, TakesStep}
+use Rattle.thy_checkpoint.proofs.ActLemmas.{steps_act, found_stays, steps_fill, failures_act, steps_come_nearer}
+use Rattle.thy_checkpoint.proofs.FoundLemmas.{restored_is_kept, never_refused}
+use Rattle.thy_checkpoint.proofs.SafeLemmas.{sound_may_step, failures_move, steps_move}
+use Rattle.thy_parts.specs.Seen.{view_at, has_read_at}
+use Rattle.thy_parts.proofs.SeenLemmas.{not-unread, kept-on, WasLoading, was-loading, was-found, fewer_has_read, found_fails_unwritten, queue-on}
+use Rattle.thy_checkpoint.specs.declared.engine_stage.EngineStage.{EngineStage}
+use Rattle.thy_checkpoint.specs.declared.engine_stage.EngineStage.TheVariants.{Idle, InRound, Tail}
+use Rattle.thy_checkpoint.specs.Items.{Resting, Applying, phase_committed}
+use Rattle.thy_checkpoint.specs.Progress.{phase_of, applying, is_under_way}
 use Rattle.thy_parts.specs.Checkpoints.{Checkpoints, is_sealing, is_confirming, saved_at, HasWrittenBefore}
 use Rattle.thy_parts.specs.Design.{DesignOf, Composed}
 use Rattle.thy_parts.specs.IsDesign.{IsDesign}

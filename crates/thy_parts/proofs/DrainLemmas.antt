@@ -5,15 +5,15 @@ use Rattle.thy_dram.specs.Contents.{Contents}
 use Rattle.thy_view.specs.Action.{Rest}
 use Rattle.thy_view.specs.Dram.{WritesDram}
 use Rattle.thy_view.specs.Origin.{Origin}
-use Rattle.thy_boot.specs.Filling.{FillingOf}
+use Rattle.thy_checkpoint.specs.Filling.{FillingOf}
 use Rattle.thy_scheme.specs.CheckpointMarks.{CheckpointMarks}
 use Rattle.thy_scheme.specs.Scheme.{Stands}
 use Rattle.thy_scheme.specs.Calls.{Keeps, Drains, Merges, Promotes}
-use Rattle.thy_engine.specs.declared.stage.EngineStage.{EngineStage}
-use Rattle.thy_engine.specs.declared.stage.EngineStage.TheVariants.{Idle, Body}
-use Rattle.thy_engine.specs.Cycles.{left_at}
-use Rattle.thy_engine.specs.Items.{ItemsOf, Resting}
-use Rattle.thy_engine.specs.Progress.{Progress, phase_of, is_under_way}
+use Rattle.thy_checkpoint.specs.declared.engine_stage.EngineStage.{EngineStage}
+use Rattle.thy_checkpoint.specs.declared.engine_stage.EngineStage.TheVariants.{Idle, Body}
+use Rattle.thy_checkpoint.specs.Cycles.{left_at}
+use Rattle.thy_checkpoint.specs.Items.{ItemsOf, Resting}
+use Rattle.thy_checkpoint.specs.Progress.{Progress, phase_of, is_under_way}
 use Rattle.thy_parts.specs.Design.{DesignOf, Composed}
 use Rattle.thy_parts.specs.IsDesign.{IsDesign}
 use Rattle.thy_parts.specs.Moments.{IsMoment, Carries}

@@ -3,11 +3,11 @@ use Rattle.std.proofs.Common.{◌≡◌, ℕ, ◌+◌, ◌<◌, ◌≤◌, ◌==
 use Rattle.std.proofs.lemmas.Bool.{eq-eqb, eqb-true}
 use Rattle.thy_block.specs.declared.block.Block.{Block}
 use Rattle.thy_block.specs.Device.{Device}
-use Rattle.thy_boot.specs.Filling.{layout_at}
+use Rattle.thy_checkpoint.specs.Filling.{layout_at}
 use Rattle.thy_scheme.specs.Calls.{OpensNone, Keeps}
-use Rattle.thy_engine.specs.Cycles.{cycles_left}
-use Rattle.thy_engine.specs.Items.{Phase}
-use Rattle.thy_engine.specs.Progress.{phase_of}
+use Rattle.thy_checkpoint.specs.Cycles.{cycles_left}
+use Rattle.thy_checkpoint.specs.Items.{Phase}
+use Rattle.thy_checkpoint.specs.Progress.{phase_of}
 use Rattle.thy_parts.specs.Design.{DesignOf, Composed}
 use Rattle.thy_parts.specs.Holding.{is_held, holding_of}
 use Rattle.thy_parts.specs.IsDesign.{IsDesign}

@@ -2,7 +2,7 @@
 use Rattle.std.proofs.Common.{refl}
 use Rattle.thy_layout.specs.Layout.{reading}
 use Rattle.thy_scheme.specs.Laws.{IsLawful}
-use Rattle.thy_boot_laws.proofs.StepLemmas.{alike_at}
+use Rattle.thy_parts.proofs.SeenLemmas.{alike_at}
 use Rattle.thy_parts.specs.AreParts.{AreParts}
 use Rattle.thy_parts.specs.Design.{DesignOf}
 use Rattle.thy_parts.specs.Scheme.{scheme_of}

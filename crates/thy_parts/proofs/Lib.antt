@@ -12,3 +12,6 @@ pub mod BootLemmas
 pub mod BootStepLemmas
 pub mod RunLemmas
 pub mod LawfulLemmas
+pub mod SeenLemmas
+pub mod PowerLemmas
+pub mod RoomLemmas

@@ -5,30 +5,30 @@ use Rattle.thy_block.specs.declared.parameters.Parameters.{Parameters}
 use Rattle.thy_block.specs.Device.{Device, MayLeave, newest, drained}
 use Rattle.thy_block.specs.Geometry.{memory_blocks}
 use Rattle.thy_block.proofs.BasicLemmas.{not_some}
-use Rattle.thy_crash.specs.Saved.{guarded}
-use Rattle.thy_crash.specs.Spares.{Spares}
+use Rattle.thy_layout.specs.Saved.{guarded}
+use Rattle.thy_layout.specs.Spares.{Spares}
 use Rattle.thy_isa.specs.OnBlocks.{state_from}
 use Rattle.thy_layout.specs.Commit.{commit_of}
 use Rattle.thy_layout.specs.Layout.{Layout, header_bad, looked_by, reading}
 use Rattle.thy_view.specs.Origin.{Origin}
 use Rattle.thy_view.specs.Safe.{Safe}
-use Rattle.thy_protocol.specs.Moves.{IsKeeping, Goes}
-use Rattle.thy_protocol.specs.declared.round.Round.{Round}
-use Rattle.thy_protocol.specs.declared.round.Round.TheVariants.{Commit, Confirm}
-use Rattle.thy_protocol.specs.Round.{IsInRound}
-use Rattle.thy_protocol.proofs.KeepsLemmas.{IsKeeping-move}
-use Rattle.thy_protocol.proofs.RoundLemmas.{issued_over}
-use Rattle.thy_boot.specs.Filling.{layout_at}
+use Rattle.thy_view.specs.Moves.{IsKeeping, Goes}
+use Rattle.thy_view.specs.declared.round.Round.{Round}
+use Rattle.thy_view.specs.declared.round.Round.TheVariants.{Commit, Confirm}
+use Rattle.thy_view.specs.Round.{IsInRound}
+use Rattle.thy_view.proofs.KeepsLemmas.{IsKeeping-move}
+use Rattle.thy_view.proofs.RoundLemmas.{issued_over}
+use Rattle.thy_checkpoint.specs.Filling.{layout_at}
 use Rattle.thy_scheme.specs.CheckpointMarks.{CheckpointMarks, doubt_in}
 use Rattle.thy_scheme.specs.Scheme.{Stands}
 use Rattle.thy_scheme.specs.Laws.{IsBounded, RunHolds}
-use Rattle.thy_boot_laws.specs.Schemes.{HeldIsUp, ReadyIsUp, StaysKeep}
-use Rattle.thy_engine.specs.declared.stage.EngineStage.{EngineStage}
-use Rattle.thy_engine.specs.declared.stage.EngineStage.TheVariants.{Idle, InRound, Tail}
-use Rattle.thy_engine.specs.Cycles.{cycles_left, most_cycles}
-use Rattle.thy_engine.specs.Items.{Resting, Made}
-use Rattle.thy_engine.specs.Progress.{Progress, phase_of, layout_of, slot_blocks, Fits, is_under_way, is_applying}
-use Rattle.thy_engine.proofs.ItemLemmas.{cycles_are_few}
+use Rattle.thy_parts.specs.Schemes.{HeldIsUp, ReadyIsUp, StaysKeep}
+use Rattle.thy_checkpoint.specs.declared.engine_stage.EngineStage.{EngineStage}
+use Rattle.thy_checkpoint.specs.declared.engine_stage.EngineStage.TheVariants.{Idle, InRound, Tail}
+use Rattle.thy_checkpoint.specs.Cycles.{cycles_left, most_cycles}
+use Rattle.thy_checkpoint.specs.Items.{Resting, Made}
+use Rattle.thy_checkpoint.specs.Progress.{Progress, phase_of, layout_of, slot_blocks, Fits, is_under_way, is_applying}
+use Rattle.thy_checkpoint.proofs.ItemLemmas.{cycles_are_few}
 use Rattle.thy_parts.specs.AreParts.{AreParts}
 use Rattle.thy_parts.specs.Boots.{IsOf}
 use Rattle.thy_parts.specs.Checkpoints.{Checkpoints, is_sealing, is_settled, is_confirming, saved_at, standing_at, HasWrittenSlot, HasWrittenBefore}

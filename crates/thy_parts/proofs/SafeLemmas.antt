@@ -4,8 +4,8 @@ use Rattle.thy_block.specs.declared.mark.Mark.{Mark}
 use Rattle.thy_block.specs.Device.{Device, block_at, newest, IsFramed, HoldsNoMore}
 use Rattle.thy_block.specs.declared.block.Block.{Block}
 use Rattle.thy_block.specs.Places.{record_blocks}
-use Rattle.thy_crash.specs.Saved.{Kept, Saved, guarded}
-use Rattle.thy_crash.proofs.SparesLemmas.{Spares-no_more}
+use Rattle.thy_layout.specs.Saved.{Kept, Saved, guarded}
+use Rattle.thy_layout.proofs.SparesLemmas.{Spares-no_more}
 use Rattle.thy_isa.specs.declared.state.CpuState.{CpuState}
 use Rattle.thy_isa.specs.OnBlocks.{state_from}
 use Rattle.thy_layout.specs.Commit.{epoch_of, commit_of}
@@ -16,18 +16,18 @@ use Rattle.thy_layout.specs.declared.engine_step.EngineStep.TheVariants.{Copied,
 use Rattle.thy_view.specs.Origin.{Origin, at}
 use Rattle.thy_view.specs.Safe.{ceiling, Safe}
 use Rattle.thy_view.specs.Action.{FailsTo}
-use Rattle.thy_protocol.specs.Keeps.{Tells, doubt_in as doubt_of_saved}
-use Rattle.thy_protocol.specs.Moves.{standing, IsKeeping, Seals, Goes, LeavesAlone}
-use Rattle.thy_protocol.proofs.KeepsLemmas.{IsKeeping-move, Safe-kept, Spares-failed_action}
-use Rattle.thy_protocol.specs.Issuing.{AreIssued}
-use Rattle.thy_protocol.specs.declared.round.Round.TheVariants.{Write, Settle, Commit, Confirm}
-use Rattle.thy_protocol.proofs.RoundLemmas.{issued_over}
+use Rattle.thy_view.specs.Keeps.{Tells, doubt_in as doubt_of_saved}
+use Rattle.thy_view.specs.Moves.{standing, IsKeeping, Seals, Goes, LeavesAlone}
+use Rattle.thy_view.proofs.KeepsLemmas.{IsKeeping-move, Safe-kept, Spares-failed_action}
+use Rattle.thy_view.specs.Issuing.{AreIssued}
+use Rattle.thy_view.specs.declared.round.Round.TheVariants.{Write, Settle, Commit, Confirm}
+use Rattle.thy_view.proofs.RoundLemmas.{issued_over}
 use Rattle.thy_scheme.specs.CheckpointMarks.{CheckpointMarks, doubt_in, marks_after_fault}
-use Rattle.thy_boot.specs.Filling.{FillingOf}
-use Rattle.thy_engine.specs.declared.stage.EngineStage.{EngineStage}
-use Rattle.thy_engine.specs.declared.stage.EngineStage.TheVariants.{Idle, Body, InRound, Tail}
-use Rattle.thy_engine.specs.Items.{Resting, ItemsOf, Made}
-use Rattle.thy_engine.specs.Progress.{phase_of, is_under_way, Progress, layout_of, Fits, Item, BodyItem, body_or_slot, tail_or_release, item, action_of, report}
+use Rattle.thy_checkpoint.specs.Filling.{FillingOf}
+use Rattle.thy_checkpoint.specs.declared.engine_stage.EngineStage.{EngineStage}
+use Rattle.thy_checkpoint.specs.declared.engine_stage.EngineStage.TheVariants.{Idle, Body, InRound, Tail}
+use Rattle.thy_checkpoint.specs.Items.{Resting, ItemsOf, Made}
+use Rattle.thy_checkpoint.specs.Progress.{phase_of, is_under_way, Progress, layout_of, Fits, Item, BodyItem, body_or_slot, tail_or_release, item, action_of, report}
 use Rattle.thy_parts.specs.Checkpoints.{Checkpoints, is_sealing, is_settled, is_confirming, saved_at, saved_failed, standing_at, HasWrittenSlot, HasWrittenBefore}
 use Rattle.thy_parts.specs.Design.{DesignOf, Composed}
 use Rattle.thy_parts.specs.IsDesign.{IsDesign}

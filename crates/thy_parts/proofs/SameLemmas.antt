@@ -4,9 +4,9 @@ use Rattle.thy_block.specs.declared.block.Block.{Block}
 use Rattle.thy_block.specs.Device.{Device, newest, settled, drained}
 use Rattle.thy_block.proofs.DeviceLemmas.{newest-settled, length-settled, no_more-settled, newest-drained, length-drained, no_more-drained}
 use Rattle.thy_layout.proofs.AskingLemmas.{map-alike}
-use Rattle.thy_protocol.specs.Issuing.{CheckpointParts, ArePlaced, AreIssued}
+use Rattle.thy_view.specs.Issuing.{CheckpointParts, ArePlaced, AreIssued}
 use Rattle.thy_scheme.specs.Calls.{OpensNone}
-use Rattle.thy_engine.specs.Items.{Phase, Made}
+use Rattle.thy_checkpoint.specs.Items.{Phase, Made}
 use Rattle.thy_parts.specs.Design.{DesignOf}
 use Rattle.thy_parts.specs.Moments.{IsMoment, MakesAt, Carries, ReadsSame}
 

@@ -8,7 +8,7 @@ use Rattle.thy_block.specs.Device.{Device, block_at, newest, zero_block}
 use Rattle.thy_block.specs.Geometry.{IsInRange, console_room}
 use Rattle.thy_block.specs.Places.{record_blocks}
 use Rattle.thy_block.proofs.BasicLemmas.{all_none}
-use Rattle.thy_crash.specs.Saved.{IsIssued, next_image}
+use Rattle.thy_layout.specs.Saved.{IsIssued, next_image}
 use Rattle.thy_isa.specs.OnBlocks.{state_from}
 use Rattle.thy_layout.specs.AreLayouts.{HasSlot, HasPlaces, Fits as SlotFits}
 use Rattle.thy_layout.specs.Layout.{Layout, is_length, is_long, memory_places, header_bad, commit_bad, state_by, looked_by, slot_in, decode_by}
@@ -19,11 +19,11 @@ use Rattle.thy_layout.specs.Decoded.{At}
 use Rattle.thy_layout.proofs.AskingLemmas.{map-alike}
 use Rattle.thy_layout.proofs.ReadBackLemmas.{epoch_of-commit_of, commit_fault-commit_of, is_zero-commit_of, FitsRecord-recordable, cpu_back}
 use Rattle.thy_view.specs.Safe.{ceiling}
-use Rattle.thy_protocol.specs.Issuing.{CheckpointParts, ArePartsOf, AreIssued, IsCheckpoint}
-use Rattle.thy_protocol.proofs.IssuingLemmas.{issuing_begins, issued_is_checkpoint}
-use Rattle.thy_boot.specs.Filling.{layout_at}
-use Rattle.thy_engine.specs.Items.{Made}
-use Rattle.thy_engine.specs.Progress.{Progress, layout_of, slot_blocks, slot_block, slot_place}
+use Rattle.thy_view.specs.Issuing.{CheckpointParts, ArePartsOf, AreIssued, IsCheckpoint}
+use Rattle.thy_view.proofs.IssuingLemmas.{issuing_begins, issued_is_checkpoint}
+use Rattle.thy_checkpoint.specs.Filling.{layout_at}
+use Rattle.thy_checkpoint.specs.Items.{Made}
+use Rattle.thy_checkpoint.specs.Progress.{Progress, layout_of, slot_blocks, slot_block, slot_place}
 use Rattle.thy_parts.specs.Checkpoints.{HasWrittenSlot}
 use Rattle.thy_parts.specs.Design.{DesignOf}
 use Rattle.thy_parts.specs.IsDesign.{IsDesign, CanRecord}

@@ -9,11 +9,11 @@ use Rattle.thy_block.specs.Device.{Device, IsOneWordApart, block_at, newest, set
 use Rattle.thy_block.specs.Geometry.{IsInRange}
 use Rattle.thy_block.specs.Places.{record_blocks}
 use Rattle.thy_block.proofs.DeviceLemmas.{newest-settled, newest-written_to_other}
-use Rattle.thy_boot.specs.Filling.{FillingOf, layout_at}
-use Rattle.thy_crash.specs.Saved.{Kept, IsIssued, next_image}
-use Rattle.thy_crash.specs.Spares.{Spares}
-use Rattle.thy_crash.proofs.SavedLemmas.{next_image-commit}
-use Rattle.thy_crash.proofs.SparesLemmas.{Spares-settled, Spares-written}
+use Rattle.thy_checkpoint.specs.Filling.{FillingOf, layout_at}
+use Rattle.thy_layout.specs.Saved.{Kept, IsIssued, next_image}
+use Rattle.thy_layout.specs.Spares.{Spares}
+use Rattle.thy_layout.proofs.SavedLemmas.{next_image-commit}
+use Rattle.thy_layout.proofs.SparesLemmas.{Spares-settled, Spares-written}
 use Rattle.thy_isa.specs.OnBlocks.{state_from}
 use Rattle.thy_layout.specs.declared.engine_step.EngineStep.{EngineStep}
 use Rattle.thy_layout.specs.declared.engine_step.EngineStep.TheVariants.{Copied, PageBlock, StateBlock, TableBlock}
@@ -26,21 +26,21 @@ use Rattle.thy_layout.specs.Layout.{Layout, header_bad, looked_by, decode_by}
 use Rattle.thy_view.specs.Action.{after, FailsTo}
 use Rattle.thy_view.specs.Origin.{Origin, at}
 use Rattle.thy_view.specs.Safe.{ceiling}
-use Rattle.thy_protocol.specs.Keeps.{IsOf}
-use Rattle.thy_protocol.specs.Moves.{standing, IsKeeping, Goes}
-use Rattle.thy_protocol.specs.declared.round.Round.{Round}
-use Rattle.thy_protocol.specs.declared.round.Round.TheVariants.{Write, Settle, Commit, Confirm}
-use Rattle.thy_protocol.specs.Round.{IsInRound, round_action, next_round, is_written}
-use Rattle.thy_protocol.specs.Rounds.{saved_in, saved_after_fault, made_after, standing_then, MayTake, AreIssuedBefore, AreIssuedThen}
-use Rattle.thy_protocol.proofs.KeepsLemmas.{IsKeeping-move}
-use Rattle.thy_protocol.proofs.RoundLemmas.{next_by, rounds_move, failed_rounds_move, rounds_issue}
+use Rattle.thy_view.specs.Keeps.{IsOf}
+use Rattle.thy_view.specs.Moves.{standing, IsKeeping, Goes}
+use Rattle.thy_view.specs.declared.round.Round.{Round}
+use Rattle.thy_view.specs.declared.round.Round.TheVariants.{Write, Settle, Commit, Confirm}
+use Rattle.thy_view.specs.Round.{IsInRound, round_action, next_round, is_written}
+use Rattle.thy_view.specs.Rounds.{saved_in, saved_after_fault, made_after, standing_then, MayTake, AreIssuedBefore, AreIssuedThen}
+use Rattle.thy_view.proofs.KeepsLemmas.{IsKeeping-move}
+use Rattle.thy_view.proofs.RoundLemmas.{next_by, rounds_move, failed_rounds_move, rounds_issue}
 use Rattle.thy_parts.proofs.SlotLemmas.{is_long-own, placed, slot_begins, next_decodes, next_issued, next_slot}
 use Rattle.thy_scheme.specs.CheckpointMarks.{CheckpointMarks, only, marks_after}
-use Rattle.thy_engine.specs.declared.stage.EngineStage.{EngineStage}
-use Rattle.thy_engine.specs.declared.stage.EngineStage.TheVariants.{Idle, Body, InRound, Tail}
-use Rattle.thy_engine.specs.Items.{ItemsOf, Phase, Resting, Making, Made, Applying}
-use Rattle.thy_engine.specs.Progress.{Progress, phase_of, slot_blocks, slot_block, slot_place, slot_round, layout_of, Fits, Item, BodyItem, RoundItem, TailItem, ReleaseItem, body_or_slot, tail_or_release, item, next_after, action_of, control_after, report, is_under_way}
-use Rattle.thy_engine.proofs.ItemLemmas.{items_fit}
+use Rattle.thy_checkpoint.specs.declared.engine_stage.EngineStage.{EngineStage}
+use Rattle.thy_checkpoint.specs.declared.engine_stage.EngineStage.TheVariants.{Idle, Body, InRound, Tail}
+use Rattle.thy_checkpoint.specs.Items.{ItemsOf, Phase, Resting, Making, Made, Applying}
+use Rattle.thy_checkpoint.specs.Progress.{Progress, phase_of, slot_blocks, slot_block, slot_place, slot_round, layout_of, Fits, Item, BodyItem, RoundItem, TailItem, ReleaseItem, body_or_slot, tail_or_release, item, next_after, action_of, control_after, report, is_under_way}
+use Rattle.thy_checkpoint.proofs.ItemLemmas.{items_fit}
 use Rattle.thy_parts.specs.Checkpoints.{Checkpoints, is_sealing, is_settled, is_confirming, saved_at, standing_at, IsMadeFor, HasWrittenSlot, HasWrittenBefore}
 use Rattle.thy_parts.specs.Design.{DesignOf, Composed}
 use Rattle.thy_parts.specs.IsDesign.{IsDesign, CanRecord, IsSpared}

@@ -5,7 +5,7 @@ use Rattle.std.proofs.lemmas.List.Elements.{Contains-push, Contains-append_left,
 use Rattle.thy_block.specs.declared.block.Block.{Block}
 use Rattle.thy_block.specs.Device.{Device, settled, IsFramed}
 use Rattle.thy_block.specs.Places.{record_blocks}
-use Rattle.thy_boot.specs.Filling.{FillingOf, layout_at}
+use Rattle.thy_checkpoint.specs.Filling.{FillingOf, layout_at}
 use Rattle.thy_isa.specs.declared.state.CpuState.{CpuState}
 use Rattle.thy_isa.specs.OnBlocks.{state_from}
 use Rattle.thy_layout.specs.declared.engine_step.EngineStep.{EngineStep}
@@ -20,15 +20,15 @@ use Rattle.thy_scheme.specs.CheckpointMarks.{CheckpointMarks}
 use Rattle.thy_scheme.specs.Scheme.{Stands}
 use Rattle.thy_scheme.specs.Calls.{IsDue, writes_block, engine_did, Keeps, Seals, Engines, EngineFails, OwesAfter}
 use Rattle.thy_scheme.proofs.RecordLemmas.{due-slot}
-use Rattle.thy_engine.specs.declared.stage.EngineStage.{EngineStage}
-use Rattle.thy_engine.specs.declared.stage.EngineStage.TheVariants.{Idle, Body, InRound, Tail}
-use Rattle.thy_protocol.specs.declared.round.Round.{Round}
-use Rattle.thy_protocol.specs.declared.round.Round.TheVariants.{Write, Settle, Commit, Confirm}
-use Rattle.thy_protocol.specs.Round.{is_written}
-use Rattle.thy_engine.specs.Cycles.{cycles_left}
-use Rattle.thy_engine.specs.Items.{ItemsOf, Phase, Resting, Making, Made, Applying, phase_committed}
-use Rattle.thy_engine.specs.Progress.{Progress, phase_of, slot_block, slot_place, Item, RoundItem, body_or_slot, tail_or_release, item, next_after, action_of, control_after, report, is_under_way, engine_next, control_next, action_next}
-use Rattle.thy_engine.proofs.ItemLemmas.{items_count}
+use Rattle.thy_checkpoint.specs.declared.engine_stage.EngineStage.{EngineStage}
+use Rattle.thy_checkpoint.specs.declared.engine_stage.EngineStage.TheVariants.{Idle, Body, InRound, Tail}
+use Rattle.thy_view.specs.declared.round.Round.{Round}
+use Rattle.thy_view.specs.declared.round.Round.TheVariants.{Write, Settle, Commit, Confirm}
+use Rattle.thy_view.specs.Round.{is_written}
+use Rattle.thy_checkpoint.specs.Cycles.{cycles_left}
+use Rattle.thy_checkpoint.specs.Items.{ItemsOf, Phase, Resting, Making, Made, Applying, phase_committed}
+use Rattle.thy_checkpoint.specs.Progress.{Progress, phase_of, slot_block, slot_place, Item, RoundItem, body_or_slot, tail_or_release, item, next_after, action_of, control_after, report, is_under_way, engine_next, control_next, action_next}
+use Rattle.thy_checkpoint.proofs.ItemLemmas.{items_count}
 use Rattle.thy_parts.specs.Checkpoints.{Checkpoints, is_confirming, IsMadeFor}
 use Rattle.thy_parts.specs.Design.{DesignOf, Composed}
 use Rattle.thy_parts.specs.IsDesign.{IsDesign, IsSpared}

@@ -2,12 +2,12 @@
 use Rattle.std.proofs.Common.{◌≡◌, ◌⊎◌, ℕ, ◌&&◌, not, Bool, true, false, refl, sym, ◌∙◌, ap, subst, inl, inr}
 use Rattle.thy_block.specs.Device.{Device}
 use Rattle.thy_view.specs.Origin.{Origin}
-use Rattle.thy_boot_laws.specs.Schemes.{FirstHasRoom, HartIsBarred}
-use Rattle.thy_boot_laws.proofs.RoomLemmas.{first-room}
+use Rattle.thy_parts.specs.Schemes.{FirstHasRoom, HartIsBarred}
+use Rattle.thy_parts.proofs.RoomLemmas.{first-room}
 use Rattle.thy_scheme.specs.CheckpointMarks.{CheckpointMarks}
-use Rattle.thy_engine.specs.declared.stage.EngineStage.{EngineStage}
-use Rattle.thy_engine.specs.Items.{Phase, Resting}
-use Rattle.thy_engine.specs.Progress.{phase_of, is_under_way}
+use Rattle.thy_checkpoint.specs.declared.engine_stage.EngineStage.{EngineStage}
+use Rattle.thy_checkpoint.specs.Items.{Phase, Resting}
+use Rattle.thy_checkpoint.specs.Progress.{phase_of, is_under_way}
 use Rattle.thy_parts.specs.Design.{DesignOf, Composed}
 use Rattle.thy_parts.specs.IsDesign.{IsDesign}
 use Rattle.thy_parts.specs.Moments.{IsMoment}

@@ -6,14 +6,14 @@ use Rattle.thy_block.specs.Device.{Device}
 use Rattle.thy_dram.specs.Contents.{Contents}
 use Rattle.thy_view.specs.Kind.{IsDramOf}
 use Rattle.thy_view.specs.Origin.{Origin, IsOrigin}
-use Rattle.thy_boot.specs.declared.stage.Stage.{Stage}
-use Rattle.thy_boot.specs.declared.stage.Stage.TheVariants.{Reads, Over}
-use Rattle.thy_boot.specs.declared.stage.ReadStage.TheVariants.{Unread}
-use Rattle.thy_boot.specs.declared.stage.End.TheVariants.{Restored}
-use Rattle.thy_boot.specs.Boot.{Booting, IsBoot, new_boot}
-use Rattle.thy_boot.specs.Laws.{IsGoing}
-use Rattle.thy_boot.specs.Sound.{BootImages, IsSoundBoot}
-use Rattle.thy_engine.specs.Progress.{Progress, applying, is_under_way, new_engine}
+use Rattle.thy_checkpoint.specs.declared.boot_stage.Stage.{Stage}
+use Rattle.thy_checkpoint.specs.declared.boot_stage.Stage.TheVariants.{Reads, Over}
+use Rattle.thy_checkpoint.specs.declared.boot_stage.ReadStage.TheVariants.{Unread}
+use Rattle.thy_checkpoint.specs.declared.boot_stage.End.TheVariants.{Restored}
+use Rattle.thy_checkpoint.specs.Boot.{Booting, IsBoot, new_boot}
+use Rattle.thy_checkpoint.specs.Laws.{IsGoing}
+use Rattle.thy_checkpoint.specs.Sound.{BootImages, IsSoundBoot}
+use Rattle.thy_checkpoint.specs.Progress.{Progress, applying, is_under_way, new_engine}
 use Rattle.thy_parts.specs.Design.{DesignOf, Composed}
 
 -- of a geometry, whatever failed: its tables are sound, and its DRAM has that size

@@ -12,16 +12,16 @@ use Rattle.thy_layout.specs.declared.engine_step.EngineStep.{EngineStep}
 use Rattle.thy_layout.specs.declared.start.Start.{Start}
 use Rattle.thy_view.specs.declared.boot_step.BootStep.{BootStep}
 use Rattle.thy_view.specs.Action.{Rest, after}
-use Rattle.thy_protocol.specs.Round.{next_round}
-use Rattle.thy_boot.specs.declared.stage.Stage.{Stage}
-use Rattle.thy_boot.specs.declared.stage.Stage.TheVariants.{Reads, Loads, Migrates, Over}
-use Rattle.thy_boot.specs.Boot.{Booting, new_boot, answer_of, at_stage}
-use Rattle.thy_boot.specs.Filling.{FillingOf, first_by}
-use Rattle.thy_boot.specs.Loads.{first_writes, loads_on}
-use Rattle.thy_boot.specs.Migrating.{migrated_by}
-use Rattle.thy_boot.specs.Reads.{read_on, FillsOn}
-use Rattle.thy_boot.specs.Steps.{TakesStep, action_of}
-use Rattle.thy_engine.specs.Progress.{new_engine, begun, item_of, report, engine_next, control_next, action_next}
+use Rattle.thy_view.specs.Round.{next_round}
+use Rattle.thy_checkpoint.specs.declared.boot_stage.Stage.{Stage}
+use Rattle.thy_checkpoint.specs.declared.boot_stage.Stage.TheVariants.{Reads, Loads, Migrates, Over}
+use Rattle.thy_checkpoint.specs.Boot.{Booting, new_boot, answer_of, at_stage}
+use Rattle.thy_checkpoint.specs.Filling.{FillingOf, first_by}
+use Rattle.thy_checkpoint.specs.Loads.{first_writes, loads_on}
+use Rattle.thy_checkpoint.specs.Migrating.{migrated_by}
+use Rattle.thy_checkpoint.specs.Reads.{read_on, FillsOn}
+use Rattle.thy_checkpoint.specs.Steps.{TakesStep, action_of}
+use Rattle.thy_checkpoint.specs.Progress.{new_engine, begun, item_of, report, engine_next, control_next, action_next}
 use Rattle.thy_scheme.specs.Exact.{Made, CallsOf}
 use Rattle.thy_parts.specs.Boots.{booted}
 use Rattle.thy_parts.specs.Design.{DesignOf, PagesOf, Composed}

@@ -4,20 +4,20 @@ use Rattle.thy_block.specs.declared.block.Block.{Block}
 use Rattle.thy_block.specs.declared.mark.Mark.{Mark}
 use Rattle.thy_block.specs.Device.{Device, block_at}
 use Rattle.thy_block.specs.Places.{commit_place}
-use Rattle.thy_crash.specs.Saved.{Saved, Kept}
+use Rattle.thy_layout.specs.Saved.{Saved, Kept}
 use Rattle.thy_isa.specs.OnBlocks.{state_from}
 use Rattle.thy_layout.specs.Commit.{commit_of}
 use Rattle.thy_layout.specs.Cpu.{IsRecordable}
 use Rattle.thy_view.specs.Origin.{Origin, at}
 use Rattle.thy_view.specs.Safe.{ceiling}
-use Rattle.thy_protocol.specs.Issuing.{AreIssued}
-use Rattle.thy_protocol.specs.Moves.{Standing, standing}
-use Rattle.thy_engine.specs.declared.stage.EngineStage.{EngineStage}
-use Rattle.thy_engine.specs.declared.stage.EngineStage.TheVariants.{Idle, Body, InRound, Tail}
-use Rattle.thy_protocol.specs.declared.round.Round.TheVariants.{Commit, Confirm}
-use Rattle.thy_protocol.specs.Round.{is_written}
-use Rattle.thy_protocol.specs.Rounds.{saved_in, saved_after_fault, AreIssuedBefore}
-use Rattle.thy_engine.specs.Progress.{Progress, layout_of}
+use Rattle.thy_view.specs.Issuing.{AreIssued}
+use Rattle.thy_view.specs.Moves.{Standing, standing}
+use Rattle.thy_checkpoint.specs.declared.engine_stage.EngineStage.{EngineStage}
+use Rattle.thy_checkpoint.specs.declared.engine_stage.EngineStage.TheVariants.{Idle, Body, InRound, Tail}
+use Rattle.thy_view.specs.declared.round.Round.TheVariants.{Commit, Confirm}
+use Rattle.thy_view.specs.Round.{is_written}
+use Rattle.thy_view.specs.Rounds.{saved_in, saved_after_fault, AreIssuedBefore}
+use Rattle.thy_checkpoint.specs.Progress.{Progress, layout_of}
 use Rattle.thy_parts.specs.Design.{DesignOf}
 use Rattle.thy_parts.specs.Moments.{parts_at}
 

@@ -7,10 +7,10 @@ use Rattle.thy_block.specs.declared.store.Stored.{Stored}
 use Rattle.thy_block.specs.Device.{Device, HoldsNoMore}
 use Rattle.thy_dram.specs.Contents.{Contents}
 use Rattle.thy_view.specs.Action.{Action}
-use Rattle.thy_boot.specs.Boot.{Booting}
-use Rattle.thy_boot.specs.Filling.{FillingOf}
-use Rattle.thy_engine.specs.Items.{ItemsOf, Phase}
-use Rattle.thy_engine.specs.Progress.{Progress}
+use Rattle.thy_checkpoint.specs.Boot.{Booting}
+use Rattle.thy_checkpoint.specs.Filling.{FillingOf}
+use Rattle.thy_checkpoint.specs.Items.{ItemsOf, Phase}
+use Rattle.thy_checkpoint.specs.Progress.{Progress}
 
 -- blocks that have to be merged into their pages before a seal, or promoted before a store
 pub record PagesOf (C : Type 0) : Type 0 where

@@ -3,7 +3,7 @@
 use Rattle.std.specs.Prelude.{◌==◌, ◌&&◌, not, if◌then◌else◌, Bool, [], length}
 use Rattle.thy_block.specs.Device.{Device, failed_calls}
 use Rattle.thy_block.specs.Store.{Holding}
-use Rattle.thy_boot.specs.Filling.{layout_at}
+use Rattle.thy_checkpoint.specs.Filling.{layout_at}
 use Rattle.thy_parts.specs.Design.{DesignOf}
 
 -- the NVM has its size and is up, and is what the controller keeps of it

@@ -11,9 +11,9 @@ use Rattle.thy_layout.specs.Cpu.{IsRecordable}
 use Rattle.thy_layout.specs.Decoded.{At}
 use Rattle.thy_layout.specs.Layout.{slot_in, looked_by, decode_by}
 use Rattle.thy_view.specs.Safe.{ceiling}
-use Rattle.thy_boot.specs.Filling.{IsFilling, layout_at}
-use Rattle.thy_engine.specs.Items.{AreItems, Phase, Resting, Making, Made, Applying, phase_committed}
-use Rattle.thy_engine.specs.Progress.{Progress, layout_of, slot_blocks}
+use Rattle.thy_checkpoint.specs.Filling.{IsFilling, layout_at}
+use Rattle.thy_checkpoint.specs.Items.{AreItems, Phase, Resting, Making, Made, Applying, phase_committed}
+use Rattle.thy_checkpoint.specs.Progress.{Progress, layout_of, slot_blocks}
 use Rattle.thy_parts.specs.Design.{DesignOf}
 use Rattle.thy_parts.specs.Moments.{IsMoment, Carries, Commits, SealsTo, ReadsSame, IsOwn, slot_list, parts_at}
 

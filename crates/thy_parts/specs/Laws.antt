@@ -10,9 +10,9 @@ use Rattle.thy_view.specs.Action.{after, FailsTo}
 use Rattle.thy_view.specs.Origin.{Origin, at}
 use Rattle.thy_view.specs.Safe.{ceiling, Safe}
 use Rattle.thy_scheme.specs.CheckpointMarks.{CheckpointMarks, doubt_in, marks_after, marks_after_fault}
-use Rattle.thy_engine.specs.Progress.{is_under_way, action_next}
-use Rattle.thy_boot.specs.Boot.{Booting, IsBoot, answer_of}
-use Rattle.thy_boot.specs.Steps.{Steps}
+use Rattle.thy_checkpoint.specs.Progress.{is_under_way, action_next}
+use Rattle.thy_checkpoint.specs.Boot.{Booting, IsBoot, answer_of}
+use Rattle.thy_checkpoint.specs.Steps.{Steps}
 use Rattle.thy_scheme.specs.Boots.{BootDrains, BootsOn}
 use Rattle.thy_scheme.specs.Calls.{Drains, EngineFails, Engines, Merges, Promotes, Seals}
 use Rattle.thy_scheme.specs.Scheme.{Stands, IsBooting}

@@ -13,3 +13,6 @@ pub mod Boots
 pub mod Calls
 pub mod Scheme
 pub mod Laws
+pub mod Seen
+pub mod BootLaws
+pub mod Schemes

@@ -4,13 +4,13 @@ use Rattle.std.specs.List.{range_with_len}
 use Rattle.thy_block.specs.declared.block.Block.{Block}
 use Rattle.thy_block.specs.Device.{Device, block_at, newest, HoldsNoMore}
 use Rattle.thy_block.specs.Places.{commit_place}
-use Rattle.thy_boot.specs.Filling.{layout_at}
+use Rattle.thy_checkpoint.specs.Filling.{layout_at}
 use Rattle.thy_layout.specs.Commit.{commit_of, epoch_of}
 use Rattle.thy_layout.specs.Layout.{memory_places}
-use Rattle.thy_protocol.specs.Issuing.{CheckpointParts}
+use Rattle.thy_view.specs.Issuing.{CheckpointParts}
 use Rattle.thy_scheme.specs.Calls.{OpensNone}
-use Rattle.thy_engine.specs.Items.{Phase, Resting, Making, Made}
-use Rattle.thy_engine.specs.Progress.{Progress, layout_of, slot_blocks, slot_block}
+use Rattle.thy_checkpoint.specs.Items.{Phase, Resting, Making, Made}
+use Rattle.thy_checkpoint.specs.Progress.{Progress, layout_of, slot_blocks, slot_block}
 use Rattle.thy_parts.specs.Design.{DesignOf}
 
 -- the controller is sound, the NVM has its size, and holds what it has to in this phase of the checkpoint of an epoch

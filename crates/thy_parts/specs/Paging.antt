@@ -2,7 +2,7 @@
 use Rattle.std.specs.Prelude.{◌≡◌, ℕ, ◌+◌, ◌≤◌, true}
 use Rattle.thy_block.specs.Device.{Device}
 use Rattle.thy_view.specs.Dram.{WritesDram}
-use Rattle.thy_engine.specs.Items.{Phase, Resting}
+use Rattle.thy_checkpoint.specs.Items.{Phase, Resting}
 use Rattle.thy_parts.specs.Design.{DesignOf}
 use Rattle.thy_parts.specs.Moments.{IsMoment, Carries}
 

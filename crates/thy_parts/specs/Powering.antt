@@ -10,11 +10,11 @@ use Rattle.thy_isa.specs.Step.{State}
 use Rattle.thy_layout.specs.Commit.{commit_of}
 use Rattle.thy_layout.specs.Layout.{slot_in}
 use Rattle.thy_view.specs.Kind.{IsDramOf}
-use Rattle.thy_boot.specs.Boot.{Booting, layout_in}
-use Rattle.thy_boot.specs.Filling.{layout_at, first_slot_of}
-use Rattle.thy_boot.specs.Recovers.{IsRestored}
-use Rattle.thy_boot.specs.Start.{CanStart}
-use Rattle.thy_engine.specs.Items.{Phase, Resting, phase_committed}
+use Rattle.thy_checkpoint.specs.Boot.{Booting, layout_in}
+use Rattle.thy_checkpoint.specs.Filling.{layout_at, first_slot_of}
+use Rattle.thy_checkpoint.specs.Recovers.{IsRestored}
+use Rattle.thy_checkpoint.specs.Start.{CanStart}
+use Rattle.thy_checkpoint.specs.Items.{Phase, Resting, phase_committed}
 use Rattle.thy_parts.specs.Design.{DesignOf}
 use Rattle.thy_parts.specs.Moments.{IsMoment}
 

@@ -1,16 +1,16 @@
 -- Part of the claim.
 -- What is seen of a scheme that is made of parts.
 use Rattle.thy_layout.specs.Layout.{reading}
-use Rattle.thy_boot.specs.declared.stage.Stage.TheVariants.{Reads}
-use Rattle.thy_boot.specs.declared.stage.ReadStage.TheVariants.{Unread}
-use Rattle.thy_boot.specs.Boot.{new_boot}
-use Rattle.thy_boot.specs.Filling.{layout_at}
-use Rattle.thy_boot.specs.Left.{boot_left}
-use Rattle.thy_boot.specs.Shows.{migrates_at}
-use Rattle.thy_boot_laws.specs.Seen.{view_at, has_read_at}
+use Rattle.thy_checkpoint.specs.declared.boot_stage.Stage.TheVariants.{Reads}
+use Rattle.thy_checkpoint.specs.declared.boot_stage.ReadStage.TheVariants.{Unread}
+use Rattle.thy_checkpoint.specs.Boot.{new_boot}
+use Rattle.thy_checkpoint.specs.Filling.{layout_at}
+use Rattle.thy_checkpoint.specs.Left.{boot_left}
+use Rattle.thy_checkpoint.specs.Shows.{migrates_at}
+use Rattle.thy_parts.specs.Seen.{view_at, has_read_at}
 use Rattle.thy_scheme.specs.Scheme.{SchemeOf}
-use Rattle.thy_engine.specs.Cycles.{cycles_left, most_cycles}
-use Rattle.thy_engine.specs.Progress.{phase_of, is_under_way, is_applying}
+use Rattle.thy_checkpoint.specs.Cycles.{cycles_left, most_cycles}
+use Rattle.thy_checkpoint.specs.Progress.{phase_of, is_under_way, is_applying}
 use Rattle.thy_parts.specs.Boots.{Boots, IsOf, IsPowered}
 use Rattle.thy_parts.specs.Calls.{calls_of}
 use Rattle.thy_parts.specs.Design.{DesignOf, Composed}

@@ -8,10 +8,10 @@ use Rattle.thy_isa.specs.OnBlocks.{state_from}
 use Rattle.thy_layout.specs.Commit.{commit_of}
 use Rattle.thy_layout.specs.Layout.{Layout, header_bad}
 use Rattle.thy_view.specs.Origin.{Origin, at}
-use Rattle.thy_protocol.specs.Moves.{IsKeeping}
+use Rattle.thy_view.specs.Moves.{IsKeeping}
 use Rattle.thy_scheme.specs.CheckpointMarks.{CheckpointMarks}
-use Rattle.thy_boot.specs.Filling.{layout_at}
-use Rattle.thy_engine.specs.Progress.{Progress, Fits, phase_of}
+use Rattle.thy_checkpoint.specs.Filling.{layout_at}
+use Rattle.thy_checkpoint.specs.Progress.{Progress, Fits, phase_of}
 use Rattle.thy_parts.specs.Checkpoints.{Checkpoints, is_sealing, is_confirming, standing_at, IsMadeFor, HasWrittenBefore}
 use Rattle.thy_parts.specs.Design.{DesignOf, Composed}
 use Rattle.thy_parts.specs.Moments.{IsMoment}

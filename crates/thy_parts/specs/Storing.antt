@@ -4,13 +4,13 @@ use Rattle.thy_block.specs.declared.block.Block.{Block}
 use Rattle.thy_block.specs.Device.{Device, newest, IsFramed, HasFailed}
 use Rattle.thy_block.specs.Places.{header_place, commit_place}
 use Rattle.thy_block.specs.Store.{HasStored}
-use Rattle.thy_crash.specs.Spares.{Spares}
+use Rattle.thy_layout.specs.Spares.{Spares}
 use Rattle.thy_layout.specs.Commit.{commit_of}
 use Rattle.thy_layout.specs.Layout.{looked_by}
 use Rattle.thy_view.specs.Action.{IsAccess, after, FailsTo}
 use Rattle.thy_view.specs.Dram.{ActsOnDram, WritesBlock}
-use Rattle.thy_boot.specs.Filling.{layout_at}
-use Rattle.thy_engine.specs.Items.{Phase, Resting, Making, Made}
+use Rattle.thy_checkpoint.specs.Filling.{layout_at}
+use Rattle.thy_checkpoint.specs.Items.{Phase, Resting, Making, Made}
 use Rattle.thy_parts.specs.Design.{DesignOf}
 use Rattle.thy_parts.specs.Holding.{holding_of}
 use Rattle.thy_parts.specs.Moments.{IsMoment, MakesAt}

@@ -1,9 +1,9 @@
 //! What a scheme says of itself beside its boot and its engine.
 ghost use Rattle.std.specs.Prelude.{◌≡◌, ◌<◌, true, false, length, IfOk, OnErr};
 ghost use Rattle.thy_block.specs.Device.{block_at};
-ghost use Rattle.thy_boot.specs.Filling.{layout_at};
+ghost use Rattle.thy_checkpoint.specs.Filling.{layout_at};
 ghost use Rattle.thy_dram.specs.Contents.{lost};
-ghost use Rattle.thy_engine.specs.Progress.{Acts, phase_of};
+ghost use Rattle.thy_checkpoint.specs.Progress.{Acts, phase_of};
 ghost use Rattle.thy_parts.specs.AreParts.{AreParts};
 ghost use Rattle.thy_parts.specs.Calls.{IsReading, Promotes, merged_next, promoted_next};
 ghost use Rattle.thy_parts.specs.Design.{PartsOf, design_of};
@@ -12,9 +12,8 @@ ghost use Rattle.thy_view.specs.Kind.{IsDramOf};
 
 use std::alloc::{AllocError, Global};
 use thy_block::{Block, Geometry, Nvm, NvmError, Stored};
-use thy_boot::Fills;
+use thy_checkpoint::{Checkpoints, EngineStage, Fills};
 use thy_dram::Dram;
-use thy_engine::{Checkpoints, EngineStage};
 
 /// A scheme's controller: how power comes on, how loads and stores go, and what a seal makes of it. Together with what its
 /// boot fills and what its engine writes that is a scheme.

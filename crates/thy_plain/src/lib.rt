@@ -3,7 +3,7 @@
 //! the steps that specs/Step.antt of thy_isa defines, and on `start_of`, the state at which a program starts.
 //!
 //! Open specs/Machine.antt first, and src/plain.rt. It stands on thy_block, thy_isa and thy_elf; on it stand
-//! thy_files and thy_plain_run.
+//! thy_files and thy_execute.
 #![tactic(auto)]
 
 mod advance;

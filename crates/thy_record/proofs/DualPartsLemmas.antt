@@ -8,7 +8,7 @@ use Rattle.thy_layout.specs.declared.layout_version.LayoutVersion.TheVariants.{V
 use Rattle.thy_block.specs.Device.{Device, newest, zero_block, block_at}
 use Rattle.thy_block.specs.Geometry.{IsInRange, console_room}
 use Rattle.thy_record.specs.VersionSlots.{blocks_of_slot, place_of_slot}
-use Rattle.thy_places.specs.Places.{slot_blocks, slot_place, image_blocks}
+use Rattle.thy_table.specs.Places.{slot_blocks, slot_place, image_blocks}
 use Rattle.thy_block.proofs.BasicLemmas.{all_none}
 use Rattle.thy_isa.specs.declared.state.CpuState.{CpuState}
 use Rattle.thy_isa.specs.OnBlocks.{state_from}
@@ -24,13 +24,13 @@ use Rattle.thy_layout.proofs.AskingLemmas.{half}
 use Rattle.thy_record.proofs.IssuingLemmas.{memory_between, slot_of_memory}
 use Rattle.thy_layout.proofs.ReadBackLemmas.{epoch_of-commit_of, version_of-commit_of, commit_fault-commit_of, is_zero-commit_of, FitsRecord-recordable, cpu_back}
 use Rattle.thy_record.proofs.SlotLemmas.{BeginsWithRecord-slot, tables_in-back, counts_back, slot_fault-back, tables_of_slot}
-use Rattle.thy_crash.specs.Saved.{next_image}
-use Rattle.thy_crash.proofs.SavedLemmas.{next_image-commit}
-use Rattle.thy_protocol.specs.Issuing.{slot_of, ArePlaced, ArePartsOf, IsCheckpoint, CheckpointParts, AreIssued}
+use Rattle.thy_layout.specs.Saved.{next_image}
+use Rattle.thy_layout.proofs.SavedLemmas.{next_image-commit}
+use Rattle.thy_view.specs.Issuing.{slot_of, ArePlaced, ArePartsOf, IsCheckpoint, CheckpointParts, AreIssued}
 use Rattle.thy_layout.specs.Layout.{decode_by}
 use Rattle.thy_record.specs.DualLayouts.{dual_layouts}
 use Rattle.thy_record.specs.DualParts.{parts_by, IsIssuing, IsIssuedCheckpoint, IssuedDecodes}
-use Rattle.thy_protocol.proofs.IssuingLemmas.{issued_is_checkpoint}
+use Rattle.thy_view.proofs.IssuingLemmas.{issued_is_checkpoint}
 use Rattle.thy_record.specs.Issuing.{IsToldBy}
 use Rattle.thy_record.specs.Migrated.{IsWrittenAnew, MeansTheSame}
 use Rattle.thy_record.proofs.MigratedLemmas.{anew_means_the_same}

@@ -2,7 +2,7 @@
 use Rattle.std.proofs.Common.{◌≡◌, ℕ, ◌%◌, ◌/◌, ◌<◌, false, Option, Some, None, refl, arith}
 use Rattle.thy_block.specs.declared.parameters.Parameters.{Parameters}
 use Rattle.thy_block.specs.Geometry.{memory_blocks}
-use Rattle.thy_places.specs.Places.{in_dram, IsPlace}
+use Rattle.thy_table.specs.Places.{in_dram, IsPlace}
 use Rattle.thy_block.specs.Store.{page_of}
 use Rattle.thy_layout.specs.Entries.{entry_of}
 use Rattle.thy_record.specs.Tables.{Tables, place_by_entries, place_of, IsTables}

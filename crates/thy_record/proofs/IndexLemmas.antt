@@ -3,9 +3,9 @@ use Rattle.std.proofs.Common.{◌≡◌, ℕ, ◌+◌, ◌*◌, ◌%◌, ◌<◌
 use Rattle.std.proofs.lemmas.Bool.{cases_eq}
 use Rattle.std.proofs.lemmas.List.{length-set, get_or-set_same, get_or-set_other, ext_get_or}
 use Rattle.thy_block.specs.declared.parameters.Parameters.{Parameters}
-use Rattle.thy_places.specs.declared.place.Place.TheVariants.{Home, AlternateBlock}
+use Rattle.thy_table.specs.declared.place.Place.TheVariants.{Home, AlternateBlock}
 use Rattle.thy_block.specs.Geometry.{memory_blocks}
-use Rattle.thy_places.specs.Places.{number_of}
+use Rattle.thy_table.specs.Places.{number_of}
 use Rattle.thy_block.specs.Store.{page_of}
 use Rattle.thy_layout.proofs.EntryLemmas.{entry_of-take_here, entry_of-take_other}
 use Rattle.thy_record.specs.Index.{index_by, ListsOnce, with_block, HasPageOf}

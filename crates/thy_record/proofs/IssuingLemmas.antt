@@ -7,7 +7,7 @@ use Rattle.thy_block.specs.declared.parameters.Parameters.{Parameters}
 use Rattle.thy_layout.specs.declared.layout_version.LayoutVersion.{LayoutVersion}
 use Rattle.thy_layout.specs.declared.layout_version.LayoutVersion.TheVariants.{VersionOne, VersionTwo}
 use Rattle.thy_block.specs.Places.{record_blocks, hart_blocks}
-use Rattle.thy_places.specs.Places.{table_blocks, count_blocks, blocks_one, image_blocks, in_dram, number_of, IsPlace, slot_blocks, slot_place, first_home}
+use Rattle.thy_table.specs.Places.{table_blocks, count_blocks, blocks_one, image_blocks, in_dram, number_of, IsPlace, slot_blocks, slot_place, first_home}
 use Rattle.thy_record.specs.VersionSlots.{blocks_of_slot, place_of_slot}
 use Rattle.thy_layout.specs.Files.{blocks_of}
 use Rattle.thy_layout.specs.Layout.{is_length, slot_places, looked_by}
@@ -20,12 +20,12 @@ use Rattle.thy_layout.specs.Header.{last_word, knows_version_one}
 use Rattle.thy_record.specs.Number.{scheme_number}
 use Rattle.std.proofs.lemmas.List.FromFn.{length-range_with_len, get_or-range_with_len}
 use Rattle.std.specs.List.{range_with_len}
-use Rattle.thy_places.specs.declared.place.Place.{Place}
-use Rattle.thy_places.specs.declared.place.Place.TheVariants.{Home, AlternateBlock, AlternatePage}
+use Rattle.thy_table.specs.declared.place.Place.{Place}
+use Rattle.thy_table.specs.declared.place.Place.TheVariants.{Home, AlternateBlock, AlternatePage}
 use Rattle.thy_block.specs.Device.{Device, zero_block, block_at, newest}
 use Rattle.thy_block.specs.Geometry.{memory_blocks}
 use Rattle.thy_block.specs.Store.{page_of}
-use Rattle.thy_places.proofs.PlaceLemmas.{numbers_tell, between_slots}
+use Rattle.thy_table.proofs.PlaceLemmas.{numbers_tell, between_slots}
 use Rattle.thy_block.proofs.BasicLemmas.{Contains-range}
 use Rattle.thy_layout.proofs.LookedLemmas.{not_looked}
 use Rattle.thy_record.specs.Images.{slot_in, memory_numbers}

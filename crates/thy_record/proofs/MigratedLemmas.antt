@@ -10,7 +10,7 @@ use Rattle.thy_block.specs.declared.parameters.Parameters.{Parameters}
 use Rattle.thy_layout.specs.declared.layout_version.LayoutVersion.TheVariants.{VersionOne, VersionTwo}
 use Rattle.thy_block.specs.Device.{zero_block, block_at}
 use Rattle.thy_block.specs.Places.{record_blocks}
-use Rattle.thy_places.specs.Places.{table_blocks, count_blocks, slot_blocks}
+use Rattle.thy_table.specs.Places.{table_blocks, count_blocks, slot_blocks}
 use Rattle.thy_block.specs.Words.{word_of}
 use Rattle.thy_block.proofs.BlockLemmas.{zero_block-at}
 use Rattle.thy_layout.specs.declared.bad_image.BadImage.{BadImage}

@@ -5,7 +5,7 @@ use Rattle.thy_block.specs.declared.parameters.Parameters.{Parameters}
 use Rattle.thy_layout.specs.declared.layout_version.LayoutVersion.{LayoutVersion}
 use Rattle.thy_layout.specs.declared.layout_version.LayoutVersion.TheVariants.{VersionOne, VersionTwo}
 use Rattle.thy_record.specs.VersionSlots.{blocks_of_slot, place_of_slot}
-use Rattle.thy_places.specs.Places.{slot_blocks, blocks_one, image_blocks, number_of}
+use Rattle.thy_table.specs.Places.{slot_blocks, blocks_one, image_blocks, number_of}
 use Rattle.thy_layout.specs.Commit.{epoch_of, version_of, slot_of_epoch}
 use Rattle.thy_layout.specs.Decoded.{Reading}
 use Rattle.thy_layout.specs.Layout.{Layout, Layouts, reading}

@@ -7,7 +7,7 @@ use Rattle.thy_layout.specs.declared.layout_version.LayoutVersion.TheVariants.{V
 use Rattle.thy_block.specs.Device.{Device, newest}
 use Rattle.thy_block.specs.Geometry.{IsInRange}
 use Rattle.thy_block.specs.Places.{header_place}
-use Rattle.thy_places.specs.Places.{slot_blocks, slot_place, image_blocks}
+use Rattle.thy_table.specs.Places.{slot_blocks, slot_place, image_blocks}
 use Rattle.thy_isa.specs.declared.state.CpuState.{CpuState}
 use Rattle.thy_isa.specs.OnBlocks.{state_from}
 use Rattle.thy_layout.specs.Commit.{commit_of, slot_of_epoch}
@@ -19,8 +19,8 @@ use Rattle.thy_record.specs.Images.{slot_in, memory_numbers}
 use Rattle.thy_record.specs.Slots.{slot_block_of, byte_in, AreCounts, counts_in}
 use Rattle.thy_record.specs.Tables.{Tables, IsTables}
 use Rattle.thy_record.specs.Issuing.{IsToldBy}
-use Rattle.thy_crash.specs.Saved.{IsIssued, next_image}
-use Rattle.thy_protocol.specs.Issuing.{CheckpointParts, AreIssued}
+use Rattle.thy_layout.specs.Saved.{IsIssued, next_image}
+use Rattle.thy_view.specs.Issuing.{CheckpointParts, AreIssued}
 use Rattle.thy_layout.specs.Layout.{decode_by, looked_by}
 use Rattle.thy_record.specs.DualLayouts.{dual_layouts}
 

@@ -7,7 +7,7 @@ use Rattle.thy_layout.specs.declared.layout_version.LayoutVersion.TheVariants.{V
 use Rattle.thy_block.specs.Device.{block_at}
 use Rattle.thy_block.specs.Geometry.{IsInRange, memory_blocks}
 use Rattle.thy_block.specs.Places.{commit_place, header_place}
-use Rattle.thy_places.specs.Places.{in_dram, IsPlace, slot_blocks, slot_place, image_blocks}
+use Rattle.thy_table.specs.Places.{in_dram, IsPlace, slot_blocks, slot_place, image_blocks}
 use Rattle.thy_isa.specs.declared.state.CpuState.{CpuState}
 use Rattle.thy_isa.specs.Step.{State}
 use Rattle.thy_layout.specs.Commit.{commit_of, slot_of_epoch}

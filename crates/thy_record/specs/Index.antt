@@ -1,8 +1,8 @@
 -- Where an image has each block of memory, as one list of numbers: so far as both tables were gone through.
 use Rattle.std.specs.Prelude.{◌≡◌, ◌≢◌, ℕ, ◌+◌, ◌*◌, ◌<◌, List, slice_set, slice_index_or, Option, Some, None}
 use Rattle.thy_block.specs.declared.parameters.Parameters.{Parameters}
-use Rattle.thy_places.specs.declared.place.Place.TheVariants.{AlternateBlock, AlternatePage}
-use Rattle.thy_places.specs.Places.{number_of}
+use Rattle.thy_table.specs.declared.place.Place.TheVariants.{AlternateBlock, AlternatePage}
+use Rattle.thy_table.specs.Places.{number_of}
 use Rattle.thy_block.specs.Store.{page_of}
 use Rattle.thy_record.specs.Images.{memory_numbers}
 use Rattle.thy_layout.specs.Entries.{Lists}

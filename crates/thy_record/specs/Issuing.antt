@@ -5,12 +5,12 @@ use Rattle.thy_block.specs.declared.block.Block.{Block}
 use Rattle.thy_block.specs.declared.parameters.Parameters.{Parameters}
 use Rattle.thy_layout.specs.declared.layout_version.LayoutVersion.{LayoutVersion}
 use Rattle.thy_layout.specs.declared.layout_version.LayoutVersion.TheVariants.{VersionOne, VersionTwo}
-use Rattle.thy_places.specs.declared.place.Place.{Place}
-use Rattle.thy_places.specs.declared.place.Place.TheVariants.{Home, AlternateBlock, AlternatePage}
+use Rattle.thy_table.specs.declared.place.Place.{Place}
+use Rattle.thy_table.specs.declared.place.Place.TheVariants.{Home, AlternateBlock, AlternatePage}
 use Rattle.thy_block.specs.Device.{Device, block_at, newest}
 use Rattle.thy_block.specs.Geometry.{memory_blocks}
 use Rattle.thy_block.specs.Places.{commit_place}
-use Rattle.thy_places.specs.Places.{in_dram, number_of, IsPlace, slot_blocks, slot_place}
+use Rattle.thy_table.specs.Places.{in_dram, number_of, IsPlace, slot_blocks, slot_place}
 use Rattle.thy_block.specs.Store.{page_of}
 use Rattle.thy_layout.specs.Commit.{epoch_of, version_of, slot_of_epoch}
 use Rattle.thy_layout.specs.Layout.{looked_by}

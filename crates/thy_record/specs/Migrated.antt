@@ -5,7 +5,7 @@ use Rattle.thy_block.specs.declared.parameters.Parameters.{Parameters}
 use Rattle.thy_layout.specs.declared.layout_version.LayoutVersion.TheVariants.{VersionOne, VersionTwo}
 use Rattle.thy_block.specs.Device.{block_at}
 use Rattle.thy_record.specs.VersionSlots.{blocks_of_slot}
-use Rattle.thy_places.specs.Places.{slot_blocks}
+use Rattle.thy_table.specs.Places.{slot_blocks}
 use Rattle.thy_layout.specs.Cpu.{cpu_of_record}
 use Rattle.thy_record.specs.Slots.{tables_in, counts_in, slot_fault}
 

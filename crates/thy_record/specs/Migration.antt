@@ -6,7 +6,7 @@ use Rattle.thy_layout.specs.declared.layout_version.LayoutVersion.TheVariants.{V
 use Rattle.thy_block.specs.Device.{Device, block_at, newest}
 use Rattle.thy_block.specs.Places.{header_place}
 use Rattle.thy_record.specs.VersionSlots.{blocks_of_slot}
-use Rattle.thy_places.specs.Places.{slot_blocks, slot_place, image_blocks}
+use Rattle.thy_table.specs.Places.{slot_blocks, slot_place, image_blocks}
 use Rattle.thy_isa.specs.OnBlocks.{state_from}
 use Rattle.thy_layout.specs.Commit.{commit_of, slot_of_epoch}
 use Rattle.thy_layout.specs.Cpu.{cpu_of_record}
@@ -16,8 +16,8 @@ use Rattle.thy_record.specs.Number.{scheme_number}
 use Rattle.thy_record.specs.Images.{slot_in, memory_numbers}
 use Rattle.thy_record.specs.Issuing.{IsToldBy}
 use Rattle.thy_record.specs.Slots.{tables_in, counts_in, slot_fault}
-use Rattle.thy_crash.specs.Saved.{IsIssued, next_image}
-use Rattle.thy_protocol.specs.Issuing.{CheckpointParts, AreIssued}
+use Rattle.thy_layout.specs.Saved.{IsIssued, next_image}
+use Rattle.thy_view.specs.Issuing.{CheckpointParts, AreIssued}
 use Rattle.thy_layout.specs.Layout.{decode_by, looked_by}
 use Rattle.thy_record.specs.DualLayouts.{dual_layouts}
 

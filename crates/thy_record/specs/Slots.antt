@@ -9,7 +9,7 @@ use Rattle.thy_layout.specs.declared.layout_version.LayoutVersion.{LayoutVersion
 use Rattle.thy_layout.specs.declared.layout_version.LayoutVersion.TheVariants.{VersionOne, VersionTwo}
 use Rattle.thy_block.specs.Device.{block_at}
 use Rattle.thy_block.specs.Places.{record_blocks}
-use Rattle.thy_places.specs.Places.{table_blocks, count_blocks, slot_blocks}
+use Rattle.thy_table.specs.Places.{table_blocks, count_blocks, slot_blocks}
 use Rattle.thy_isa.specs.declared.state.CpuState.{CpuState}
 use Rattle.thy_layout.specs.declared.bad_image.BadImage.{BadImage}
 use Rattle.thy_layout.specs.declared.bad_image.BadImage.TheVariants.{Count}

@@ -2,8 +2,8 @@
 -- The two tables of a checkpoint, and the place at which it has each block of memory.
 use Rattle.std.specs.Prelude.{◌≡◌, ℕ, ◌%◌, ◌<◌, List, length, Option, Some, None}
 use Rattle.thy_block.specs.declared.parameters.Parameters.{Parameters}
-use Rattle.thy_places.specs.declared.place.Place.{Place}
-use Rattle.thy_places.specs.declared.place.Place.TheVariants.{Home, AlternateBlock, AlternatePage}
+use Rattle.thy_table.specs.declared.place.Place.{Place}
+use Rattle.thy_table.specs.declared.place.Place.TheVariants.{Home, AlternateBlock, AlternatePage}
 use Rattle.thy_block.specs.Geometry.{memory_blocks}
 use Rattle.thy_block.specs.Store.{page_of}
 use Rattle.thy_layout.specs.Entries.{Lists, entry_of}

@@ -4,7 +4,7 @@ use Rattle.std.specs.Prelude.{ℕ}
 use Rattle.thy_block.specs.declared.parameters.Parameters.{Parameters}
 use Rattle.thy_layout.specs.declared.layout_version.LayoutVersion.{LayoutVersion}
 use Rattle.thy_layout.specs.declared.layout_version.LayoutVersion.TheVariants.{VersionOne, VersionTwo}
-use Rattle.thy_places.specs.Places.{slot_blocks_one, slot_blocks, slot_place_one, slot_place}
+use Rattle.thy_table.specs.Places.{slot_blocks_one, slot_blocks, slot_place_one, slot_place}
 
 -- how many blocks a slot of a version has
 abbrev pub blocks_of_slot : LayoutVersion → Parameters → ℕ

@@ -15,7 +15,7 @@ use thy_layout::{
     BadImage, Found, ImageLayout, LayoutVersion, check_image, epoch_in, slot_of_epoch,
     state_of_image,
 };
-use thy_places::{blocks, blocks_one};
+use thy_table::{blocks, blocks_one};
 
 /// Images of both versions: the commit block names the version of its slot.
 #[derive(Drop)]

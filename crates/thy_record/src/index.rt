@@ -2,7 +2,7 @@
 ghost use Rattle.std.specs.Prelude.{◌≡◌, ◌+◌, ◌*◌, ◌/◌, ◌<◌, ◌≤◌, ℕ, List, [], Option, length, IfOk, IfSome};
 ghost use Rattle.thy_block.specs.Geometry.{memory_blocks};
 ghost use Rattle.thy_block.specs.Places.{record_blocks};
-ghost use Rattle.thy_places.specs.Places.{table_blocks};
+ghost use Rattle.thy_table.specs.Places.{table_blocks};
 ghost use Rattle.thy_layout.specs.Files.{blocks_of, table_in};
 ghost use Rattle.thy_record.specs.Images.{memory_numbers};
 ghost use Rattle.thy_record.specs.Index.{index_by, ListsOnce, with_block, HasPage, HasPageOf};
@@ -13,7 +13,7 @@ use crate::slot::{btt_in, ptt_in};
 use std::alloc::{AllocError, Global};
 use thy_block::{Geometry, PAGE_BLOCKS};
 use thy_layout::entry;
-use thy_places::{Place, home, number};
+use thy_table::{Place, home, number};
 
 // All of memory at home.
 fn homes(alloc: Global, geometry: &Geometry) -> Result<Vec<u64>, AllocError>

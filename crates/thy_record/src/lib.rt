@@ -5,7 +5,7 @@
 //! has tables that a checkpoint may have.
 //!
 //! Open specs/DualLayouts.antt first, then specs/Images.antt, specs/Slots.antt and src/images.rt. It depends on thy_layout and
-//! thy_protocol and their dependencies; all from thy_control on depend on it.
+//! thy_view and their dependencies; all from thy_control on depend on it.
 #![tactic(auto)]
 
 mod header;

@@ -3,7 +3,7 @@
 ghost use Rattle.std.specs.Prelude.{◌≡◌, ◌+◌, ◌*◌, ◌/◌, ◌<◌, ◌≤◌, length};
 ghost use Rattle.thy_layout.specs.declared.layout_version.LayoutVersion.TheVariants.{VersionTwo};
 ghost use Rattle.thy_block.specs.Places.{record_blocks};
-ghost use Rattle.thy_places.specs.Places.{table_blocks, count_blocks};
+ghost use Rattle.thy_table.specs.Places.{table_blocks, count_blocks};
 ghost use Rattle.thy_record.specs.VersionSlots.{blocks_of_slot};
 ghost use Rattle.thy_layout.specs.Files.{blocks_of, table_in};
 ghost use Rattle.thy_layout.specs.Entries.{entry_at};
@@ -14,7 +14,7 @@ use thy_block::{BLOCK_COUNTS, BLOCK_SIZE, Geometry};
 use thy_layout::{
     BadImage, LayoutVersion, entry, record_size, second_fault, status_fault, table_behind, word_in,
 };
-use thy_places::{count_blocks as blocks_of_counts, table_blocks as blocks_of_tables};
+use thy_table::{count_blocks as blocks_of_counts, table_blocks as blocks_of_tables};
 
 /// The block table of a slot, which follows the processor's record.
 pub fn btt_in<'a>(slot: &'a [u8], geometry: &Geometry) -> &'a [u8]

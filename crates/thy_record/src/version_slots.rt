@@ -5,7 +5,7 @@ ghost use Rattle.thy_record.specs.VersionSlots.{blocks_of_slot, place_of_slot};
 
 use thy_block::Geometry;
 use thy_layout::LayoutVersion;
-use thy_places::{slot, slot_blocks, slot_blocks_one, slot_one};
+use thy_table::{slot, slot_blocks, slot_blocks_one, slot_one};
 
 /// How many blocks each of the two slots of a version has: in version 1 the record of one hart and both tables, whatever
 /// the harts; in version 2 the processor's record, both tables, and the counts.

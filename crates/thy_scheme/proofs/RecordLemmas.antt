@@ -4,7 +4,7 @@ use Rattle.thy_block.specs.declared.block.Block.{Block}
 use Rattle.thy_block.specs.declared.parameters.Parameters.{Parameters}
 use Rattle.thy_block.specs.Geometry.{IsInRange, memory_blocks, console_room}
 use Rattle.thy_block.specs.Device.{Device}
-use Rattle.thy_flat.proofs.MemoryLaws.{length-console_bytes}
+use Rattle.thy_block.proofs.MemoryLaws.{length-console_bytes}
 use Rattle.thy_isa.specs.declared.state.CpuState.{CpuState}
 use Rattle.thy_isa.specs.OnBlocks.{state_from}
 use Rattle.thy_layout.specs.declared.engine_step.EngineStep.TheVariants.{StateBlock, TableBlock}

@@ -6,3 +6,12 @@ pub mod Boots
 pub mod Laws
 pub mod SchemeStore
 pub mod Restart
+pub mod Machine
+pub mod Pace
+pub mod Sound
+pub mod MachineCalls
+pub mod MachineExact
+pub mod Rows
+pub mod Kind
+pub mod Failures
+pub mod Runs

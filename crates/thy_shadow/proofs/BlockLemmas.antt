@@ -3,8 +3,8 @@ use Rattle.std.proofs.Common.{◌≡◌, ℕ, ◌<◌, length, arith}
 use Rattle.std.proofs.lemmas.List.FromFn.{length-map-range_with_len, get_or-map-range_with_len}
 use Rattle.thy_block.specs.Device.{Device, block_at, zero_block}
 use Rattle.thy_block.specs.Geometry.{memory_blocks}
-use Rattle.thy_pool.specs.Holding.{works, commits}
-use Rattle.thy_pool.specs.State.{State, committed_of, work_of}
+use Rattle.thy_shadow_parts.specs.Holding.{works, commits}
+use Rattle.thy_shadow_parts.specs.State.{State, committed_of, work_of}
 
 pub small_work : (s : State) (n : Device) (b : ℕ) → b < length (works s n) → b < memory_blocks s.p
 small_work s n b low = omega (arith, low, length-map-range_with_len (work_of s n) 0 (memory_blocks s.p))

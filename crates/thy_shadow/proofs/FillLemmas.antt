@@ -3,10 +3,10 @@ use Rattle.std.proofs.Common.{◌≡◌, List, sym, ◌∙◌, ap}
 use Rattle.thy_block.specs.declared.block.Block.{Block}
 use Rattle.thy_block.specs.declared.parameters.Parameters.{Parameters}
 use Rattle.thy_table.specs.Listing.{entry_at}
-use Rattle.thy_boot.specs.Filling.{ListsOn}
+use Rattle.thy_checkpoint.specs.Filling.{ListsOn}
 use Rattle.thy_shadow_image.specs.Slots.{table_in}
-use Rattle.thy_pool.specs.State.{State, IsSoundState, committed_table}
-use Rattle.thy_repool.specs.Filling.{filling_shadow, IsFresh}
+use Rattle.thy_shadow_parts.specs.State.{State, IsSoundState, committed_table}
+use Rattle.thy_shadow_parts.specs.Filling.{filling_shadow, IsFresh}
 
 pub lists_on : (commit : Block) (slot : List Block) (old new : State) → IsFresh old → IsSoundState new
     → committed_table new ≡ table_in old.p slot → new ≡ record old { pool = new.pool } → ListsOn filling_shadow commit slot old new

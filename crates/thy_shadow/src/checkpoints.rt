@@ -3,14 +3,14 @@ ghost use Rattle.std.specs.Prelude.{◌≡◌};
 
 use crate::fills::Relist;
 use thy_block::{Block, Geometry, Nvm, NvmError};
-use thy_engine::Checkpoints;
+use thy_checkpoint::Checkpoints;
 use thy_layout::EngineStep;
-use thy_pool::Pool;
+use thy_shadow_parts::Pool;
 
 /// A position is a block of the frames, 64 to a frame. The body writes each block of a filled frame into the frame's page of
 /// the pool; with the commit these pages take the place of the old ones. Nothing follows.
 impl Checkpoints for Relist {
-    ghost use Rattle.thy_shadow_laws.specs.Design.{items_shadow};
+    ghost use Rattle.thy_shadow_parts.specs.Design.{items_shadow};
 
     ghost items = { items_shadow };
 

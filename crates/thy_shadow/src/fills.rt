@@ -2,15 +2,14 @@
 ghost use Rattle.std.specs.Prelude.{◌≡◌, false, length, OnOk, OnErr};
 ghost use Rattle.thy_block.specs.Places.{header_place};
 ghost use Rattle.thy_view.specs.Action.{ReadAt};
-ghost use Rattle.thy_boot.specs.Loads.{Takes};
+ghost use Rattle.thy_checkpoint.specs.Loads.{Takes};
 ghost use Rattle.thy_shadow_image.specs.Places.{image_blocks};
 
 use thy_block::{Block, Geometry, HEADER_PLACE, Nvm, NvmError};
-use thy_boot::Fills;
+use thy_checkpoint::Fills;
 use thy_isa::MachState;
-use thy_pool::Pool;
-use thy_repool::start_slot_block;
 use thy_shadow_image::{ShadowImages, pool as pool_number};
+use thy_shadow_parts::{Pool, start_slot_block};
 
 /// Shadow paging's part of the boot: the pool, which lists the map of the slot that the commit block names. Nothing is
 /// filled: every page is in the NVM.
@@ -23,8 +22,8 @@ impl Fills for Relist {
     type Control = Pool;
 
     ghost use Rattle.std.specs.Prelude.{refl};
-    ghost use Rattle.thy_repool.specs.Filling.{filling_shadow};
-    ghost use Rattle.thy_repool.proofs.LawLemmas.{pool_is_listed};
+    ghost use Rattle.thy_shadow_parts.specs.Filling.{filling_shadow};
+    ghost use Rattle.thy_shadow_parts.proofs.LawLemmas.{pool_is_listed};
 
     ghost filling = { filling_shadow };
 

@@ -2,7 +2,7 @@
 //! frames into pages of a pool that the committed map does not list, and commits a map that lists them, while the hart
 //! waits.
 //!
-//! Open src/checkpoints.rt first, then src/parts.rt. It depends on thy_pool, thy_repool, thy_compose, thy_shadow_laws and
+//! Open src/checkpoints.rt first, then src/parts.rt. It depends on thy_shadow_parts, thy_compose and
 //! their dependencies.
 #![tactic(auto)]
 

@@ -2,17 +2,17 @@
 use crate::fills::Relist;
 use std::alloc::{AllocError, Global};
 use thy_block::{Block, Geometry, Nvm, NvmError, Stored};
+use thy_checkpoint::EngineStage;
 use thy_dram::Dram;
-use thy_engine::EngineStage;
 use thy_parts::Parts;
-use thy_pool::Pool;
+use thy_shadow_parts::Pool;
 
 /// Blocks of pages that have a frame are loaded from it, all others where they were committed; a store goes into the frame of
 /// its page, whose blocks are copied first. With a seal a frame that is begun and not filled is so no more, and no block has
 /// ever to be merged or promoted.
 impl Parts for Relist {
-    ghost use Rattle.thy_shadow_laws.proofs.PartsLemmas.{are_parts as parts_of_shadow};
-    ghost use Rattle.thy_shadow_laws.specs.Design.{shadow_parts};
+    ghost use Rattle.thy_shadow_parts.proofs.PartsLemmas.{are_parts as parts_of_shadow};
+    ghost use Rattle.thy_shadow_parts.specs.Design.{shadow_parts};
 
     ghost parts = { shadow_parts };
 

@@ -8,7 +8,7 @@ use Rattle.thy_block.specs.Device.{Device, newest, block_at}
 use Rattle.thy_block.specs.Geometry.{IsInRange, memory_blocks}
 use Rattle.thy_block.specs.Store.{page_of}
 use Rattle.thy_block.proofs.BasicLemmas.{all_none, Contains-range}
-use Rattle.thy_crash.proofs.SavedLemmas.{next_image-commit}
+use Rattle.thy_layout.proofs.SavedLemmas.{next_image-commit}
 use Rattle.thy_isa.specs.declared.state.CpuState.{CpuState}
 use Rattle.thy_isa.specs.OnBlocks.{state_from}
 use Rattle.thy_layout.specs.Commit.{commit_of, epoch_of, commit_fault}
@@ -23,8 +23,8 @@ use Rattle.thy_layout.proofs.LookedLemmas.{not_looked}
 use Rattle.thy_layout.specs.AreLayouts.{Fits, HasPlaces, HasSlot, AreLayouts}
 use Rattle.thy_layout.specs.Slots.{cpu_fault}
 use Rattle.thy_layout.proofs.TableSlotLemmas.{slot_parts, slot_higher}
-use Rattle.thy_protocol.specs.Issuing.{CheckpointParts, slot_of, ArePlaced, ArePartsOf, IsCheckpoint}
-use Rattle.thy_protocol.proofs.IssuingLemmas.{issued_is_checkpoint}
+use Rattle.thy_view.specs.Issuing.{CheckpointParts, slot_of, ArePlaced, ArePartsOf, IsCheckpoint}
+use Rattle.thy_view.proofs.IssuingLemmas.{issued_is_checkpoint}
 use Rattle.thy_shadow_image.specs.Places.{scheme_number, slot_blocks, slot_place, first_pool, pool_pages, image_blocks, pool_place, pool_page, place_of}
 use Rattle.thy_shadow_image.specs.Slots.{IsMap, table_in, slot_fault, table_fault}
 use Rattle.thy_shadow_image.specs.Layout.{shadow_layouts}

@@ -3,7 +3,7 @@
 //! `free_is_not_looked_at`, `listed_page` over the bytes of a slot, and `ShadowImages`, by which files and devices are read.
 //!
 //! Open specs/Places.antt first, then specs/Slots.antt and specs/Layout.antt, and src/laws.rt. It depends on thy_block,
-//! thy_crash, thy_isa, thy_layout and thy_protocol; thy_pool and the scheme above it depend on it.
+//! thy_isa, thy_layout and thy_view; thy_shadow_parts and thy_answer depend on it.
 #![tactic(auto)]
 
 mod images;

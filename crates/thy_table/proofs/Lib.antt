@@ -2,3 +2,6 @@ pub mod FirstLemmas
 pub mod IndexLemmas
 pub mod MapLemmas
 pub mod ListingLaws
+pub mod PlaceLemmas
+pub mod MoveLemmas
+pub mod StoreLemmas

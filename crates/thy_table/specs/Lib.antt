@@ -1,3 +1,14 @@
 pub mod BlockEntry
 pub mod Listing
 pub mod PageEntry
+pub mod Counts
+pub mod LastBlocks
+pub mod Places
+pub mod Devices
+pub mod DeviceLaws
+pub mod Cells
+pub mod Sound
+pub mod Rules
+pub mod Store
+pub mod Checkpoint
+pub mod BetweenCheckpoints

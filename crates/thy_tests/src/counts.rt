@@ -1,7 +1,7 @@
 //! The store counts of three pages.
 use crate::support::expect::expect;
 use thy_base::Block;
-use thy_switch::Counts;
+use thy_table::Counts;
 
 #[test]
 fn pages_are_counted_to_63(rt: HostRuntime) {

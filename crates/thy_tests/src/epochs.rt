@@ -1,7 +1,7 @@
 //! An epoch of two instructions.
 use crate::support::expect::expect;
 use thy_base::EndCause;
-use thy_epoch::EpochState;
+use thy_hart::EpochState;
 
 #[test]
 fn an_epoch_ends_by_length_by_want_of_entries_and_by_the_end(rt: HostRuntime) {

@@ -2,7 +2,7 @@
 
 use crate::support::expect::expect;
 use thy_base::Block;
-use thy_flat::{Piece, Span, take_head};
+use thy_block::{Piece, Span, take_head};
 
 /// The bytes of a span that lie in its first block, which is this one.
 fn head(block: &Block, span: Span) -> Piece {

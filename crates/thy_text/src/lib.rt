@@ -4,7 +4,7 @@
 //! Each line of an event is put together and then written at once, so that a kill never leaves half a line. Contracts do
 //! not say this: the sink's calls are counted in a test.
 //!
-//! Open specs/Lines.antt first, then specs/Marks.antt, and src/event.rt. It stands on thy_base, thy_isa and thy_record;
+//! Open specs/Lines.antt first, then specs/Marks.antt, and src/event.rt. It stands on thy_block, thy_base, thy_isa and thy_record;
 //! on it stand thy_run and thy_answer.
 #![tactic(auto)]
 

@@ -8,3 +8,6 @@ pub mod OneHartLaws
 pub mod ReachLaws
 pub mod BegunLaws
 pub mod AgainLaws
+pub mod IssuingLemmas
+pub mod KeepsLemmas
+pub mod RoundLemmas

@@ -16,7 +16,7 @@ use Rattle.thy_block.specs.Places.{dram_blocks}
 use Rattle.thy_dram.specs.Contents.{Contents}
 use Rattle.thy_isa.specs.declared.state.MachState.{MachState}
 use Rattle.thy_isa.specs.Step.{State, state_of}
-use Rattle.thy_flat.specs.Flat.{AllLong}
+use Rattle.thy_block.specs.Flat.{AllLong}
 use Rattle.thy_layout.specs.Decoded.{Reading, Nothing}
 use Rattle.thy_layout.specs.declared.start.Start.{Start}
 use Rattle.thy_view.specs.declared.did.Did.{Did}

@@ -16,3 +16,9 @@ pub mod Advances
 pub mod Laws
 pub mod Restart
 pub mod Again
+pub mod Issuing
+pub mod Keeps
+pub mod Moves
+pub mod CheckpointLaws
+pub mod Round
+pub mod Rounds

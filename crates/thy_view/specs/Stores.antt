@@ -3,8 +3,8 @@
 -- more lines dirty than it stores to blocks. A cache that marks a line as dirty that it fills, so that more lines are dirty than
 -- before, is refused, and so is one that leaves a line dirty when its store has taken an entry.
 use Rattle.std.specs.Prelude.{◌≡◌, ◌≢◌, ◌⊎◌, ℕ, ◌+◌, ◌-◌, ◌≤◌, ◌==◌, true, false, if◌then◌else◌, Some, None}
-use Rattle.thy_flat.specs.declared.span.Span.{Span}
-use Rattle.thy_flat.specs.Spans.{rest_of}
+use Rattle.thy_block.specs.declared.span.Span.{Span}
+use Rattle.thy_block.specs.Spans.{rest_of}
 use Rattle.thy_isa.specs.Moves.{moves_of}
 use Rattle.thy_isa.specs.Step.{State, call_state_of, effect_at, fronted}
 use Rattle.thy_view.specs.declared.did.Did.{Did}

@@ -2,18 +2,29 @@
 //! changes, and the trait of machines, `Computer`. Its definitions say which changes are steps, and what a power cut
 //! may leave at each of them. The laws of runs and the top call depend only on `Computer`.
 //!
-//! Open specs/Kind.antt first, then specs/CoreStep.antt, and src/computer.rt. It stands on thy_block, thy_flat, thy_isa,
-//! thy_dram and thy_record; on it stand thy_scheme, thy_protocol, thy_run and what is above them.
+//! A run's checkpoints on a device are here too, for every layout: what an image means, which checkpoints a power cut
+//! may leave, and how the next one takes the place of the last (`moves_are_safe`), in the marks that the machine shows.
+//! A `Round` writes one: its blocks, a barrier, the commit block, and a barrier.
+//!
+//! Open specs/Kind.antt first, then specs/CoreStep.antt, and src/computer.rt; of checkpoints specs/Keeps.antt,
+//! specs/Moves.antt and specs/Round.antt, and src/checkpoint_laws.rt. It depends on thy_layout, thy_dram and their
+//! dependencies; thy_run, thy_scheme, thy_checkpoint, the images of all schemes and what is above them depend on it.
 #![tactic(auto)]
 
 mod boot_step;
+mod checkpoint_laws;
 mod computer;
 mod did;
 mod error;
 mod laws;
+mod round;
 mod view;
 
 pub use boot_step::BootStep;
+pub use checkpoint_laws::{
+    a_boot_finds_its_mark, a_cut_keeps, actions_spare, issuing_goes_on, moves_are_safe,
+    rounds_are_moves, what_is_issued_is_a_checkpoint, what_is_kept_is_safe,
+};
 pub use computer::Computer;
 pub use did::{Advance, Did, Row, Stall, Stepped};
 pub use error::CoreError;
@@ -26,4 +37,5 @@ pub use laws::{
     what_retires_nothing_stays_there, with_one_hart_each_cycle_has_its_turn,
     with_one_hart_turns_do_not_matter,
 };
+pub use round::Round;
 pub use view::{Phase, View};

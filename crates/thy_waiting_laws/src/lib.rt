@@ -2,7 +2,7 @@
 //! commit and each restart, while the hart may not run. The law: over a lawful scheme that applies nothing, it is lawful.
 //!
 //! Open specs/Waiting.antt first, then specs/Scheme.antt, and src/laws.rt. It stands on thy_scheme and on what that stands
-//! on; on it stands thy_waiting.
+//! on; on it stands thy_machine_tests.
 #![tactic(auto)]
 
 mod laws;

@@ -2,7 +2,7 @@
 //! contract of `settings` states the exact result in both cases, unless memory ran out.
 //!
 //! Open specs/Settings.antt first, and src/words.rt. It stands on thy_base, whose table of options it goes by, and on
-//! `clap`; on it stand thy_answer and thy_order.
+//! `clap`; on it stand thy_answer and thy_commands.
 #![tactic(auto)]
 
 mod command_line;

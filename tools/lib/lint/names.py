@@ -16,7 +16,7 @@ words with an underscore or with a capital inside are names. A word with a slash
 begins with two dashes is an option of thynvm or of a script in tools/. The script has a list of the few words that are none
 of these.
 
-If the text names the crate or the file, the name has to be defined there: `Keeps` of thy_protocol, `Claim`
+If the text names the crate or the file, the name has to be defined there: `Keeps` of thy_view, `Claim`
 (`crates/thy_cli/specs/Completing.antt`). In a table that has a crate in its first column, or behind a number, and below a
 heading that names files of crates, a name has to be defined in such a crate or in one that it stands on, directly or not.
 

@@ -4,9 +4,7 @@ ghost use Rattle.std.specs.Prelude.{◌≡◌, ◌<◌, false, OnOk};
 
 use super::Control;
 use thy_block::{Nvm, NvmError};
-use thy_cell::{a_frame_is_loaded, listed_cells_are_sound};
-use thy_places::{Place, number};
-use thy_table::{BttEntry, PttEntry};
+use thy_table::{BttEntry, Place, PttEntry, a_frame_is_loaded, listed_cells_are_sound, number};
 
 impl Control {
     ghost use Rattle.thy_control.specs.Boot.{IsBooting, MayListBlock, MayListPage, MayListCount, MayFrame, HaveTables, LoadsFrame, CopiesFrame, with_listed_block, with_listed_page, with_listed_count, with_block, with_page};

@@ -8,8 +8,7 @@ use super::Control;
 use super::moving::move_block;
 use crate::cursors::goes_on;
 use thy_block::{Nvm, NvmError};
-use thy_cell::a_copy_keeps_versions;
-use thy_table::{BttEntry, Pending, Test};
+use thy_table::{BttEntry, Pending, Test, a_copy_keeps_versions};
 
 /// A version has still to be copied to its place.
 #[derive(Drop)]

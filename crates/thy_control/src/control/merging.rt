@@ -8,9 +8,10 @@ ghost use Rattle.thy_table.specs.declared.block_entry.Working.TheVariants.{InBuf
 use super::Control;
 use crate::cursors::goes_on;
 use crate::seal::block_is_framed;
-use thy_cell::{a_dirty_page_keeps_others, a_merge_keeps_versions};
-use thy_places::number;
-use thy_table::{BttEntry, Ptt, PttEntry, Test, Working};
+use thy_table::{
+    BttEntry, Ptt, PttEntry, Test, Working, a_dirty_page_keeps_others, a_merge_keeps_versions,
+    number,
+};
 
 /// A buffer lies over the frame of its block's page, by this page table.
 #[derive(Drop)]

@@ -1,14 +1,13 @@
 //! The move of a block from one place to another.
 ghost use Rattle.std.specs.Prelude.{◌≡◌, true, false, OnOk, OnErr};
 ghost use Rattle.thy_block.specs.Device.{HasFailed, IsFramed, CountsFault};
-ghost use Rattle.thy_places.specs.Places.{in_dram, IsPlace};
-ghost use Rattle.thy_place.specs.Devices.{AreSized, devices_of};
+ghost use Rattle.thy_table.specs.Places.{in_dram, IsPlace};
+ghost use Rattle.thy_table.specs.Devices.{AreSized, devices_of};
 ghost use Rattle.thy_control.specs.Moves.{moved, FailsMove};
 
 use thy_block::{Geometry, Nvm, NvmError};
 use thy_dram::Dram;
-use thy_place::{read_place, write_place};
-use thy_places::{Place, number};
+use thy_table::{Place, number, read_place, write_place};
 
 /// Reads the block at one place, and writes it at another. If the read or the write failed, the DRAM is as before.
 pub(super) fn move_block<N: Nvm>(

@@ -1,8 +1,8 @@
 //! The pages that are being promoted.
 ghost use Rattle.std.specs.Prelude.{◌≡◌, ◌+◌, ◌<◌, ◌*◌, ◌^◌, ◌%◌, true, false, if◌then◌else◌, length, is_some, IfOk, IfSome, OnOk, OnErr};
 ghost use Rattle.thy_block.specs.Geometry.{memory_blocks};
-ghost use Rattle.thy_places.specs.Places.{in_dram};
-ghost use Rattle.thy_cell.specs.Cells.{work as work_place};
+ghost use Rattle.thy_table.specs.Places.{in_dram};
+ghost use Rattle.thy_table.specs.Cells.{work as work_place};
 ghost use Rattle.thy_table.specs.PageEntry.{is_framed as IsFramedPage};
 ghost use Rattle.thy_control.specs.Pages.{page_in, block_after};
 
@@ -11,8 +11,7 @@ use super::moving::move_to_dram;
 use crate::cursors::goes_on;
 use crate::overlay::WorkCounts;
 use thy_block::{Nvm, NvmError, PAGE_BLOCKS};
-use thy_cell::{a_promotion_keeps_others, a_promotion_keeps_versions};
-use thy_table::{PttEntry, Test};
+use thy_table::{PttEntry, Test, a_promotion_keeps_others, a_promotion_keeps_versions};
 
 /// A page is being promoted.
 #[derive(Drop)]

@@ -2,15 +2,14 @@
 ghost use Rattle.std.specs.Prelude.{◌≡◌, ◌+◌, ◌-◌, ◌<◌, ◌≤◌, ◌++◌, length, map, option_and_then};
 ghost use Rattle.thy_record.specs.TableBlocks.{table_block_of};
 ghost use Rattle.thy_layout.specs.Entries.{entry_at as listed_at};
-ghost use Rattle.thy_switch.specs.LastBlocks.{last_block_of};
-ghost use Rattle.thy_places.specs.Places.{table_blocks, count_blocks};
+ghost use Rattle.thy_table.specs.LastBlocks.{last_block_of};
+ghost use Rattle.thy_table.specs.Places.{table_blocks, count_blocks};
 ghost use Rattle.thy_control.specs.TableBlocks.{block_due, page_due};
 
 use super::Control;
 use thy_block::Block;
 use thy_layout::table_block;
-use thy_places::table_blocks as blocks_of_tables;
-use thy_table::{Btt, BttEntry, Ptt, PttEntry, Site, Version};
+use thy_table::{Btt, BttEntry, Ptt, PttEntry, Site, Version, table_blocks as blocks_of_tables};
 
 /// The block that the checkpoint under way lists at an entry.
 fn block_listed_by(entry: Option<BttEntry>) -> Option<u64>

@@ -7,8 +7,9 @@ use super::Control;
 use super::moving::move_block;
 use crate::cursors::goes_on;
 use thy_block::{Nvm, NvmError, PAGE_BLOCKS};
-use thy_cell::{a_page_write_keeps_others, a_page_write_keeps_versions};
-use thy_table::{PttEntry, Test, WHOLE_PAGE};
+use thy_table::{
+    PttEntry, Test, WHOLE_PAGE, a_page_write_keeps_others, a_page_write_keeps_versions,
+};
 
 /// A page's blocks are not all issued.
 #[derive(Drop)]

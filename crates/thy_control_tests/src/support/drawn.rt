@@ -1,11 +1,11 @@
 //! Drawn blocks, and lists of blocks.
 ghost use Rattle.std.specs.Prelude.{◌≡◌, length};
-ghost use Rattle.thy_places.specs.Places.{image_blocks};
+ghost use Rattle.thy_table.specs.Places.{image_blocks};
 
 use std::alloc::Global;
 use std::process::Abort;
 use thy_base::{Block, Geometry, Lcg};
-use thy_places::blocks;
+use thy_table::blocks;
 
 /// A block of drawn bytes.
 pub(crate) fn drawn(lcg: &mut Lcg) -> Block {

@@ -2,7 +2,7 @@
 //! test if that does not hold.
 ghost use Rattle.std.specs.Prelude.{◌≡◌, ◌<◌, true, false, length, is_some};
 ghost use Rattle.thy_block.specs.Device.{Device};
-ghost use Rattle.thy_places.specs.Places.{image_blocks};
+ghost use Rattle.thy_table.specs.Places.{image_blocks};
 ghost use Rattle.thy_control.specs.Copies.{next_copy, after_next_copy};
 ghost use Rattle.thy_control.specs.Pages.{next_page, after_next_write};
 ghost use Rattle.thy_control_tests.specs.Driven.{Drives};
@@ -12,7 +12,7 @@ use std::process::Abort;
 use thy_base::{Block, Geometry, Nvm, Shape, Stored};
 use thy_control::Control;
 use thy_dram::Dram;
-use thy_places::blocks;
+use thy_table::blocks;
 
 /// A controller of the least memory whose power came on, over an NVM that is made to hold this image.
 pub(crate) fn power_on<N: Nvm>(

@@ -1,8 +1,8 @@
 //! A controller of the least memory with its engine, and the NVM below both. Each call tests what it requires, and stops
 //! the test if that does not hold.
 ghost use Rattle.std.specs.Prelude.{◌≡◌, ◌<◌, length, true, false};
-ghost use Rattle.thy_places.specs.Places.{image_blocks};
-ghost use Rattle.thy_dual_laws.specs.Design.{is_promoting};
+ghost use Rattle.thy_table.specs.Places.{image_blocks};
+ghost use Rattle.thy_dual_parts.specs.Design.{is_promoting};
 ghost use Rattle.thy_control_tests.specs.Driven.{Drives};
 ghost use Rattle.thy_control_tests.specs.Memory.{HasRoom};
 
@@ -12,16 +12,16 @@ use std::alloc::Global;
 use std::marker::Model;
 use std::process::Abort;
 use thy_base::{Block, Geometry, Nvm, Parameters, Shape, Stored};
+use thy_checkpoint::Engine;
 use thy_control::Control;
 use thy_dram::Dram;
 use thy_dual::DualTables;
-use thy_dual_laws::engine_and_controller_fit;
-use thy_engine::Engine;
+use thy_dual_parts::engine_and_controller_fit;
 use thy_isa::{CpuState, Regs, Status};
 use thy_layout::{EngineStep, Found};
 use thy_nvm::MemNvm;
-use thy_places::blocks;
 use thy_record::{check, header_block, state};
+use thy_table::blocks;
 
 /// The controller, its engine and the NVM.
 #[derive(Drop)]

@@ -3,10 +3,10 @@ ghost use Rattle.std.specs.Prelude.{◌≡◌, true, false, length};
 ghost use Rattle.thy_block.specs.Device.{IsFramed};
 ghost use Rattle.thy_block.specs.Geometry.{IsInRange};
 ghost use Rattle.thy_block.specs.Places.{dram_blocks};
-ghost use Rattle.thy_boot.specs.Boot.{new_boot};
+ghost use Rattle.thy_checkpoint.specs.Boot.{new_boot};
 ghost use Rattle.thy_control.specs.State.{new_state};
 ghost use Rattle.thy_isa.specs.Step.{state_of};
-ghost use Rattle.thy_recover.specs.Filling.{filling_dual};
+ghost use Rattle.thy_dual_parts.specs.Filling.{filling_dual};
 ghost use Rattle.thy_control_tests.specs.Boots.{Boots, IsLeastStart, goes_on};
 ghost use Rattle.thy_control_tests.specs.Starting.{is_refused};
 
@@ -15,15 +15,14 @@ use std::alloc::Global;
 use std::marker::Model;
 use std::process::Abort;
 use thy_base::{Geometry, Nvm, Shape};
-use thy_boot::{Boot, Stage, a_boot_may_go_on};
+use thy_checkpoint::{Boot, Stage, a_boot_may_go_on};
 use thy_control::Control;
 use thy_dram::Dram;
 use thy_dual::DualTables;
 use thy_layout::Start;
 use thy_nvm::MemNvm;
-use thy_places::blocks;
-use thy_protocol::Round;
-use thy_view::BootStep;
+use thy_table::blocks;
+use thy_view::{BootStep, Round};
 
 /// A machine whose power is off: both devices, and how many cuts are to come at most.
 #[derive(Drop)]

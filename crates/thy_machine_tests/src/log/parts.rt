@@ -4,10 +4,10 @@ ghost use Rattle.std.specs.Prelude.{◌≡◌, ◌<◌, ◌≤◌, true, false, 
 ghost use Rattle.thy_block.specs.Device.{IsFramed};
 ghost use Rattle.thy_block.specs.Geometry.{IsInRange};
 ghost use Rattle.thy_block.specs.Places.{dram_blocks};
-ghost use Rattle.thy_boot.specs.Boot.{new_boot};
+ghost use Rattle.thy_checkpoint.specs.Boot.{new_boot};
 ghost use Rattle.thy_isa.specs.Step.{state_of};
-ghost use Rattle.thy_log.specs.State.{new_state};
-ghost use Rattle.thy_refill.specs.Filling.{filling_journal};
+ghost use Rattle.thy_journal_parts.specs.State.{new_state};
+ghost use Rattle.thy_journal_parts.specs.Filling.{filling_journal};
 ghost use Rattle.thy_machine_tests.specs.Least.{IsLeastStart, goes_on};
 ghost use Rattle.thy_machine_tests.specs.LogParts.{Boots, IsBegun};
 
@@ -16,13 +16,12 @@ use std::alloc::Global;
 use std::marker::Model;
 use std::process::Abort;
 use thy_base::{Block, Geometry, Nvm, Shape};
-use thy_boot::{Boot, a_boot_may_go_on};
+use thy_checkpoint::{Boot, Engine, a_boot_may_go_on};
 use thy_dram::Dram;
-use thy_engine::Engine;
 use thy_journal::Refill;
 use thy_journal_image::blocks;
+use thy_journal_parts::Log;
 use thy_layout::{EngineStep, Start};
-use thy_log::Log;
 use thy_nvm::MemNvm;
 use thy_view::BootStep;
 

@@ -1,5 +1,6 @@
 //! The machine over the scheme that waits: a program of two epochs, cut after every cycle, and how many barriers come
 //! before the hart continues.
+use crate::WaitingScheme;
 use crate::machine::{
     Booted, MOST, Powered, Row, boot, committed_in, plain_machines, survives_once_loaded, uncut,
 };
@@ -11,7 +12,6 @@ use thy_core::Machine;
 use thy_isa::Status;
 use thy_layout::EngineStep;
 use thy_view::Did;
-use thy_waiting::WaitingScheme;
 
 /// `auipc a1,0; addi a1,a1,32; addi a0,zero,1; addi a2,zero,3; addi a7,zero,64; ecall`, which prints three bytes;
 /// `addi a7,zero,93; ecall`; and the bytes, `Hi` and a line feed. It prints in its first epoch, and ends in its second.

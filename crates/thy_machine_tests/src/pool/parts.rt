@@ -4,11 +4,11 @@ ghost use Rattle.std.specs.Prelude.{◌≡◌, ◌<◌, ◌≤◌, true, false, 
 ghost use Rattle.thy_block.specs.Device.{IsFramed};
 ghost use Rattle.thy_block.specs.Geometry.{IsInRange};
 ghost use Rattle.thy_block.specs.Places.{dram_blocks};
-ghost use Rattle.thy_boot.specs.Boot.{new_boot};
-ghost use Rattle.thy_engine.specs.Progress.{is_under_way};
+ghost use Rattle.thy_checkpoint.specs.Boot.{new_boot};
+ghost use Rattle.thy_checkpoint.specs.Progress.{is_under_way};
 ghost use Rattle.thy_isa.specs.Step.{state_of};
-ghost use Rattle.thy_pool.specs.Stores.{new_state};
-ghost use Rattle.thy_repool.specs.Filling.{filling_shadow};
+ghost use Rattle.thy_shadow_parts.specs.Stores.{new_state};
+ghost use Rattle.thy_shadow_parts.specs.Filling.{filling_shadow};
 ghost use Rattle.thy_machine_tests.specs.Least.{IsLeastStart, goes_on};
 ghost use Rattle.thy_machine_tests.specs.PoolParts.{Boots};
 
@@ -17,14 +17,13 @@ use std::alloc::Global;
 use std::marker::Model;
 use std::process::Abort;
 use thy_base::{Block, Geometry, Nvm, Shape, Stored};
-use thy_boot::{Boot, a_boot_may_go_on};
+use thy_checkpoint::{Boot, Engine, a_boot_may_go_on};
 use thy_dram::Dram;
-use thy_engine::Engine;
 use thy_layout::{EngineStep, Start};
 use thy_nvm::MemNvm;
-use thy_pool::Pool;
 use thy_shadow::Relist;
 use thy_shadow_image::blocks;
+use thy_shadow_parts::Pool;
 use thy_view::BootStep;
 
 /// Both devices while the power is off, and how many cuts are to come at most.

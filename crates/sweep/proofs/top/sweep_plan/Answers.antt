@@ -2,7 +2,7 @@ use Rattle.std.proofs.Common.{◌≡◌, ◌+◌, ◌-◌, length, replicate, sy
 use Rattle.std.proofs.lemmas.List.{length-replicate}
 use Rattle.thy_block.specs.declared.nvm.Shape.{Shape}
 use Rattle.thy_block.specs.Device.{Device, zero_block}
-use Rattle.thy_image.proofs.LawLemmas.{some_blocks}
+use Rattle.thy_answer.proofs.LawLemmas.{some_blocks}
 use Rattle.thy_execute.proofs.PlanLemmas.{fitted_for_plan}
 use Rattle.sweep.proofs.top.sweep_plan.Goals as goal
 

@@ -2,8 +2,8 @@ use Rattle.std.proofs.Common.{ℕ, ◌<◌, subst, arith}
 use Rattle.thy_block.specs.declared.parameters.Parameters.{Parameters}
 use Rattle.thy_block.specs.Device.{Device}
 use Rattle.thy_block.specs.Geometry.{memory_blocks}
-use Rattle.thy_cell.specs.declared.cell.Cell.{Cell}
-use Rattle.thy_cell.specs.Checkpoint.{IsCopied}
+use Rattle.thy_table.specs.declared.cell.Cell.{Cell}
+use Rattle.thy_table.specs.Checkpoint.{IsCopied}
 use Rattle.thy_control.specs.Guarded.{IsPlaced}
 use Rattle.thy_control.specs.OverCalls.{stays_same, stays_on, placed_on}
 use Rattle.thy_control.specs.State.{State, cell_of}

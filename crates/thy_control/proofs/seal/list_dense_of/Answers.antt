@@ -1,6 +1,6 @@
 use Rattle.std.proofs.Common.{◌≡◌, true, sym, ◌∙◌, ap, arith}
 use Rattle.std.proofs.lemmas.Grind.{common_steps}
-use Rattle.thy_switch.specs.Counts.{are_sparse}
+use Rattle.thy_table.specs.Counts.{are_sparse}
 use Rattle.thy_control.specs.Seal.{with_pages}
 use Rattle.thy_control.proofs.ListPageLemmas.{dense_below-sparse}
 use Rattle.thy_control.proofs.seal.list_dense_of.Goals as goal

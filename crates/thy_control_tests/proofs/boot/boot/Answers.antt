@@ -1,7 +1,7 @@
 use Rattle.std.proofs.Common.{◌≡◌, length, ◌∙◌, ap, arith}
 use Rattle.thy_block.specs.declared.parameters.Parameters.{Parameters}
 use Rattle.thy_block.specs.Device.{Device}
-use Rattle.thy_places.specs.Places.{image_blocks}
+use Rattle.thy_table.specs.Places.{image_blocks}
 use Rattle.thy_isa.specs.Step.{State as Plain, state_of}
 use Rattle.thy_control_tests.proofs.StartingLemmas.{Boots-of, CanStart-least}
 use Rattle.thy_control_tests.proofs.boot.boot.Goals as goal

@@ -4,7 +4,7 @@ use Rattle.thy_view.specs.declared.did.Stall.TheVariants.{Booting}
 use Rattle.thy_view.specs.Turn.{Stalled}
 use Rattle.thy_core.specs.Cycles.{HasStart}
 use Rattle.thy_core.specs.MachineParts.{machine_of}
-use Rattle.thy_core_laws.proofs.BootingLaws.{sound-boot}
+use Rattle.thy_scheme.proofs.BootingLaws.{sound-boot}
 use Rattle.thy_core.proofs.CycleLaws.{taken_err, boot_over, boot_cycle, boot_failed}
 use Rattle.thy_core.proofs.boot.boot.Goals as goal
 

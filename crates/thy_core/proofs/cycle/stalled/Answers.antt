@@ -3,7 +3,7 @@ use Rattle.thy_view.specs.declared.did.Stall.TheVariants.{Booting, Sealing, Wait
 use Rattle.thy_view.specs.declared.did.Stall.{Stall}
 use Rattle.thy_view.specs.declared.view.Phase.TheVariants.{Boot, Run, Halt}
 use Rattle.thy_view.specs.Turn.{Stalled}
-use Rattle.thy_core_laws.specs.Rows.{IsSealing}
+use Rattle.thy_scheme.specs.Rows.{IsSealing}
 use Rattle.thy_core.specs.Cycles.{IsAnyRun, HasStart, IsEngineDue, IsStalledBy}
 use Rattle.thy_core.specs.MachineParts.{machine_of}
 use Rattle.thy_core.proofs.CycleLaws.{taken_is}

@@ -3,9 +3,9 @@ use Rattle.thy_hart.specs.Outcomes.{given}
 use Rattle.thy_view.specs.Advances.{did_of}
 use Rattle.thy_view.specs.Turn.{Advances}
 use Rattle.thy_scheme.specs.Calls.{IsOneAccess}
-use Rattle.thy_core_laws.specs.Calls.{HartCall, after_hart}
-use Rattle.thy_core_laws.specs.Machine.{Machine}
-use Rattle.thy_core_laws.proofs.BegunLaws.{ended-hand}
+use Rattle.thy_scheme.specs.MachineCalls.{HartCall, after_hart}
+use Rattle.thy_scheme.specs.Machine.{Machine}
+use Rattle.thy_scheme.proofs.BegunLaws.{ended-hand}
 use Rattle.thy_core.specs.Cycles.{HasInput, did_by}
 use Rattle.thy_core.specs.MachineParts.{machine_of}
 use Rattle.thy_core.proofs.CalmLaws.{calm_kept}

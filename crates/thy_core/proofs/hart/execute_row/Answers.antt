@@ -8,9 +8,9 @@ use Rattle.thy_hart.specs.Rows.{moved_then, Takes}
 use Rattle.thy_view.specs.Advances.{SimulatesRow}
 use Rattle.thy_view.specs.declared.did.Advance.{Advance}
 use Rattle.thy_scheme.specs.SchemeStore.{held_by_scheme}
-use Rattle.thy_core_laws.specs.Calls.{begun_by_hart}
-use Rattle.thy_core_laws.specs.Kind.{kind_over}
-use Rattle.thy_core_laws.specs.Machine.{Machine, moment_of}
+use Rattle.thy_scheme.specs.MachineCalls.{begun_by_hart}
+use Rattle.thy_scheme.specs.Kind.{kind_over}
+use Rattle.thy_scheme.specs.Machine.{Machine, moment_of}
 use Rattle.thy_core.specs.Calm.{is_calm}
 use Rattle.thy_core.specs.MachineParts.{machine_of}
 use Rattle.thy_core.specs.Row.{after_row, ends_epoch, put_back}

@@ -1,5 +1,5 @@
 use Rattle.thy_core.specs.MachineParts.{machine_of}
-use Rattle.thy_core_laws.proofs.MomentLaws.{sound-here}
+use Rattle.thy_scheme.proofs.MomentLaws.{sound-here}
 use Rattle.thy_core.proofs.PowerLaws.{loading_boot, loading_behind}
 use Rattle.thy_core.proofs.power.is_loading.Goals as goal
 

@@ -1,6 +1,6 @@
 use Rattle.std.proofs.Common.{◌≡◌, take, drop}
 use Rattle.thy_block.specs.Bytes.{bytes_of}
-use Rattle.thy_flat.specs.Flat.{flat}
+use Rattle.thy_block.specs.Flat.{flat}
 use Rattle.thy_core.specs.MachineParts.{machine_of}
 use Rattle.thy_core.specs.Reading.{blocks_in}
 use Rattle.thy_core.proofs.reading.read_blocks.Given as goal

@@ -2,7 +2,7 @@ use Rattle.std.proofs.Common.{refl}
 use Rattle.thy_core.specs.MachineParts.{machine_of}
 use Rattle.thy_core.proofs.CycleLaws.{framed_same, stands_run, merge_cycle}
 use Rattle.thy_core.proofs.sealing.merge.Goals as goal
-use Rattle.thy_core_laws.proofs.SealingLaws.{over_at}
+use Rattle.thy_scheme.proofs.SealingLaws.{over_at}
 
 pub merge_one-requires : goal.merge_one-requires
 merge_one-requires g c =

@@ -1,11 +1,11 @@
 use Rattle.std.proofs.Common.{◌≡◌, length, refl, subst, sym, ap, ◌∙◌}
-use Rattle.thy_epoch.specs.Epoch.{Epoch}
+use Rattle.thy_hart.specs.Epoch.{Epoch}
 use Rattle.thy_isa.specs.declared.state.CpuState.{CpuState}
 use Rattle.thy_scheme.specs.Calls.{Seals}
 use Rattle.thy_core.specs.MachineParts.{machine_of}
 use Rattle.thy_core.proofs.CycleLaws.{framed_same, stands_run, sealed_regs, seal_cycle}
 use Rattle.thy_core.proofs.sealing.seal.Goals as goal
-use Rattle.thy_core_laws.proofs.SealingLaws.{over_at}
+use Rattle.thy_scheme.proofs.SealingLaws.{over_at}
 
 pub seal-requires-clause-idle : goal.seal-requires-clause-idle
 seal-requires-clause-idle g c =

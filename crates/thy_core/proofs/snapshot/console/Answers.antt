@@ -1,5 +1,5 @@
 use Rattle.thy_core.specs.MachineParts.{machine_of}
-use Rattle.thy_core_laws.proofs.MomentLaws.{sound-here}
+use Rattle.thy_scheme.proofs.MomentLaws.{sound-here}
 use Rattle.thy_core.proofs.SnapshotLaws.{can_run, committed_room, boot_shown, console_past, console_when}
 use Rattle.thy_core.proofs.snapshot.console.Goals as goal
 

@@ -2,11 +2,11 @@ use Rattle.std.proofs.Common.{◌*◌, ◌-◌, drop, sym, ◌∙◌, ap}
 use Rattle.thy_block.specs.declared.parameters.Parameters.{Parameters}
 use Rattle.thy_block.specs.Bytes.{bytes_of}
 use Rattle.thy_block.specs.Device.{Device}
-use Rattle.thy_flat.specs.Flat.{console_bytes}
+use Rattle.thy_block.specs.Flat.{console_bytes}
 use Rattle.thy_isa.specs.declared.state.CpuState.{CpuState}
 use Rattle.thy_isa.specs.Step.{state_of, state_with}
 use Rattle.thy_view.specs.Turn.{front_of}
-use Rattle.thy_core_laws.specs.Machine.{memory_of, hart_put_back}
+use Rattle.thy_scheme.specs.Machine.{memory_of, hart_put_back}
 use Rattle.thy_core.specs.MachineParts.{machine_of}
 use Rattle.thy_core.proofs.SnapshotLaws.{state_read, console_fronted, put_back_sized}
 use Rattle.thy_core.proofs.snapshot.executing.Goals as goal

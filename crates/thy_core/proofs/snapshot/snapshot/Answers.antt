@@ -2,7 +2,7 @@ use Rattle.std.proofs.Common.{[], ◌∙◌, ap}
 use Rattle.thy_isa.specs.declared.state.CpuState.{CpuState}
 use Rattle.thy_isa.specs.Step.{state_with}
 use Rattle.thy_core.specs.MachineParts.{machine_of}
-use Rattle.thy_core_laws.proofs.MomentLaws.{sound-here}
+use Rattle.thy_scheme.proofs.MomentLaws.{sound-here}
 use Rattle.thy_core.proofs.SnapshotLaws.{at_moment, not_stopped, not_failed, processor_is, can_run, sound-behind, boot_unwritten, snapshot_when}
 use Rattle.thy_core.proofs.snapshot.snapshot.Goals as goal
 

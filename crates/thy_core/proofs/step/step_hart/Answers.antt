@@ -3,7 +3,7 @@ use Rattle.thy_block.specs.declared.nvm.NvmError.{NvmError}
 use Rattle.thy_view.specs.declared.did.Stepped.{Stepped}
 use Rattle.thy_view.specs.Advances.{stepped_of}
 use Rattle.thy_view.specs.Turn.{Advances}
-use Rattle.thy_core_laws.proofs.MomentLaws.{sound-here}
+use Rattle.thy_scheme.proofs.MomentLaws.{sound-here}
 use Rattle.thy_core.specs.MachineParts.{machine_of, turn_seen}
 use Rattle.thy_core.proofs.TakenLaws.{at_run, moment_of, turned, others_turn, reported_steps, reported_fails, reported_notes}
 use Rattle.thy_core.proofs.step.step_hart.Goals as goal

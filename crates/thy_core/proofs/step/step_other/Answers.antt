@@ -2,9 +2,9 @@ use Rattle.std.proofs.Common.{◌≡◌, Some, refl, sym, ◌∙◌, ap}
 use Rattle.thy_view.specs.declared.view.Phase.TheVariants.{Boot}
 use Rattle.thy_view.specs.declared.view.View.{View}
 use Rattle.thy_view.specs.Turn.{Advances}
-use Rattle.thy_core_laws.specs.Sound.{Sound}
-use Rattle.thy_core_laws.proofs.BootingLaws.{sound-boot, view-boot}
-use Rattle.thy_core_laws.proofs.MomentLaws.{sound-here}
+use Rattle.thy_scheme.specs.Sound.{Sound}
+use Rattle.thy_scheme.proofs.BootingLaws.{sound-boot, view-boot}
+use Rattle.thy_scheme.proofs.MomentLaws.{sound-here}
 use Rattle.thy_core.specs.MachineParts.{machine_of, actor_seen, turn_seen}
 use Rattle.thy_core.proofs.CalmLaws.{knows_nothing}
 use Rattle.thy_core.proofs.TakenLaws.{at_run, moment_of, phase_in, actor_is, turned, reported_steps, reported_fails, reported_counts, reported_notes}

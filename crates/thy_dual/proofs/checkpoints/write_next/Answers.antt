@@ -1,5 +1,5 @@
 use Rattle.std.proofs.Common.{sym, ◌∙◌}
-use Rattle.thy_dual_laws.specs.Design.{action_next, written_next}
+use Rattle.thy_dual_parts.specs.Design.{action_next, written_next}
 use Rattle.thy_dual.proofs.ActLemmas.{copy_fails}
 use Rattle.thy_dual.proofs.ActsLemmas.{err_acts, copy_acts, then_acts}
 use Rattle.thy_dual.proofs.checkpoints.write_next.Goals as goal

@@ -1,5 +1,5 @@
 use Rattle.std.proofs.Common.{◌∙◌}
-use Rattle.thy_dual_laws.specs.Design.{action_next, written_next}
+use Rattle.thy_dual_parts.specs.Design.{action_next, written_next}
 use Rattle.thy_dual.proofs.ActLemmas.{some_page, page_state, page_device, page_fails}
 use Rattle.thy_dual.proofs.ActsLemmas.{err_acts}
 use Rattle.thy_dual.proofs.checkpoints.write_page.Goals as goal

@@ -2,7 +2,7 @@ use Rattle.std.proofs.Common.{◌≡◌, ap, sym, refl, ◌∙◌, arith}
 use Rattle.thy_base.specs.declared.config.Config.{Config}
 use Rattle.thy_block.specs.declared.nvm.Shape.{Shape}
 use Rattle.thy_block.specs.Device.{Device, fitted}
-use Rattle.thy_image.proofs.LawLemmas.{some_blocks}
+use Rattle.thy_answer.proofs.LawLemmas.{some_blocks}
 use Rattle.thy_answer.specs.Answering.{Outside, outside, shape_for}
 use Rattle.thy_answer.specs.Kept.{named}
 use Rattle.thy_execute.proofs.LevellingLemmas.{IsFoundAs-direct, IsLeftAs-direct, RunOverSeen-seen}

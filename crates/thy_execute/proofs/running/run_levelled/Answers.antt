@@ -6,7 +6,7 @@ use Rattle.thy_block.specs.declared.nvm.Shape.{Shape}
 use Rattle.thy_block.specs.Device.{Device, HasFailedToFit, fitted, lent_by}
 use Rattle.thy_gap.specs.Seen.{seen}
 use Rattle.thy_gap.proofs.SeenLemmas.{length-unmap}
-use Rattle.thy_image.proofs.LawLemmas.{some_blocks}
+use Rattle.thy_answer.proofs.LawLemmas.{some_blocks}
 use Rattle.thy_answer.specs.Answering.{Outside, outside, shape_for}
 use Rattle.thy_answer.specs.Levelling.{IsFoundAs, IsLeftAs}
 use Rattle.thy_answer.specs.Kept.{named}

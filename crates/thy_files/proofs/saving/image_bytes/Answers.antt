@@ -1,5 +1,5 @@
 use Rattle.std.proofs.Common.{sym, ◌∙◌, arith}
-use Rattle.thy_flat.proofs.FlatLemmas.{flat-nil}
+use Rattle.thy_block.proofs.FlatLemmas.{flat-nil}
 use Rattle.thy_answer.specs.Saving.{image_left}
 use Rattle.thy_files.proofs.SavingLemmas.{bytes_more}
 use Rattle.thy_files.proofs.saving.image_bytes.Goals as goal

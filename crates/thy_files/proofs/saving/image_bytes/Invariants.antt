@@ -1,5 +1,5 @@
 use Rattle.std.proofs.Common.{◌≡◌, take}
-use Rattle.thy_flat.specs.Flat.{flat}
+use Rattle.thy_block.specs.Flat.{flat}
 use Rattle.thy_answer.specs.Saving.{image_left}
 use Rattle.thy_files.proofs.saving.image_bytes.Given as goal
 

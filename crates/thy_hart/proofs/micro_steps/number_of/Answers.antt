@@ -1,7 +1,7 @@
 use Rattle.std.proofs.Common.{◌≡◌, ◌+◌, ◌≤◌, ◌∙◌, ap, subst, arith}
 use Rattle.thy_block.specs.LittleEndian.{number_at, number_bytes}
-use Rattle.thy_flat.specs.declared.span.Span.{Span}
-use Rattle.thy_flat.specs.Spans.{first_byte}
+use Rattle.thy_block.specs.declared.span.Span.{Span}
+use Rattle.thy_block.specs.Spans.{first_byte}
 use Rattle.thy_isa.specs.Effects.{size_of}
 use Rattle.thy_hart.specs.InHand.{span_of}
 use Rattle.thy_hart.proofs.NumberLemmas.{number_bytes-number_at}

@@ -1,5 +1,5 @@
 use Rattle.std.proofs.Common.{◌≡◌, ◌+◌, ◌-◌, ◌*◌, ◌++◌, ◌∙◌, slice_index_or, take, drop, refl, sym, ap, arith}
-use Rattle.thy_flat.proofs.FlatLemmas.{flat-nil}
+use Rattle.thy_block.proofs.FlatLemmas.{flat-nil}
 use Rattle.thy_layout.proofs.FileLemmas.{length-blocks_of}
 use Rattle.thy_layout.proofs.ReaderLemmas.{gathered_more}
 use Rattle.thy_layout.proofs.restored.gathered.Goals as goal

@@ -1,6 +1,6 @@
 use Rattle.std.proofs.Common.{◌≡◌, ℕ, ◌<◌, length, slice_index_or}
-use Rattle.thy_places.specs.declared.place.Place.TheVariants.{Home}
-use Rattle.thy_places.specs.Places.{number_of}
+use Rattle.thy_table.specs.declared.place.Place.TheVariants.{Home}
+use Rattle.thy_table.specs.Places.{number_of}
 use Rattle.thy_record.proofs.index.homes.Given as goal
 
 abbrev pub invariant-loop-b : goal.invariant-loop-b

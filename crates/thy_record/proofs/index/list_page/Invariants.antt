@@ -1,6 +1,6 @@
 use Rattle.std.proofs.Common.{◌≡◌, ◌≢◌, ℕ, ◌+◌, ◌*◌, ◌<◌, length, slice_index_or}
-use Rattle.thy_places.specs.declared.place.Place.TheVariants.{AlternatePage}
-use Rattle.thy_places.specs.Places.{number_of}
+use Rattle.thy_table.specs.declared.place.Place.TheVariants.{AlternatePage}
+use Rattle.thy_table.specs.Places.{number_of}
 use Rattle.thy_block.specs.Store.{page_of}
 use Rattle.thy_record.proofs.index.list_page.Given as goal
 

@@ -1,7 +1,7 @@
 use Rattle.std.proofs.Common.{◌≡◌, ◌*◌, ◌∙◌, ℕ, false, sym, ap, arith}
 use Rattle.std.specs.Option.{option_map}
 use borrow.Author.Count.{below_more}
-use Rattle.thy_places.specs.Places.{count_blocks}
+use Rattle.thy_table.specs.Places.{count_blocks}
 use Rattle.thy_layout.specs.declared.bad_image.BadImage.TheVariants.{Count}
 use Rattle.thy_layout.specs.Files.{blocks_of}
 use Rattle.thy_record.specs.Slots.{is_bad_count}

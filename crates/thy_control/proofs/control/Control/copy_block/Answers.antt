@@ -1,9 +1,9 @@
 use Rattle.std.proofs.Common.{sym, ◌∙◌, ap, subst}
 use Rattle.thy_block.specs.Device.{Device}
-use Rattle.thy_places.specs.Places.{IsPlace}
-use Rattle.thy_place.specs.Devices.{Devices}
+use Rattle.thy_table.specs.Places.{IsPlace}
+use Rattle.thy_table.specs.Devices.{Devices}
 use Rattle.thy_table.specs.Listing.{IsListing}
-use Rattle.thy_cell.specs.Cells.{target}
+use Rattle.thy_table.specs.Cells.{target}
 use Rattle.thy_control.specs.Keys.{block_key}
 use Rattle.thy_control.specs.State.{State, cell_of}
 use Rattle.thy_control.proofs.StateLemmas.{IsPlace-target, IsWithin-cell_of, subst_two}

@@ -1,12 +1,12 @@
 use Rattle.std.proofs.Common.{◌≡◌, ◌+◌, if◌then◌else◌, sym, ◌∙◌, ap, subst, arith}
 use Rattle.thy_block.specs.Device.{Device}
-use Rattle.thy_places.specs.Places.{IsPlace}
+use Rattle.thy_table.specs.Places.{IsPlace}
 use Rattle.thy_table.specs.Listing.{IsListing}
 use Rattle.thy_table.specs.declared.page_entry.PttEntry.{PttEntry}
 use Rattle.thy_table.specs.PageEntry.{is_framed}
-use Rattle.thy_cell.specs.declared.cell.Cell.{Cell}
-use Rattle.thy_cell.specs.Cells.{work}
-use Rattle.thy_cell.specs.Checkpoint.{with_filled}
+use Rattle.thy_table.specs.declared.cell.Cell.{Cell}
+use Rattle.thy_table.specs.Cells.{work}
+use Rattle.thy_table.specs.Checkpoint.{with_filled}
 use Rattle.thy_control.specs.Keys.{page_key}
 use Rattle.thy_control.specs.State.{State, cell_of}
 use Rattle.thy_control.specs.Overlay.{AreWorkCounts}

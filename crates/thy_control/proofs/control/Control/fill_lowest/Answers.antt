@@ -1,6 +1,6 @@
 use Rattle.std.proofs.Common.{◌≡◌, ℕ, false, Option, Some, OnErr, sym, ◌∙◌, ap, subst}
-use Rattle.thy_places.specs.Places.{in_dram}
-use Rattle.thy_cell.specs.Cells.{work}
+use Rattle.thy_table.specs.Places.{in_dram}
+use Rattle.thy_table.specs.Cells.{work}
 use Rattle.thy_control.specs.State.{State, IsSized, cell_of}
 use Rattle.thy_control.specs.Promotions.{next_promotion, block_to_fill, ReadsNvm}
 use Rattle.thy_control.proofs.FillLemmas.{IsFill-entry, IsFill}

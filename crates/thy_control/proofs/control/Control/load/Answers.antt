@@ -1,7 +1,7 @@
-use Rattle.thy_cell.specs.Cells.{work}
+use Rattle.thy_table.specs.Cells.{work}
 use Rattle.std.proofs.Common.{◌≡◌, sym, ◌∙◌, ap, subst}
-use Rattle.thy_places.specs.declared.place.Place.{Place}
-use Rattle.thy_places.specs.Places.{IsPlace}
+use Rattle.thy_table.specs.declared.place.Place.{Place}
+use Rattle.thy_table.specs.Places.{IsPlace}
 use Rattle.thy_control.specs.State.{cell_of}
 use Rattle.thy_control.proofs.StateLemmas.{IsPlace-work, IsWithin-cell_of}
 use Rattle.thy_control.proofs.StayLemmas.{stays_read}

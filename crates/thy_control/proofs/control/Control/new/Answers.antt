@@ -4,7 +4,7 @@ use Rattle.thy_block.specs.Geometry.{memory_blocks}
 use Rattle.thy_table.specs.Listing.{Listing, empty_table}
 use Rattle.thy_table.specs.declared.block_entry.BttEntry.{BttEntry}
 use Rattle.thy_table.specs.declared.page_entry.PttEntry.{PttEntry}
-use Rattle.thy_switch.specs.Counts.{Tally, uncounted}
+use Rattle.thy_table.specs.Counts.{Tally, uncounted}
 use Rattle.thy_control.specs.State.{AreSoundTables}
 use Rattle.thy_control.specs.Overlay.{AreWorkCounts}
 use Rattle.thy_control.proofs.MarkLemmas.{no_work_counts, AreWorkCounts-new}

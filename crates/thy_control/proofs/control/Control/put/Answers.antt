@@ -1,13 +1,13 @@
 use Rattle.std.proofs.Common.{◌≡◌, ℕ, ◌+◌, ◌<◌, length, sym, ◌∙◌, ap, subst, arith}
 use Rattle.thy_block.specs.Device.{Device}
 use Rattle.thy_block.specs.Geometry.{memory_blocks}
-use Rattle.thy_places.specs.Places.{image_blocks, IsPlace}
+use Rattle.thy_table.specs.Places.{image_blocks, IsPlace}
 use Rattle.thy_block.proofs.BasicLemmas.{OnErr-of}
 use Rattle.thy_table.specs.Listing.{IsListing, free_count}
-use Rattle.thy_cell.specs.declared.cell.Cell.{Cell}
-use Rattle.thy_cell.specs.declared.cell.StoreRule.{StoreRule}
-use Rattle.thy_cell.specs.Rules.{store_place}
-use Rattle.thy_place.specs.Devices.{Devices}
+use Rattle.thy_table.specs.declared.cell.Cell.{Cell}
+use Rattle.thy_table.specs.declared.cell.StoreRule.{StoreRule}
+use Rattle.thy_table.specs.Rules.{store_place}
+use Rattle.thy_table.specs.Devices.{Devices}
 use Rattle.thy_control.specs.Keys.{block_key, page_key}
 use Rattle.thy_control.specs.StoredTables.{answer_of}
 use Rattle.thy_control.specs.State.{State}

@@ -1,5 +1,5 @@
 use Rattle.std.proofs.Common.{◌≡◌, ◌+◌, ◌<◌, sym, subst, arith}
-use Rattle.thy_places.specs.Places.{table_blocks, count_blocks}
+use Rattle.thy_table.specs.Places.{table_blocks, count_blocks}
 use Rattle.thy_control.specs.State.{State}
 use Rattle.thy_control.proofs.control.Control.table.Goals as goal
 

@@ -2,8 +2,8 @@ use Rattle.std.proofs.Common.{sym, ◌∙◌, ap, subst}
 use Rattle.thy_view.specs.Advances.{IfAdvanced, IsOthersTurn}
 use Rattle.thy_view.specs.Kind.{CanStep, Simulates, FailsSafe}
 use Rattle.thy_view.specs.Restart.{RestartsUnwritten}
-use Rattle.thy_core_laws.specs.Kind.{kind_over}
-use Rattle.thy_core_laws.specs.Machine.{Machine}
+use Rattle.thy_scheme.specs.Kind.{kind_over}
+use Rattle.thy_scheme.specs.Machine.{Machine}
 use Rattle.thy_core.specs.Calm.{is_calm}
 use Rattle.thy_core.specs.MachineParts.{machine_of}
 use Rattle.thy_core.proofs.machine.Machine.advance.Goals as goal

@@ -1,7 +1,7 @@
 use Rattle.std.proofs.Common.{subst, sym, ◌∙◌, ap}
 use Rattle.thy_dram.specs.Contents.{lost}
-use Rattle.thy_core_laws.specs.Machine.{Machine}
-use Rattle.thy_core_laws.specs.Sound.{IsAt, SoundStopped}
+use Rattle.thy_scheme.specs.Machine.{Machine}
+use Rattle.thy_scheme.specs.Sound.{IsAt, SoundStopped}
 use Rattle.thy_core.proofs.machine.Machine.cut.Goals as goal
 
 pub returns-clause-drawn : goal.returns-clause-drawn

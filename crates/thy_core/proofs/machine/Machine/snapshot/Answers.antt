@@ -1,7 +1,7 @@
 use Rattle.std.proofs.Common.{subst}
 use Rattle.thy_view.specs.Kind.{SnapshotsStopped}
-use Rattle.thy_core_laws.specs.Kind.{kind_over}
-use Rattle.thy_core_laws.specs.Machine.{Machine}
+use Rattle.thy_scheme.specs.Kind.{kind_over}
+use Rattle.thy_scheme.specs.Machine.{Machine}
 use Rattle.thy_core.specs.Reading.{ReadsBare, ReadsState}
 use Rattle.thy_core.proofs.machine.Machine.snapshot.Goals as goal
 

@@ -2,7 +2,7 @@ use Rattle.std.proofs.Common.{Ok, sym, ◌∙◌, ap, subst}
 use Rattle.thy_view.specs.Advances.{IfAdvanced, IsOthersTurn}
 use Rattle.thy_view.specs.Kind.{Simulates, FailsSafe}
 use Rattle.thy_view.specs.Restart.{RestartsUnwritten}
-use Rattle.thy_core_laws.specs.Kind.{kind_over}
+use Rattle.thy_scheme.specs.Kind.{kind_over}
 use Rattle.thy_core.proofs.machine.Machine.step.Goals as goal
 
 -- a hart advanced

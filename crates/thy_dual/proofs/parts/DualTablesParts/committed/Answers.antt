@@ -1,7 +1,7 @@
 use Rattle.std.proofs.Common.{sym}
 use Rattle.thy_block.specs.Device.{block_at}
 use Rattle.thy_control.specs.State.{penult_of}
-use Rattle.thy_dual_laws.specs.Design.{penults}
+use Rattle.thy_dual_parts.specs.Design.{penults}
 use Rattle.thy_dual.proofs.BlockLemmas.{small_penult, penult_at, ok_same}
 use Rattle.thy_dual.proofs.parts.DualTablesParts.committed.Goals as goal
 

@@ -1,7 +1,7 @@
 use Rattle.std.proofs.Common.{sym}
 use Rattle.thy_block.specs.Device.{block_at}
 use Rattle.thy_control.specs.State.{work_of}
-use Rattle.thy_recover.specs.Filling.{loads}
+use Rattle.thy_dual_parts.specs.Filling.{loads}
 use Rattle.thy_dual.proofs.BlockLemmas.{small, work_at, ok_same}
 use Rattle.thy_dual.proofs.parts.DualTablesParts.load.Goals as goal
 

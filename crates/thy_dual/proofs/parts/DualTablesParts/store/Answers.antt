@@ -1,4 +1,4 @@
-use Rattle.thy_dual_laws.proofs.StoreLemmas.{works}
+use Rattle.thy_dual_parts.proofs.StoreLemmas.{works}
 use Rattle.thy_dual.proofs.ActsLemmas.{store_acts}
 use Rattle.thy_dual.proofs.parts.DualTablesParts.store.Goals as goal
 

@@ -1,5 +1,5 @@
 use Rattle.std.proofs.Common.{refl, ◌∙◌, ap, subst, arith}
-use Rattle.thy_epoch.specs.Epoch.{Epoch}
+use Rattle.thy_hart.specs.Epoch.{Epoch}
 use Rattle.thy_isa.specs.declared.state.CpuState.{CpuState}
 use Rattle.thy_hart.specs.declared.hand.Hand.TheVariants.{Nothing}
 use Rattle.thy_hart.specs.HartState.{HartState}

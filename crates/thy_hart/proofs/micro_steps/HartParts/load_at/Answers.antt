@@ -1,8 +1,8 @@
 use Rattle.std.proofs.Common.{◌+◌, ◌<◌, ◌≤◌, length, take, drop, ◌∙◌, ap, subst, arith}
 use Rattle.thy_block.specs.Geometry.{memory_blocks}
 use Rattle.thy_cache.specs.Flat.{ReadsAs}
-use Rattle.thy_flat.specs.declared.span.Span.{Span}
-use Rattle.thy_flat.specs.Spans.{first_block, first_byte}
+use Rattle.thy_block.specs.declared.span.Span.{Span}
+use Rattle.thy_block.specs.Spans.{first_block, first_byte}
 use Rattle.thy_isa.proofs.MemoryBounds.{length-number_bytes}
 use Rattle.thy_hart.specs.HartState.{IsInHand}
 use Rattle.thy_hart.specs.InHand.{span_of, hand_by, bytes_by}

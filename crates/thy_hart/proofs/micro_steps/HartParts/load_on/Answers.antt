@@ -1,6 +1,6 @@
 use Rattle.std.proofs.Common.{false, [], refl, ◌∙◌, ap, subst, arith}
-use Rattle.thy_epoch.specs.Epoch.{Epoch}
-use Rattle.thy_flat.specs.Spans.{span}
+use Rattle.thy_hart.specs.Epoch.{Epoch}
+use Rattle.thy_block.specs.Spans.{span}
 use Rattle.thy_isa.specs.declared.state.CpuState.{CpuState}
 use Rattle.thy_hart.specs.declared.hand.Hand.{Hand}
 use Rattle.thy_hart.specs.declared.hand.Hand.TheVariants.{Reading}

@@ -1,7 +1,7 @@
 use Rattle.std.proofs.Common.{◌≡◌, ℕ, List, take, drop, ◌-◌, arith, length, ◌∙◌, ap}
 use Rattle.std.proofs.lemmas.List.{length-drop, take_all}
 use Rattle.thy_cache.specs.Contents.{written_at}
-use Rattle.thy_flat.specs.Spans.{first_block, first_byte}
+use Rattle.thy_block.specs.Spans.{first_block, first_byte}
 use Rattle.thy_hart.proofs.micro_steps.HartParts.put.Goals as goal
 
 pub returns-clause-cache : goal.returns-clause-cache

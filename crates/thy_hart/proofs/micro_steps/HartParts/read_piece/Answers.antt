@@ -1,6 +1,6 @@
 use Rattle.std.proofs.Common.{◌∙◌, ap}
 use Rattle.thy_cache.specs.Contents.{read_from}
-use Rattle.thy_flat.specs.declared.span.Span.{Span}
+use Rattle.thy_block.specs.declared.span.Span.{Span}
 use Rattle.thy_hart.specs.Outcomes.{begun}
 use Rattle.thy_hart.specs.HartState.{reserved}
 use Rattle.thy_hart.proofs.HandLemmas.{read-sound, begun-unreserved}

@@ -1,5 +1,5 @@
 use Rattle.std.proofs.Common.{◌≡◌, ℕ, refl, sym, ap, subst}
-use Rattle.thy_flat.specs.declared.span.Span.{Span}
+use Rattle.thy_block.specs.declared.span.Span.{Span}
 use Rattle.thy_hart.specs.declared.hand.MicroStep.TheVariants.{Taken}
 use Rattle.thy_hart.specs.declared.in_hand.Stage.TheVariants.{Reserves}
 use Rattle.thy_hart.specs.HartState.{HartState, IsSoundHart}

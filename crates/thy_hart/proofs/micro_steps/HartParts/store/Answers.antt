@@ -1,7 +1,7 @@
 use Rattle.std.proofs.Common.{◌≡◌, true, length, refl, sym, ◌∙◌, ap, subst}
 use Rattle.thy_cache.specs.Contents.{hits}
-use Rattle.thy_flat.specs.declared.span.Span.{Span}
-use Rattle.thy_flat.specs.Spans.{first_block}
+use Rattle.thy_block.specs.declared.span.Span.{Span}
+use Rattle.thy_block.specs.Spans.{first_block}
 use Rattle.thy_hart.specs.declared.hand.Hand.TheVariants.{Writing}
 use Rattle.thy_hart.specs.declared.hand.HartStep.TheVariants.{Moved}
 use Rattle.thy_hart.specs.declared.hand.MicroStep.TheVariants.{Taken}

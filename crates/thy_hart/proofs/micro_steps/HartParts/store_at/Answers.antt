@@ -1,7 +1,7 @@
 use Rattle.std.proofs.Common.{◌≡◌, ◌+◌, ◌≤◌, take, sym, ◌∙◌, ap, subst}
 use Rattle.thy_cache.specs.Flat.{flat}
-use Rattle.thy_flat.specs.declared.span.Span.{Span}
-use Rattle.thy_flat.specs.Spans.{first_byte, head_len, head_put}
+use Rattle.thy_block.specs.declared.span.Span.{Span}
+use Rattle.thy_block.specs.Spans.{first_byte, head_len, head_put}
 use Rattle.thy_hart.specs.declared.hand.Hand.{Hand}
 use Rattle.thy_hart.specs.declared.in_hand.Stage.TheVariants.{Stores}
 use Rattle.thy_hart.specs.HartState.{HartState}

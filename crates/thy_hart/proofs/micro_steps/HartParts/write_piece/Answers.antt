@@ -1,6 +1,6 @@
 use Rattle.std.proofs.Common.{◌+◌, length, ◌∙◌, ap}
-use Rattle.thy_flat.specs.declared.span.Span.{Span}
-use Rattle.thy_flat.specs.Spans.{rest_of}
+use Rattle.thy_block.specs.declared.span.Span.{Span}
+use Rattle.thy_block.specs.Spans.{rest_of}
 use Rattle.thy_hart.specs.Outcomes.{written_on}
 use Rattle.thy_hart.proofs.HandLemmas.{write-sound}
 use Rattle.thy_hart.proofs.micro_steps.HartParts.write_piece.Goals as goal

@@ -1,6 +1,6 @@
 use Rattle.std.proofs.Common.{◌≡◌, true, length, refl, subst}
 use Rattle.thy_cache.specs.Contents.{hits}
-use Rattle.thy_flat.specs.Spans.{first_block}
+use Rattle.thy_block.specs.Spans.{first_block}
 use Rattle.thy_hart.specs.declared.hand.Hand.TheVariants.{Writing}
 use Rattle.thy_hart.specs.HartState.{HartState, IsInHand}
 use Rattle.thy_hart.specs.InHand.{pieces_of}

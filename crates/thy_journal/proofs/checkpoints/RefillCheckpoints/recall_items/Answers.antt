@@ -1,4 +1,4 @@
-use Rattle.thy_journal_laws.proofs.DesignLemmas.{items_are}
+use Rattle.thy_journal_parts.proofs.DesignLemmas.{items_are}
 use Rattle.thy_journal.proofs.checkpoints.RefillCheckpoints.recall_items.Goals as goal
 
 pub returns : goal.returns

@@ -1,4 +1,4 @@
-use Rattle.thy_refill.proofs.FillLemmas.{next_above}
+use Rattle.thy_journal_parts.proofs.FillLemmas.{next_above}
 use Rattle.thy_journal.proofs.fills.RefillFills.fill.Goals as goal
 
 pub fill-requires-clause-entry : goal.fill-requires-clause-entry

@@ -1,6 +1,6 @@
 use Rattle.std.proofs.Common.{sym, ◌∙◌}
 use Rattle.thy_isa.specs.Step.{state_of}
-use Rattle.thy_refill.proofs.FirstLemmas.{home_at}
+use Rattle.thy_journal_parts.proofs.FirstLemmas.{home_at}
 use Rattle.thy_journal.proofs.fills.RefillFills.first_place.Goals as goal
 
 pub returns : goal.returns

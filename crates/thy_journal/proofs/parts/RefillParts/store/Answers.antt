@@ -1,4 +1,4 @@
-use Rattle.thy_journal_laws.specs.Design.{journal_design}
+use Rattle.thy_journal_parts.specs.Design.{journal_design}
 use Rattle.thy_parts.proofs.HeldLemmas.{held_block}
 use Rattle.thy_journal.proofs.BlockLemmas.{small}
 use Rattle.thy_journal.proofs.parts.RefillParts.store.Goals as goal

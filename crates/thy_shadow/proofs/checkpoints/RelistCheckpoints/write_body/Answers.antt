@@ -1,6 +1,6 @@
 use Rattle.std.proofs.Common.{◌/◌}
-use Rattle.thy_pool.proofs.CommitLemmas.{filled-inside}
-use Rattle.thy_shadow_laws.proofs.PhaseLemmas.{next_filled}
+use Rattle.thy_shadow_parts.proofs.CommitLemmas.{filled-inside}
+use Rattle.thy_shadow_parts.proofs.PhaseLemmas.{next_filled}
 use Rattle.thy_shadow.proofs.checkpoints.RelistCheckpoints.write_body.Goals as goal
 
 pub write_frame-requires-clause-frame : goal.write_frame-requires-clause-frame

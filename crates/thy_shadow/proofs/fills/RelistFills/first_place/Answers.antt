@@ -1,6 +1,6 @@
 use Rattle.std.proofs.Common.{sym, ◌∙◌, arith}
 use Rattle.thy_isa.specs.Step.{state_of}
-use Rattle.thy_repool.proofs.FirstLemmas.{place_at}
+use Rattle.thy_shadow_parts.proofs.FirstLemmas.{place_at}
 use Rattle.thy_shadow.proofs.fills.RelistFills.first_place.Goals as goal
 
 pub pool-requires-clause-page : goal.pool-requires-clause-page

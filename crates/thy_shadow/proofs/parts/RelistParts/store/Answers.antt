@@ -1,4 +1,4 @@
-use Rattle.thy_shadow_laws.specs.Design.{shadow_design}
+use Rattle.thy_shadow_parts.specs.Design.{shadow_design}
 use Rattle.thy_parts.proofs.HeldLemmas.{held_block}
 use Rattle.thy_shadow.proofs.BlockLemmas.{small_work}
 use Rattle.thy_shadow.proofs.parts.RelistParts.store.Goals as goal

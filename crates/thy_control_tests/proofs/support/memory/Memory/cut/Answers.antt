@@ -1,6 +1,6 @@
 use Rattle.std.proofs.Common.{sym, ◌∙◌, ap, arith}
 use Rattle.thy_block.specs.Geometry.{memory_blocks}
-use Rattle.thy_places.specs.Places.{image_blocks}
+use Rattle.thy_table.specs.Places.{image_blocks}
 use Rattle.thy_control_tests.proofs.StartingLemmas.{IsOff-cut}
 use Rattle.thy_control_tests.proofs.support.memory.Memory.cut.Goals as goal
 

@@ -2,7 +2,7 @@ use Rattle.std.proofs.Common.{◌≡◌, OnOk, ap, subst}
 use Rattle.thy_block.specs.Device.{Device}
 use Rattle.thy_control.specs.Promotions.{next_promotion, after_promotion}
 use Rattle.thy_control.specs.State.{State}
-use Rattle.thy_engine.specs.Progress.{Progress}
+use Rattle.thy_checkpoint.specs.Progress.{Progress}
 use Rattle.thy_control_tests.proofs.MemoryLemmas.{IsMemory-stays, promoted-rests}
 use Rattle.thy_control_tests.proofs.support.memory.Memory.promote_one.Goals as goal
 

@@ -1,5 +1,5 @@
 use Rattle.std.proofs.Common.{◌≡◌, length, ◌∙◌, ap, arith}
-use Rattle.thy_places.specs.Places.{image_blocks}
+use Rattle.thy_table.specs.Places.{image_blocks}
 use Rattle.thy_control_tests.proofs.support.memory.Memory.read.Goals as goal
 
 pub read-requires-clause-place : goal.read-requires-clause-place

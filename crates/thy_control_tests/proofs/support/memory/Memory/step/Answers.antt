@@ -1,10 +1,10 @@
 use Rattle.std.proofs.Common.{◌≡◌, OnOk, ◌∙◌, ap, subst}
 use Rattle.thy_block.specs.Device.{Device}
-use Rattle.thy_places.specs.Places.{image_blocks}
+use Rattle.thy_table.specs.Places.{image_blocks}
 use Rattle.thy_control.specs.State.{State}
-use Rattle.thy_dual_laws.specs.Design.{items_dual}
-use Rattle.thy_engine.specs.Progress.{Progress, action_next, engine_next}
-use Rattle.thy_recover.specs.Filling.{filling_dual}
+use Rattle.thy_dual_parts.specs.Design.{items_dual}
+use Rattle.thy_checkpoint.specs.Progress.{Progress, action_next, engine_next}
+use Rattle.thy_dual_parts.specs.Filling.{filling_dual}
 use Rattle.thy_view.specs.Action.{after}
 use Rattle.thy_control_tests.proofs.MemoryLemmas.{IsMemory-item}
 use Rattle.thy_control_tests.proofs.support.memory.Memory.step.Goals as goal

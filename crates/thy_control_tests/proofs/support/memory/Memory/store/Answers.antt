@@ -2,7 +2,7 @@ use Rattle.std.proofs.Common.{◌≡◌, OnOk, ◌∙◌, ap, subst}
 use Rattle.thy_block.specs.Device.{Device}
 use Rattle.thy_control.specs.Rules.{devices_after}
 use Rattle.thy_control.specs.State.{State}
-use Rattle.thy_engine.specs.Progress.{Progress}
+use Rattle.thy_checkpoint.specs.Progress.{Progress}
 use Rattle.thy_control_tests.proofs.DrivenLemmas.{down-after}
 use Rattle.thy_control_tests.proofs.MemoryLemmas.{IsMemory-stays, whole-rests}
 use Rattle.thy_control_tests.proofs.support.memory.Memory.store.Goals as goal

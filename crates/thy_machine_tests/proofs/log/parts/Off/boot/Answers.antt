@@ -1,6 +1,6 @@
 use Rattle.thy_isa.specs.Step.{state_of}
 use Rattle.std.proofs.Common.{◌∙◌, ap}
-use Rattle.thy_log.specs.State.{State}
+use Rattle.thy_journal_parts.specs.State.{State}
 use Rattle.thy_machine_tests.proofs.LeastLemmas.{HasRoom-framed}
 use Rattle.thy_machine_tests.proofs.LogLemmas.{AreParts-begun, Boots-of}
 use Rattle.thy_machine_tests.proofs.LeastLemmas.{CanStart-least}

@@ -1,5 +1,5 @@
 use Rattle.std.proofs.Common.{refl, ◌∙◌, ap}
-use Rattle.thy_log.specs.State.{State}
+use Rattle.thy_journal_parts.specs.State.{State}
 use Rattle.thy_machine_tests.proofs.LogLemmas.{AreParts-on, p_stored}
 use Rattle.thy_machine_tests.proofs.log.parts.Parts.store.Goals as goal
 

@@ -1,6 +1,6 @@
 use Rattle.std.proofs.Common.{◌∙◌, ap}
 use Rattle.thy_isa.specs.Step.{state_of}
-use Rattle.thy_pool.specs.State.{State}
+use Rattle.thy_shadow_parts.specs.State.{State}
 use Rattle.thy_machine_tests.proofs.PoolLemmas.{AreParts-begun, Boots-of}
 use Rattle.thy_machine_tests.proofs.LeastLemmas.{CanStart-least, HasRoom-framed}
 use Rattle.thy_machine_tests.proofs.pool.parts.Off.boot.Goals as goal

@@ -1,10 +1,10 @@
 use Rattle.std.proofs.Common.{◌≡◌, OnOk, subst}
 use Rattle.thy_block.specs.Device.{Device}
 use Rattle.thy_view.specs.Action.{after}
-use Rattle.thy_engine.specs.Progress.{Progress, control_next, action_next}
-use Rattle.thy_pool.specs.State.{State}
-use Rattle.thy_repool.specs.Filling.{filling_shadow}
-use Rattle.thy_shadow_laws.specs.Design.{items_shadow}
+use Rattle.thy_checkpoint.specs.Progress.{Progress, control_next, action_next}
+use Rattle.thy_shadow_parts.specs.State.{State}
+use Rattle.thy_shadow_parts.specs.Filling.{filling_shadow}
+use Rattle.thy_shadow_parts.specs.Design.{items_shadow}
 use Rattle.thy_machine_tests.proofs.PoolLemmas.{AreParts-item}
 use Rattle.thy_machine_tests.proofs.pool.parts.Parts.step.Goals as goal
 

@@ -1,7 +1,7 @@
 use Rattle.std.proofs.Common.{◌≡◌, OnOk, subst}
 use Rattle.thy_block.specs.Device.{Device}
-use Rattle.thy_pool.specs.State.{State}
-use Rattle.thy_pool.specs.Stores.{after_store}
+use Rattle.thy_shadow_parts.specs.State.{State}
+use Rattle.thy_shadow_parts.specs.Stores.{after_store}
 use Rattle.thy_machine_tests.proofs.PoolLemmas.{AreParts-store}
 use Rattle.thy_machine_tests.proofs.pool.parts.Parts.store.Goals as goal
 

@@ -1,5 +1,0 @@
-use Rattle.thy_boot.proofs.SafeLemmas.{steps_move}
-use Rattle.thy_boot.proofs.laws.steps_are_moves.Goals as goal
-
-pub returns : goal.returns
-returns g c = steps_move g.F.Fills.filling g.met.F.Fills.lawful

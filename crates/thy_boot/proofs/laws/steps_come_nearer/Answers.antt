@@ -1,5 +1,0 @@
-use Rattle.thy_boot.proofs.ActLemmas.{steps_come_nearer}
-use Rattle.thy_boot.proofs.laws.steps_come_nearer.Goals as goal
-
-pub returns : goal.returns
-returns g c = steps_come_nearer g.F.Fills.filling g.met.F.Fills.lawful

@@ -1,3 +1,0 @@
-pub mod StepLemmas
-pub mod PowerLemmas
-pub mod RoomLemmas

@@ -1,0 +1,14 @@
+pub mod ReadLemmas
+pub mod NearerLemmas
+pub mod FirstLemmas
+pub mod LoadedLemmas
+pub mod OlderLemmas
+pub mod SlotLemmas
+pub mod LoadLemmas
+pub mod MigrationLemmas
+pub mod SafeLemmas
+pub mod FoundLemmas
+pub mod CountLemmas
+pub mod ActLemmas
+pub mod StartLemmas
+pub mod ItemLemmas

@@ -1,0 +1,16 @@
+pub mod Filling
+pub mod Boot
+pub mod Migrating
+pub mod Loads
+pub mod Counts
+pub mod Left
+pub mod Reads
+pub mod Recovers
+pub mod Sound
+pub mod Shows
+pub mod Steps
+pub mod Laws
+pub mod Start
+pub mod Items
+pub mod Progress
+pub mod Cycles

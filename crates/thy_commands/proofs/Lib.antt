@@ -1,0 +1,4 @@
+pub mod ComparingLaws
+pub mod NextLaws
+pub mod ComparisonLaws
+pub mod NameLemmas

@@ -1,0 +1,13 @@
+//! From the arguments to what their command leaves, on any three machines. Callers rely on `carry_out`, whose result is
+//! what the arguments ask for, or why they are refused, and on `compare`: the runs of one program by each scheme, and
+//! their lines, as specified.
+//!
+//! Open src/order.rt first; then specs/Comparing.antt of thy_answer, specs/Compared.antt, and src/comparing.rt. It
+//! depends on thy_words, thy_execute, thy_files and thy_answer, and on their dependencies; thy_cli depends on it.
+#![tactic(auto)]
+
+mod comparing;
+mod order;
+
+pub use comparing::compare;
+pub use order::carry_out;

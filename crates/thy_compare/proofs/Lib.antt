@@ -1,3 +1,0 @@
-pub mod ComparingLaws
-pub mod NextLaws
-pub mod ComparisonLaws

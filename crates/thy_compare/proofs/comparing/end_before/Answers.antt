@@ -1,8 +1,0 @@
-use Rattle.std.proofs.Common.{subst}
-use Rattle.thy_answer.specs.Answering.{Closes}
-use Rattle.thy_compare.proofs.comparing.end_before.Goals as goal
-
-pub returns-clause-closes : goal.returns-clause-closes
-returns-clause-closes g c =
-    subst (λ line. Closes line (g.R.Sink.stream c.args.report.now) (g.R.Sink.stream c.close.new.report))
-    c.told_of-status.ensures.line (c.close.result, c.close.ensures)

@@ -1,3 +1,0 @@
-pub mod CompleteLaws
-pub mod ComparedLaws
-pub mod AnsweredLaws

@@ -1,5 +1,0 @@
-use Rattle.thy_core_laws.proofs.MomentLaws.{leads_to_moment}
-use Rattle.thy_core_laws.proofs.laws.a_cycle_leads_to_a_moment.Goals as goal
-
-pub returns : goal.returns
-returns g c = leads_to_moment g.S.Scheme.scheme

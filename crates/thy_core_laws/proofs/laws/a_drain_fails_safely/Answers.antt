@@ -1,5 +1,0 @@
-use Rattle.thy_core_laws.proofs.FailRows.{drain_fails}
-use Rattle.thy_core_laws.proofs.laws.a_drain_fails_safely.Goals as goal
-
-pub returns : goal.returns
-returns g c = drain_fails g.S.Scheme.scheme

@@ -1,5 +1,0 @@
-use Rattle.thy_core_laws.proofs.RunLaws.{fresh_simulates}
-use Rattle.thy_core_laws.proofs.laws.a_fresh_start_simulates.Goals as goal
-
-pub returns : goal.returns
-returns g c = fresh_simulates g.S.Scheme.scheme

@@ -1,5 +1,0 @@
-use Rattle.thy_core_laws.proofs.DrainRows.{halt_simulates}
-use Rattle.thy_core_laws.proofs.laws.a_halted_cycle_simulates.Goals as goal
-
-pub returns : goal.returns
-returns g c = halt_simulates g.S.Scheme.scheme

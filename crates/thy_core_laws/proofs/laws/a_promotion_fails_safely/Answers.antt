@@ -1,5 +1,0 @@
-use Rattle.thy_core_laws.proofs.FailRows.{promotion_leaves}
-use Rattle.thy_core_laws.proofs.laws.a_promotion_fails_safely.Goals as goal
-
-pub returns : goal.returns
-returns g c = promotion_leaves g.S.Scheme.scheme

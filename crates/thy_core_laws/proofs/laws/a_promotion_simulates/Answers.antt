@@ -1,5 +1,0 @@
-use Rattle.thy_core_laws.proofs.CallRows.{promotion_simulates}
-use Rattle.thy_core_laws.proofs.laws.a_promotion_simulates.Goals as goal
-
-pub returns : goal.returns
-returns g c = promotion_simulates g.S.Scheme.scheme

@@ -1,5 +1,0 @@
-use Rattle.thy_core_laws.proofs.SealRow.{seal_simulates}
-use Rattle.thy_core_laws.proofs.laws.a_seal_simulates.Goals as goal
-
-pub returns : goal.returns
-returns g c = seal_simulates g.S.Scheme.scheme

@@ -1,5 +1,0 @@
-use Rattle.thy_core_laws.proofs.FailRows.{engine_leaves}
-use Rattle.thy_core_laws.proofs.laws.the_engine_fails_safely.Goals as goal
-
-pub returns : goal.returns
-returns g c = engine_leaves g.S.Scheme.scheme

@@ -1,5 +1,0 @@
-use Rattle.thy_core_laws.proofs.EngineRow.{engine_simulates}
-use Rattle.thy_core_laws.proofs.laws.the_engine_simulates.Goals as goal
-
-pub returns : goal.returns
-returns g c = engine_simulates g.S.Scheme.scheme

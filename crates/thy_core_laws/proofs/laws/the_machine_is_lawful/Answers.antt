@@ -1,5 +1,0 @@
-use Rattle.thy_core_laws.proofs.LawfulLaws.{machine_is_lawful}
-use Rattle.thy_core_laws.proofs.laws.the_machine_is_lawful.Goals as goal
-
-pub returns : goal.returns
-returns g c = machine_is_lawful g.S.Scheme.scheme

@@ -1,9 +1,0 @@
-pub mod Machine
-pub mod Pace
-pub mod Sound
-pub mod Calls
-pub mod Exact
-pub mod Rows
-pub mod Kind
-pub mod Failures
-pub mod Runs

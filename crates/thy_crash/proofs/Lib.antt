@@ -1,3 +1,0 @@
-pub mod FixedLemmas
-pub mod SavedLemmas
-pub mod SparesLemmas

@@ -1,5 +1,0 @@
-use Rattle.thy_crash.proofs.SavedLemmas.{left_of_saved}
-use Rattle.thy_crash.proofs.laws.a_cut_leaves_a_copy.Goals as goal
-
-pub returns : goal.returns
-returns c = left_of_saved

@@ -1,4 +1,0 @@
-pub mod Fixed
-pub mod Laws
-pub mod Saved
-pub mod Spares

@@ -1,0 +1,10 @@
+pub mod Listed
+pub mod Start
+pub mod Filling
+pub mod Booted
+pub mod Design
+pub mod Scheme
+pub mod Laws
+pub mod Fitting
+pub mod Bounds
+pub mod Recovery

@@ -1,5 +1,0 @@
-use Rattle.thy_engine.proofs.ItemLemmas.{items_fit}
-use Rattle.thy_engine.proofs.laws.items_keep_them_together.Goals as goal
-
-pub returns : goal.returns
-returns g c = items_fit g.E.Fills.filling g.E.Checkpoints.items c.recall_items.ensures

@@ -1,4 +1,0 @@
-pub mod FlatLemmas
-pub mod SpanLaws
-pub mod MemoryLaws
-pub mod LongLemmas

@@ -1,3 +1,0 @@
-pub mod Flat
-pub mod Laws
-pub mod Spans

@@ -1,4 +1,0 @@
-pub mod BlockLemmas
-pub mod StateLemmas
-pub mod LawLemmas
-pub mod OwnLemmas

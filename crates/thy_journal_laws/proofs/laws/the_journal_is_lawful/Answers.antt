@@ -1,7 +1,0 @@
-use Rattle.thy_parts.proofs.LawfulLemmas.{lawful}
-use Rattle.thy_journal_laws.specs.Design.{journal_design}
-use Rattle.thy_journal_laws.proofs.PartsLemmas.{are_parts}
-use Rattle.thy_journal_laws.proofs.laws.the_journal_is_lawful.Goals as goal
-
-pub returns : goal.returns
-returns c = lawful journal_design are_parts

@@ -1,5 +1,0 @@
-use Rattle.thy_journal_laws.proofs.PartsLemmas.{are_parts}
-use Rattle.thy_journal_laws.proofs.laws.the_journal_is_made_of_parts.Goals as goal
-
-pub returns : goal.returns
-returns c = are_parts

@@ -1,0 +1,13 @@
+pub mod TableLemmas
+pub mod StateLemmas
+pub mod DrainLemmas
+pub mod FillLemmas
+pub mod FirstLemmas
+pub mod LawLemmas
+pub mod ListLemmas
+pub mod ZeroLemmas
+pub mod WorkLemmas
+pub mod PhaseLemmas
+pub mod DesignLemmas
+pub mod StoreLemmas
+pub mod PartsLemmas

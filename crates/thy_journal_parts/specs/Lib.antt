@@ -1,0 +1,10 @@
+pub mod Keys
+pub mod State
+pub mod Stores
+pub mod Items
+pub mod Holding
+pub mod Filling
+pub mod Listed
+pub mod Design
+pub mod Scheme
+pub mod Laws

@@ -1,5 +1,0 @@
-use Rattle.thy_place.proofs.PlaceLemmas.{no_more-failed_other}
-use Rattle.thy_place.proofs.laws.others_hold_no_more_on_failure.Goals as goal
-
-pub returns : goal.returns
-returns c = no_more-failed_other

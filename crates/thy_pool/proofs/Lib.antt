@@ -1,6 +1,0 @@
-pub mod CommitLemmas
-pub mod CountLemmas
-pub mod CommittingLemmas
-pub mod StateLemmas
-pub mod TableLemmas
-pub mod DrainLemmas

@@ -1,5 +1,0 @@
-use Rattle.thy_pool.proofs.StateLemmas.{AreFirst}
-use Rattle.thy_pool.proofs.pool.first_pages.Given as goal
-
-abbrev pub invariant-loop-x : goal.invariant-loop-x
-invariant-loop-x l = AreFirst l.geometry l.x l.pool

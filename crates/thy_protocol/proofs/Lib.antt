@@ -1,3 +1,0 @@
-pub mod IssuingLemmas
-pub mod KeepsLemmas
-pub mod RoundLemmas

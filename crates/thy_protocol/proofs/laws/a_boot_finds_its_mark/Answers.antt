@@ -1,8 +1,0 @@
-use Rattle.thy_protocol.proofs.KeepsLemmas.{Tells-first, finding_view-told}
-use Rattle.thy_protocol.proofs.laws.a_boot_finds_its_mark.Goals as goal
-
-pub returns-clause-first : goal.returns-clause-first
-returns-clause-first c = Tells-first
-
-pub returns-clause-shows : goal.returns-clause-shows
-returns-clause-shows c = finding_view-told

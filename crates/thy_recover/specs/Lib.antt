@@ -1,4 +1,0 @@
-pub mod Listed
-pub mod Start
-pub mod Filling
-pub mod Booted

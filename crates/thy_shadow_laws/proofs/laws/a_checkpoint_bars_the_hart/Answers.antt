@@ -1,7 +1,0 @@
-use Rattle.std.proofs.Common.{refl}
-use Rattle.thy_parts.proofs.WaitLemmas.{hart_is_barred}
-use Rattle.thy_shadow_laws.specs.Design.{shadow_design}
-use Rattle.thy_shadow_laws.proofs.laws.a_checkpoint_bars_the_hart.Goals as goal
-
-pub returns : goal.returns
-returns c = hart_is_barred shadow_design refl

@@ -1,5 +1,0 @@
-use Rattle.std.proofs.Common.{arith}
-use Rattle.thy_shadow_laws.proofs.laws.epochs_are_short.Goals as goal
-
-pub returns : goal.returns
-returns c p = omega arith

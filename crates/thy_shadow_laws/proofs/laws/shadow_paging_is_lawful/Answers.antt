@@ -1,7 +1,0 @@
-use Rattle.thy_parts.proofs.LawfulLemmas.{lawful}
-use Rattle.thy_shadow_laws.specs.Design.{shadow_design}
-use Rattle.thy_shadow_laws.proofs.PartsLemmas.{are_parts}
-use Rattle.thy_shadow_laws.proofs.laws.shadow_paging_is_lawful.Goals as goal
-
-pub returns : goal.returns
-returns c = lawful shadow_design are_parts

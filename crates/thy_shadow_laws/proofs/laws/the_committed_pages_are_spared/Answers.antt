@@ -1,5 +1,0 @@
-use Rattle.thy_shadow_laws.proofs.DesignLemmas.{spared}
-use Rattle.thy_shadow_laws.proofs.laws.the_committed_pages_are_spared.Goals as goal
-
-pub returns : goal.returns
-returns c = spared

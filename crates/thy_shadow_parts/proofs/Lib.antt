@@ -1,0 +1,14 @@
+pub mod CommitLemmas
+pub mod CountLemmas
+pub mod CommittingLemmas
+pub mod StateLemmas
+pub mod TableLemmas
+pub mod DrainLemmas
+pub mod ListLemmas
+pub mod FirstLemmas
+pub mod LawLemmas
+pub mod CopyLemmas
+pub mod PhaseLemmas
+pub mod StoreLemmas
+pub mod PartsLemmas
+pub mod DesignLemmas

@@ -1,0 +1,12 @@
+pub mod Keys
+pub mod State
+pub mod Stores
+pub mod Commit
+pub mod Items
+pub mod Listed
+pub mod Holding
+pub mod Guarded
+pub mod Filling
+pub mod Design
+pub mod Scheme
+pub mod Laws

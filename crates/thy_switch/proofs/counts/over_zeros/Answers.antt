@@ -1,6 +1,0 @@
-use Rattle.thy_block.specs.Device.{zero_block}
-use Rattle.thy_switch.proofs.counts.over_zeros.Goals as goal
-
-pub returns : goal.returns
-unfolding zero_block
-returns c = c.put.ensures
