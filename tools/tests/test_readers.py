@@ -45,7 +45,8 @@ class Readers(ToolTest):
         program = self.script("program", "#!/bin/sh\nexit 3\n")
         observer = self.script("observer", "#!/bin/sh\necho something else >$1\n")
         done = self.call("--program", program, "--observe", observer, "--sweep", "/none")
-        self.assertEqual((done.out[: len(WRONG)], done.err, done.status), (WRONG, "", 1))
+        wrong = NOT_SWEPT + WRONG
+        self.assertEqual((done.out[: len(wrong)], done.err, done.status), (wrong, "", 1))
 
     def test_refusals(self):
         self.refuses("unrecognized arguments: x", "x")

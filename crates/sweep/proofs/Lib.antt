@@ -1,2 +1,3 @@
 pub mod SweepLemmas
 pub mod RowLemmas
+pub mod SameLemmas

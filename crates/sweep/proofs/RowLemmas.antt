@@ -1,5 +1,5 @@
 -- Images that were tried, one after another.
-use Rattle.std.proofs.Common.{◌≡◌, ℕ, Some, None, List, [], ◌∷◌, ◌++◌, refl, sym, ◌∙◌, ap, subst}
+use Rattle.std.proofs.Common.{◌≡◌, List, [], ◌∷◌, ◌++◌, refl, sym, ◌∙◌, ap}
 use Rattle.std.specs.List.{AllByRecursion}
 use Rattle.thy_block.specs.declared.mix.Mix.{Mix}
 use Rattle.thy_block.specs.Device.{Device}

@@ -1,5 +1,5 @@
 -- A run that is swept, between two cycles.
-use Rattle.std.proofs.Common.{◌≡◌, ℕ, ◌+◌, ◌≤◌, ◌^◌, List, refl, sym, ◌∙◌, arith}
+use Rattle.std.proofs.Common.{ℕ, ◌+◌, ◌≤◌, ◌^◌, refl, sym, ◌∙◌, arith}
 use Rattle.thy_block.specs.declared.parameters.Parameters.{Parameters}
 use Rattle.thy_block.specs.Device.{Device}
 use Rattle.thy_block.specs.Geometry.{IsInRange}
@@ -23,7 +23,7 @@ few_left done limit few most = omega (arith, few, most)
 
 module _ {M : Type 0} (K : KindOf M) (plan : Plan) (fitted : Device) (p : Progress M) (n : Device) (done : ℕ) (now : Sinks) (room : Room)
     (planned : IsPlanned plan) (few : done ≤ plan.geometry.limit) (h : IsSwept K plan fitted p n done now room) where
-  world : World M
+  abbrev world : World M
   world = world_at p n done h.turns
 
   stays : StaysFitted (given_of plan fitted) world.passed n

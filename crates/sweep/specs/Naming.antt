@@ -1,5 +1,5 @@
 -- Which orders can be swept.
-use Rattle.std.specs.Prelude.{◌≡◌, [], ⊥}
+use Rattle.std.specs.Prelude.{◌≡◌, []}
 use Rattle.thy_words.specs.Settings.{Job, Order, run, resume, bench, compare, plain, make}
 
 -- a job lists no cuts

@@ -38,7 +38,7 @@ fn called(alloc: Global, line: &str) -> Result<Given, AllocError> {
     let mut files = Vec::new(alloc);
     let program = Vec::from_slice(alloc, &EXIT_SEVEN)?;
     files.push((String::from_str(alloc, "F")?, program))?;
-    let mut shelf = MemShelf::new(files, Vec::new(alloc))?;
+    let mut shelf = MemShelf::new(files, Vec::new(alloc));
     let mut words = Vec::new(alloc);
     for word in line.split(' ') {
         words.push(String::from_str(alloc, word)?)?;

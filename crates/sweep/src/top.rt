@@ -5,6 +5,8 @@ ghost use Rattle.thy_execute.specs.Planning.{CanRun, shape_of};
 ghost use Rattle.thy_files.specs.Restoring.{ReadsFiles};
 ghost use Rattle.thy_run.specs.Going.{IsPlanned};
 ghost use Rattle.thy_run.specs.Rounds.{IsFitted};
+ghost use Rattle.thy_words.specs.Settings.{IsInRange, order_of};
+ghost use Rattle.sweep.specs.Naming.{IsUncut};
 
 use crate::account::{Account, Last};
 use crate::asked::{Asked, Unasked};
@@ -277,6 +279,39 @@ fn sweep_job<H: Shelf, T: Sink, R: Sink>(
     }
 }
 
+/// Makes the run that a command asks for, with what is tried, and writes OUT. Returns the exit status.
+fn sweep_command<H: Shelf, T: Sink, R: Sink>(
+    alloc: Global,
+    out: &str,
+    asked: &Asked,
+    command: Command,
+    shelf: &mut H,
+    terminal: &mut T,
+    report: &mut R,
+    nvm: &mut MemNvm,
+) -> u8
+    requires range { IsInRange (order_of command) }
+    requires uncut { IsUncut (order_of command) }
+{
+    match command {
+        Command::Run { file, job } => {
+            let source = ProgramSource::File(file.as_str());
+            sweep_job(alloc, out, asked, source, job, shelf, terminal, report, nvm)
+        }
+        Command::Resume { image, job } => {
+            let source = ProgramSource::Image(image.as_str());
+            sweep_job(alloc, out, asked, source, job, shelf, terminal, report, nvm)
+        }
+        Command::Bench { number, job } => {
+            let source = ProgramSource::Made(number);
+            sweep_job(alloc, out, asked, source, job, shelf, terminal, report, nvm)
+        }
+        Command::Compare { .. } | Command::Plain { .. } | Command::Make { .. } => {
+            refuse(alloc, Refusal::Words(WordsError::Usage), report).status
+        }
+    }
+}
+
 /// Makes the run that the arguments ask for, the program's name first, as thynvm makes it without cuts; tries after each cycle that
 /// is asked for what a cut can leave then; and writes under OUT what this came to.
 ///
@@ -300,21 +335,5 @@ pub fn sweep<H: Shelf, T: Sink, R: Sink>(
     if is_refused(out, &command) {
         return refuse(alloc, Refusal::Words(WordsError::Usage), report).status;
     }
-    match command {
-        Command::Run { file, job } => {
-            let source = ProgramSource::File(file.as_str());
-            sweep_job(alloc, out, asked, source, job, shelf, terminal, report, nvm)
-        }
-        Command::Resume { image, job } => {
-            let source = ProgramSource::Image(image.as_str());
-            sweep_job(alloc, out, asked, source, job, shelf, terminal, report, nvm)
-        }
-        Command::Bench { number, job } => {
-            let source = ProgramSource::Made(number);
-            sweep_job(alloc, out, asked, source, job, shelf, terminal, report, nvm)
-        }
-        Command::Compare { .. } | Command::Plain { .. } | Command::Make { .. } => {
-            refuse(alloc, Refusal::Words(WordsError::Usage), report).status
-        }
-    }
+    sweep_command(alloc, out, asked, command, shelf, terminal, report, nvm)
 }

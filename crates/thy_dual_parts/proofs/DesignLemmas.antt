@@ -41,7 +41,7 @@ use Rattle.thy_control.specs.Versions.{KeepsAll}
 use Rattle.thy_control.proofs.StateLemmas.{IsPlace-target, IsWithin-cell_of}
 use Rattle.thy_control.proofs.CommitLemmas.{Commits-committed}
 use Rattle.thy_control.proofs.CommittedLemmas.{KeepsCommitted-sealed}
-use Rattle.thy_control.proofs.CopyLemmas.{IsNext, IsNext-entry, listed-pending, KeepsAll-next, versions_apart}
+use Rattle.thy_control.proofs.CopyLemmas.{IsNext, IsNext-entry, listed-pending, KeepsAll-next, versions_apart as versions_differ}
 use Rattle.thy_control.proofs.FreesLemmas.{half_free}
 use Rattle.thy_control.proofs.KeepLemmas.{behind_slots}
 use Rattle.thy_control.proofs.SealStateLemmas.{HasNoWork-sealed, HasNoWork-committed, free-sealed, free-committed, CommitsTables-committed, tables0-sealed, AreSoundTables-sealed, Seals-sealed}
@@ -360,7 +360,7 @@ moving_copied s t b next =
     let sound = t.cells b next.inside in
     record {
       inside = next.inside;
-      moves = versions_apart c.entry.v0 c.entry.v1 c.page.place c.page.target (seat_of c) (sound.pending_moves next.pending) (sound.pending_still next.pending) (sound.pending_home next.pending);
+      moves = versions_differ c.entry.v0 c.entry.v1 c.page.place c.page.target (seat_of c) (sound.pending_moves next.pending) (sound.pending_still next.pending) (sound.pending_home next.pending);
     }
 
 moving_issued : (s : State) → AreSoundTables s → (b : ℕ) → IsDue s b → IsMoving s b

@@ -140,7 +140,7 @@ fn write_first<N: Nvm>(rt: &impl Abort, nvm: &mut N)
 
 // That the device can be read afterwards follows from the name of the loan, which the call keeps.
 #[test]
-#[tactic(auto, using(thy_base::proofs::LoanLemmas::same_loan, thy_base::proofs::LoanLemmas::framed_within))]
+#[tactic(auto, using(thy_block::proofs::LoanLemmas::same_loan, thy_block::proofs::LoanLemmas::framed_within))]
 fn what_is_written_through_a_loan_stands_in_the_device(rt: HostRuntime) {
     let shape = Shape {
         blocks: 3,

@@ -45,14 +45,14 @@ const NINE_STORES_TWICE: &[u32] = &[
 
 /// `auipc a1,0; addi a1,a1,32; addi a0,zero,1; addi a2,zero,3; addi a7,zero,64; ecall`, which prints three
 /// bytes; `addi a7,zero,93; ecall`; and the bytes, `Hi` and a line feed.
-const HELLO: &[u32] = &[
+pub(crate) const HELLO: &[u32] = &[
     0x00000597, 0x02058593, 0x00100513, 0x00300613, 0x04000893, 0x00000073, 0x05d00893, 0x00000073,
     0x000a6948,
 ];
 
 /// `addi a7,zero,63; addi a1,sp,0; addi a2,zero,10; ecall`, which reads up to ten bytes to the start's sp; and
 /// `addi a7,zero,93; ecall`, which exits with their number.
-const READ_INPUT: &[u32] = &[
+pub(crate) const READ_INPUT: &[u32] = &[
     0x03f00893, 0x00010593, 0x00a00613, 0x00000073, 0x05d00893, 0x00000073,
 ];
 

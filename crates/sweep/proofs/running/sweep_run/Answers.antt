@@ -1,4 +1,4 @@
-use Rattle.std.proofs.Common.{◌≡◌, ◌+◌, ◌<◌, ◌≤◌, ℕ, [], sym, ◌∙◌, ap, subst, arith}
+use Rattle.std.proofs.Common.{◌≡◌, ◌+◌, ◌<◌, ◌≤◌, ℕ, [], ◌∙◌, ap, subst, arith}
 use Rattle.thy_block.specs.declared.nvm.Shape.{Shape}
 use Rattle.thy_run.specs.Sending.{sinks}
 use Rattle.thy_run.proofs.StartLemmas.{Running-first}

@@ -8,6 +8,6 @@ exact a m k all is few small = omega (arith, is, few, small)
 
 pub returns : goal.returns
 returns c =
-    let few : c.count-count.result ≤ c.args.all = omega (arith, c.if-all.false) in
+    let few : c.count-count.result ≤ c.args.all = omega (arith, c.if-count-all.false) in
     let small : c.args.all < 2 ^ 128 - 1 = omega (arith, c.ranges.all.fits) in
     exact (count_of c.args.choices.now) (2 ^ 128 - 1) c.count-count.result c.args.all c.count-count.ensures few small

@@ -1,7 +1,7 @@
-use Rattle.std.proofs.Common.{◌≡◌, ◌-◌, ◌^◌, min, List, sym, ◌∙◌, ap, subst}
+use Rattle.std.proofs.Common.{◌-◌, ◌^◌, min, List, sym, ◌∙◌, ap, subst}
 use Rattle.std.proofs.lemmas.Result.{on_ok_weaker}
 use Rattle.thy_block.specs.Device.{Device}
-use Rattle.thy_sweep.specs.Choices.{Place, count_of, places_of}
+use Rattle.thy_sweep.specs.Choices.{Place, count_of}
 use Rattle.sweep.specs.declared.row.Row.{Row}
 use Rattle.sweep.specs.Rows.{HasTried}
 use Rattle.sweep.proofs.trying.try_cycle.Goals as goal
@@ -25,8 +25,8 @@ returns-in-Some-clause-tried g c =
     subst (λ k. HasTried g.M.Computer.kind c.args.plan.now n c.args.mix (record c.args.row.now { images = k }) new) (sym h.images) h)
     c.try_all.ensures.tried
 
-pub returns-in-None-clause-images : goal.returns-in-None-clause-images
-returns-in-None-clause-images g c =
+pub returns-clause-images : goal.returns-clause-images
+returns-clause-images g c =
     let n : Device = c.args.nvm.now.device in
     let old : Row = record c.args.row.now { images = c.count-images.result } in
     on_ok_weaker c.try_picks.result
@@ -34,8 +34,8 @@ returns-in-None-clause-images g c =
     h.images ∙ c.count-images.ensures ∙ ap (λ (ps : List Place). min (count_of ps) (2 ^ 128 - 1)) c.in-Ok.ensures)
     c.try_picks.ensures.tried
 
-pub returns-in-None-clause-tried : goal.returns-in-None-clause-tried
-returns-in-None-clause-tried g c =
+pub returns-clause-tried : goal.returns-clause-tried
+returns-clause-tried g c =
     let n : Device = c.args.nvm.now.device in
     let old : Row = record c.args.row.now { images = c.count-images.result } in
     let new : Row = c.try_picks.new.row in
