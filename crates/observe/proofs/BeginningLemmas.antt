@@ -1,7 +1,7 @@
 -- The job of an order that runs the machine once.
 use Rattle.std.proofs.Common.{◌≡◌, Option, Some, None, ap, subst}
 use Rattle.thy_base.specs.Config.{fault_of as range_fault}
-use Rattle.thy_words.specs.Settings.{Job, Order, run, resume, bench, compare, plain, make, IsInRange}
+use Rattle.thy_arguments.specs.Settings.{Job, Order, run, resume, bench, compare, plain, make, IsInRange}
 use Rattle.thy_answer.specs.Sources.{ProgramSource, file, made, image}
 use Rattle.observe.specs.Beginning.{run_in}
 

@@ -9,11 +9,11 @@ use Rattle.thy_isa.specs.Step.{State, Setting}
 use Rattle.thy_view.specs.Origin.{setting_of}
 use Rattle.thy_text.specs.declared.closing.Closing.TheVariants.{Memory as ClosingMemory}
 use Rattle.thy_text.specs.Closings.{closing_of}
-use Rattle.thy_words.specs.declared.words.Command.{Command}
-use Rattle.thy_words.specs.Settings.{Order, IsInRange, order_of, settings_of}
+use Rattle.thy_arguments.specs.declared.words.Command.{Command}
+use Rattle.thy_arguments.specs.Settings.{Order, IsInRange, order_of, settings_of}
 use Rattle.thy_answer.specs.declared.answer.Answer.{Answer}
 use Rattle.thy_answer.specs.declared.refusal.Refusal.{Refusal}
-use Rattle.thy_answer.specs.Answering.{Around, NvmOf, Outside, Closes, around, told_of}
+use Rattle.thy_answer.specs.Answering.{Around, NvmOf, Outside, Closes, around, report_of_refusal}
 use Rattle.thy_answer.specs.Machines.{Choice}
 use Rattle.thy_answer.specs.Saving.{IsPut}
 use Rattle.thy_cli.specs.Watching.{ClaimSeen}
@@ -23,7 +23,7 @@ use Rattle.observe.specs.declared.beginning.Begun.{Begun}
 use Rattle.observe.specs.declared.options.Options.{Options}
 use Rattle.observe.specs.Beginning.{IsBegunBy, IsBegunOf, IsProgramOf, IsUnreadOf, origin_of}
 use Rattle.observe.specs.CountText.{HasWhole, wear_part}
-use Rattle.observe.specs.Observing.{AreSections, HasTextOf, IsAskedFor, IsLacking, IsObserved, IsTold, IsUnread, is_refused_by, was_begun}
+use Rattle.observe.specs.Observing.{AreSections, HasTextOf, IsAskedFor, IsLacking, IsObserved, ReportsOut, IsUnread, is_refused_by, was_begun}
 use Rattle.observe.specs.Sections.{HasSections, HasText, IsText, IsTextOf, setting_by}
 use Rattle.observe.specs.Wanting.{asks, counts}
 
@@ -95,8 +95,8 @@ lent-in-range words (Some c) command same asked = (subst (λ (o : Option Command
 -- if a run has no program, the order which was asked for has none, for the same reason
 pub Unread-asked : (options : Options) (words : List (List ℕ)) (command : Option Command) (why : Refusal) (before after : Outside) (status : ℕ)
     → asks options ≡ true → IfSome command (IsAskedFor words) → IsUnreadOf (option_map order_of command) before.shelf after.shelf why
-    → status ≡ (told_of why).0 → after.shelf.held ≡ before.shelf.held → after.device ≡ before.device → after.terminal ≡ before.terminal
-    → Closes (told_of why).1 before.report after.report → IsUnread options words before after status
+    → status ≡ (report_of_refusal why).0 → after.shelf.held ≡ before.shelf.held → after.device ≡ before.device → after.terminal ≡ before.terminal
+    → Closes (report_of_refusal why).1 before.report after.report → IsUnread options words before after status
 Unread-asked options words None why before after status wanted asked due is held device terminal closes = absurd due
 Unread-asked options words (Some c) why before after status wanted asked due is held device terminal closes = record {
   wanted = wanted;
@@ -152,38 +152,38 @@ IsObserved-left c d wear options out words old middle nvm terminal report after 
 
 -- a call without a text, as memory ran out
 pub IsObserved-lacks : {N : Type 0} (c : Choice) (d : NvmOf N) (wear : N → List ℕ) (options : Options) (out : List ℕ) (words : List (List ℕ)) (old middle shelf : Stock)
-    (first nvm : N) (terminal shown report told last : Stream) (a : Answer) (w : Watch) (status : ℕ)
+    (first nvm : N) (terminal shown report reported last : Stream) (a : Answer) (w : Watch) (status : ℕ)
     → middle ≡ old → is_refused_by options out (settings_of words) ≡ false → was_begun a ≡ true
-    → ClaimSeen c d IsWatch HasLast words (around middle first terminal report) (around shelf nvm shown told) a w
-    → IsLacking options told last a.status status
+    → ClaimSeen c d IsWatch HasLast words (around middle first terminal report) (around shelf nvm shown reported) a w
+    → IsLacking options reported last a.status status
     → IsObserved c d wear options out words (around old first terminal report) (around shelf nvm shown last) status
-IsObserved-lacks c d wear options out words old middle shelf first nvm terminal shown report told last a w status same free begun claim lacking =
+IsObserved-lacks c d wear options out words old middle shelf first nvm terminal shown report reported last a w status same free begun claim lacking =
     IsObserved-same c d wear options out words old middle first terminal report (around shelf nvm shown last) status same (record {
       free = free;
-      middle = around shelf nvm shown told;
+      middle = around shelf nvm shown reported;
       answer = a;
       watch = w;
       claim = claim;
-      ends = inr (inl (record { begun = begun; shelf = refl; nvm = refl; terminal = refl; is_told = lacking }));
+      ends = inr (inl (record { begun = begun; shelf = refl; nvm = refl; terminal = refl; is_reported = lacking }));
     })
 
 -- a call with a text, which was put or could not be
 pub IsObserved-puts : {N : Type 0} (c : Choice) (d : NvmOf N) (wear : N → List ℕ) (options : Options) (out : List ℕ) (words : List (List ℕ)) (old middle shelf put : Stock)
-    (first nvm : N) (terminal shown report told last : Stream) (a : Answer) (w : Watch) (command : Option Command) (begun : Option Begun) (whole : List ℕ)
+    (first nvm : N) (terminal shown report reported last : Stream) (a : Answer) (w : Watch) (command : Option Command) (begun : Option Begun) (whole : List ℕ)
     (why : Option PutError) (status : ℕ)
     → middle ≡ old → is_refused_by options out (settings_of words) ≡ false → was_begun a ≡ true
-    → ClaimSeen c d IsWatch HasLast words (around middle first terminal report) (around shelf nvm shown told) a w
+    → ClaimSeen c d IsWatch HasLast words (around middle first terminal report) (around shelf nvm shown reported) a w
     → IfSome command (IsAskedFor words) → IfSome begun (IsBegunOf (option_map order_of command) middle) → HasWhole options begun w (wear nvm) whole
-    → IsPut out whole shelf put why → IsTold out why told last a.status status
+    → IsPut out whole shelf put why → ReportsOut out why reported last a.status status
     → IsObserved c d wear options out words (around old first terminal report) (around put nvm shown last) status
-IsObserved-puts c d wear options out words old middle shelf put first nvm terminal shown report told last a w command begun whole why status same free ran claim asked by has is tells =
+IsObserved-puts c d wear options out words old middle shelf put first nvm terminal shown report reported last a w command begun whole why status same free ran claim asked by has is reports =
     let ends = Ends-sections options words middle command begun w has.head has.text asked by has.sections in
     let rest : List ℕ = has.counted ++ wear_part options.wear (wear nvm) in
     let text : whole ≡ has.head ++ (ends.section ++ rest) =
     has.splits ∙ ap (λ (t : List ℕ). t ++ rest) ends.splits ∙ append_assoc has.head ends.section rest in
     IsObserved-same c d wear options out words old middle first terminal report (around put nvm shown last) status same (record {
       free = free;
-      middle = around shelf nvm shown told;
+      middle = around shelf nvm shown reported;
       answer = a;
       watch = w;
       claim = claim;
@@ -198,6 +198,6 @@ IsObserved-puts c d wear options out words old middle shelf put first nvm termin
         put = subst (λ (t : List ℕ). IsPut out t shelf put why) text is;
         nvm = refl;
         terminal = refl;
-        is_told = tells;
+        is_reported = reports;
       }));
     })

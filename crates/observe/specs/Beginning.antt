@@ -6,8 +6,8 @@ use Rattle.thy_base.specs.Config.{parameters_of}
 use Rattle.thy_block.specs.Outside.{Stock}
 use Rattle.thy_isa.specs.Step.{state_of}
 use Rattle.thy_view.specs.Origin.{Origin}
-use Rattle.thy_words.specs.declared.words.Job.{Job as JobStruct}
-use Rattle.thy_words.specs.Settings.{Job, Order, run, resume, bench, compare, plain, make, job_of}
+use Rattle.thy_arguments.specs.declared.words.Job.{Job as JobStruct}
+use Rattle.thy_arguments.specs.Settings.{Job, Order, run, resume, bench, compare, plain, make, job_of}
 use Rattle.thy_answer.specs.declared.refusal.Refusal.{Refusal}
 use Rattle.thy_answer.specs.declared.source.ProgramSource.{ProgramSource as SourceValue}
 use Rattle.thy_answer.specs.Kept.{named}

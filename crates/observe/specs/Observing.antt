@@ -6,10 +6,10 @@ use Rattle.thy_block.specs.Outside.{Stock, Stream}
 use Rattle.thy_text.specs.declared.closing.Closing.TheVariants.{Memory as ClosingMemory}
 use Rattle.thy_text.specs.Closings.{closing_of}
 use Rattle.thy_text.specs.History.{all_of}
-use Rattle.thy_words.specs.declared.words.WordsError.{WordsError}
-use Rattle.thy_words.specs.declared.words.WordsError.TheVariants.{Usage, Memory}
-use Rattle.thy_words.specs.declared.words.Command.{Command}
-use Rattle.thy_words.specs.Settings.{Job, Order, run, resume, bench, compare, plain, make, IsInRange, order_of, settings_of}
+use Rattle.thy_arguments.specs.declared.words.WordsError.{WordsError}
+use Rattle.thy_arguments.specs.declared.words.WordsError.TheVariants.{Usage, Memory}
+use Rattle.thy_arguments.specs.declared.words.Command.{Command}
+use Rattle.thy_arguments.specs.Settings.{Job, Order, run, resume, bench, compare, plain, make, IsInRange, order_of, settings_of}
 use Rattle.thy_run.specs.Watching.{Taken}
 use Rattle.thy_view.specs.Origin.{setting_of}
 use Rattle.thy_observe.specs.declared.watch.Watch.{Watch}
@@ -17,7 +17,7 @@ use Rattle.thy_observe.specs.Watched.{IsWatch, HasLast}
 use Rattle.thy_answer.specs.declared.answer.Answer.{Answer}
 use Rattle.thy_answer.specs.declared.refusal.Refusal.{Refusal}
 use Rattle.thy_answer.specs.declared.refusal.Refusal.TheVariants.{Words}
-use Rattle.thy_answer.specs.Answering.{Around, NvmOf, Outside, Closes, outside_of, put_line, told_of}
+use Rattle.thy_answer.specs.Answering.{Around, NvmOf, Outside, Closes, outside_of, put_line, report_of_refusal}
 use Rattle.thy_answer.specs.Machines.{Choice}
 use Rattle.thy_answer.specs.Saving.{IsPut}
 use Rattle.thy_cli.specs.Watching.{ClaimSeen}
@@ -72,11 +72,11 @@ pub record IsAskedFor (words : List (List ℕ)) (c : Command) : Type 0 where
 
 -- the call is refused: a line says why, and all else is left alone
 pub record IsTurnedDown (r : Refusal) (before after : Outside) (status : ℕ) : Type 0 where
-  pub is_status : status ≡ (told_of r).0
+  pub is_status : status ≡ (report_of_refusal r).0
   pub shelf : after.shelf ≡ before.shelf
   pub device : after.device ≡ before.device
   pub terminal : after.terminal ≡ before.terminal
-  pub closes : Closes (told_of r).1 before.report after.report
+  pub closes : Closes (report_of_refusal r).1 before.report after.report
 
 -- why a call is refused: because of OUT or of an option; that memory ran out for the arguments needs no reason
 abbrev pub IsRefusedFor : Options → List ℕ → List (List ℕ) → WordsError → Type 0
@@ -96,16 +96,16 @@ pub record IsUnread (options : Options) (words : List (List ℕ)) (before after 
   pub asked : settings_of words ≡ Ok order
   pub why : Refusal
   pub due : IsUnreadBy order before.shelf after.shelf why
-  pub is_status : status ≡ (told_of why).0
+  pub is_status : status ≡ (report_of_refusal why).0
   pub held : after.shelf.held ≡ before.shelf.held
   pub device : after.device ≡ before.device
   pub terminal : after.terminal ≡ before.terminal
-  pub closes : Closes (told_of why).1 before.report after.report
+  pub closes : Closes (report_of_refusal why).1 before.report after.report
 
 -- what is reported of OUT, and the exit status: if OUT was not put, a line says so, and the status is 3
-abbrev pub IsTold : List ℕ → Option PutError → Stream → Stream → (answered status : ℕ) → Type 0
-IsTold out None old new answered status = (new ≡ old) × (status ≡ answered)
-IsTold out (Some e) old new answered status = Closes (put_line out) old new × (status ≡ 3)
+abbrev pub ReportsOut : List ℕ → Option PutError → Stream → Stream → (answered status : ℕ) → Type 0
+ReportsOut out None old new answered status = (new ≡ old) × (status ≡ answered)
+ReportsOut out (Some e) old new answered status = Closes (put_line out) old new × (status ≡ 3)
 
 -- a run was begun, by its answer; one that did nothing counts as none
 abbrev pub was_begun : Answer → Bool
@@ -139,7 +139,7 @@ pub record PutsOut {N : Type 0} (wear : N → List ℕ) (options : Options) (out
   pub put : IsPut out (head ++ (section ++ (counted ++ wear_part options.wear (wear middle.nvm)))) middle.shelf after.shelf why
   pub nvm : after.nvm ≡ middle.nvm
   pub terminal : after.terminal ≡ middle.terminal
-  pub is_told : IsTold out why middle.report after.report a.status status
+  pub is_reported : ReportsOut out why middle.report after.report a.status status
 
 -- no run was begun, and nothing was put
 abbrev pub LeavesOut : {N : Type 0} → Around N → Around N → Answer → ℕ → Type 0
@@ -156,7 +156,7 @@ pub record LacksOut {N : Type 0} (options : Options) (middle after : Around N) (
   pub shelf : after.shelf ≡ middle.shelf
   pub nvm : after.nvm ≡ middle.nvm
   pub terminal : after.terminal ≡ middle.terminal
-  pub is_told : IsLacking options middle.report after.report a.status status
+  pub is_reported : IsLacking options middle.report after.report a.status status
 
 -- OUT is no name that the arguments have. They were answered as thynvm answers them, and what was seen is the run's
 -- cycles, or the trap of the plain machine. Then OUT was put, or nothing was.

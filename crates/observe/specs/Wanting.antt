@@ -1,7 +1,7 @@
 -- What is asked for by the arguments after OUT, the program's name first: of OUT in addition, and of the NVM.
 use Rattle.std.specs.Prelude.{◌≡◌, ℕ, zero, suc, Bool, true, false, ◌||◌, not, is_none, List, [], ◌∷◌, codes, if◌then◌else◌, Option, Some, None, Result, Ok, Err}
 use Rattle.std.specs.Str.{bytes_eq}
-use Rattle.thy_words.specs.Numbers.{number_in}
+use Rattle.thy_arguments.specs.Numbers.{number_in}
 use Rattle.observe.specs.declared.options.Options.{Options}
 use Rattle.observe.specs.declared.options.Wish.{Wish}
 use Rattle.observe.specs.declared.options.Wish.TheVariants.{Pcs, State, StateAt, Causes, Epochs, Wear, Torn}

@@ -3,7 +3,7 @@
 use std::alloc::{AllocError, Global};
 use thy_observe::{EventCycle, RetiredCount, Tally};
 use thy_out::MemSink;
-use thy_text::{Event, Events, Telling, write_event};
+use thy_text::{Event, Events, Reporting, write_event};
 
 /// Room for a line of the report without digests, in bytes.
 const LINE: u64 = 256;
@@ -67,7 +67,7 @@ fn add_line(
     text: &mut String,
     cycle: u64,
     count: Option<u64>,
-    telling: Telling,
+    reporting: Reporting,
     event: &Event,
 ) -> Result<(), AllocError> {
     let head = match count {
@@ -76,7 +76,7 @@ fn add_line(
     };
     text.push_str(head.as_str())?;
     let mut line = MemSink::new(alloc, LINE, Vec::new(alloc))?;
-    let _written = write_event(event, telling, &mut line);
+    let _written = write_event(event, reporting, &mut line);
     if let Ok(line) = std::str::from_utf8(line.taken()) {
         text.push_str(line)?;
     }
@@ -89,16 +89,16 @@ fn add_cycle(
     text: &mut String,
     losses: &mut Losses,
     event_cycle: &EventCycle,
-    telling: Telling,
+    reporting: Reporting,
     events: &Events,
     first: usize,
 ) -> Result<usize, AllocError> {
     let mut next = first;
-    for _ in 0..event_cycle.told {
+    for _ in 0..event_cycle.reported {
         if next < events.len() {
             let event = events.get(next);
             let count = count_in(event, event_cycle.retired);
-            add_line(alloc, text, event_cycle.cycle, count, telling, event)?;
+            add_line(alloc, text, event_cycle.cycle, count, reporting, event)?;
             losses.count(event, count);
             next += 1;
         }
@@ -115,7 +115,7 @@ pub fn add_lines(
     alloc: Global,
     text: &mut String,
     tally: &Tally,
-    telling: Telling,
+    reporting: Reporting,
     events: &Events,
 ) -> Result<Option<u64>, AllocError> {
     let Some(event_cycles) = tally.event_cycles() else {
@@ -124,13 +124,21 @@ pub fn add_lines(
     let mut losses = Losses { at: None, lost: 0 };
     let mut next = 0;
     for event_cycle in event_cycles {
-        next = add_cycle(alloc, text, &mut losses, event_cycle, telling, events, next)?;
+        next = add_cycle(
+            alloc,
+            text,
+            &mut losses,
+            event_cycle,
+            reporting,
+            events,
+            next,
+        )?;
     }
     let broken = tally.cycles().saturating_add(1);
     for i in next..events.len() {
         let event = events.get(i);
         let count = count_in(event, tally.retired());
-        add_line(alloc, text, broken, count, telling, event)?;
+        add_line(alloc, text, broken, count, reporting, event)?;
         losses.count(event, count);
     }
     Ok(Some(losses.lost))

@@ -4,8 +4,8 @@ ghost use Rattle.std.specs.String.{string_bytes};
 ghost use Rattle.thy_answer.specs.Answering.{Closes};
 ghost use Rattle.observe.specs.Wanting.{IsReading, asks, counts, has, needs_run, no_options, options_in, take_one, takes_number, wish_of, with_wish, word_line};
 
+use thy_arguments::number;
 use thy_base::Sink;
-use thy_words::number;
 
 /// How many options there are.
 const OPTIONS: usize = 7;

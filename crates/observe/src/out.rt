@@ -6,10 +6,10 @@ use crate::lines::add_lines;
 use crate::totals::add_totals;
 use crate::trap::{add_trap, trap_in};
 use std::alloc::{AllocError, Global};
+use thy_arguments::Command;
 use thy_cli::Answer;
 use thy_observe::{Calls, Tally};
-use thy_text::Telling;
-use thy_words::Command;
+use thy_text::Reporting;
 
 /// What has to be known of the arguments.
 #[derive(Clone, Copy)]
@@ -72,11 +72,11 @@ pub fn text_of(
     }
     let Asked { base, harts, .. } = asked;
     let events = answer.events.last();
-    let telling = Telling {
+    let reporting = Reporting {
         digest: false,
         harts,
     };
-    let Some(lost) = add_lines(alloc, &mut text, tally, telling, events)? else {
+    let Some(lost) = add_lines(alloc, &mut text, tally, reporting, events)? else {
         return Ok(None);
     };
     add_trap(alloc, &mut text, trap_in(events, base, harts), harts)?;

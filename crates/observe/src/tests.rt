@@ -359,7 +359,7 @@ fn a_torn_commit_block_is_the_old_one_or_the_new_one(rt: HostRuntime) -> Result<
 }
 
 #[test]
-fn an_out_that_cannot_be_put_is_told(rt: HostRuntime) -> Result<(), Fail> {
+fn an_out_that_cannot_be_put_is_reported(rt: HostRuntime) -> Result<(), Fail> {
     let alloc = rt.alloc();
     let given = called(alloc, "O", "thynvm plain F --pages 8", 0x00100073, &[2])?;
     assert_eq!(rt; given.status, 3);
@@ -617,7 +617,7 @@ static EPOCHS_CUT: [&str; 6] = [
     "2\t724\t736\trun\t0\t0\t0\t0\t0\t0\t0\t0\t0\t0\t5\t3\t1\t2\t2\t0\t0\t8\n",
 ];
 
-/// The rows of the run that stores once by both tables: the second epoch executes while the first one's checkpoint is written.
+/// The rows of the run by thynvm that stores once: the second epoch executes while the first one's checkpoint is written.
 static EPOCHS_STORED: [&str; 5] = [
     "epochs\nepoch\tfrom\tto\tend\tboot\tinstructions\tmeanwhile\tflushes\tmerges\tseals\tpromotions\tcopies\thomes\tpages\tprocessor\ttables\tcommits\tbarriers\tnvmdrains\tdramdrains\tnothing\twaiting\n",
     "-\t1\t700\tboot\t525\t0\t0\t0\t0\t0\t0\t0\t0\t0\t0\t0\t0\t0\t175\t0\t0\t0\n",
@@ -828,7 +828,7 @@ fn the_trap_and_the_moves_are_of_the_hart_that_retires(rt: HostRuntime) -> Resul
 }
 
 /// The run stops with the seal of an epoch in which hart 1 finds no room for its ninth store. Its instruction is dropped after
-/// two moves, its fetch and the reservation, and these are no hart's: 82 is two more than both have.
+/// two moves, its fetch and the securing of room, and these are no hart's: 82 is two more than both have.
 static DROPPED: &str = "662 0 commit 0 overlapped 0\n\
     810 55 epoch 1 ends at 55 by exhausted 8 8 1 harts 29 26\n\
     cycles 810 boot 530 hart 146 engine 0 nvmdrain 134 dramdrain 0\n\
@@ -853,7 +853,7 @@ fn moves_of_a_dropped_instruction_are_no_harts(rt: HostRuntime) -> Result<(), Fa
 }
 
 #[test]
-fn a_resumed_run_tells_the_hart_that_it_saw(rt: HostRuntime) -> Result<(), Fail> {
+fn a_resumed_run_reports_the_hart_that_it_saw(rt: HostRuntime) -> Result<(), Fail> {
     let alloc = rt.alloc();
     for scheme in ["thynvm", "journal", "shadow"] {
         let options = format!(in alloc; "--pages 8 --btt 8 --ptt 8 --harts 2 --scheme {scheme}")?;

@@ -7,10 +7,10 @@ ghost use Rattle.thy_answer.specs.Machines.{by_scheme};
 ghost use Rattle.thy_answer.specs.Saving.{IsPut};
 ghost use Rattle.thy_run.specs.Sending.{Sent};
 ghost use Rattle.thy_text.specs.Closings.{closing_of};
-ghost use Rattle.thy_words.specs.Settings.{IsInRange, order_of, settings_of};
+ghost use Rattle.thy_arguments.specs.Settings.{IsInRange, order_of, settings_of};
 ghost use Rattle.observe.specs.Beginning.{IsBegunOf, IsUnreadOf};
 ghost use Rattle.observe.specs.Wanting.{asks};
-ghost use Rattle.observe.specs.Observing.{IsAskedFor, IsLacking, IsRefusedFor, IsTold, Observed, is_refused_by};
+ghost use Rattle.observe.specs.Observing.{IsAskedFor, IsLacking, IsRefusedFor, ReportsOut, Observed, is_refused_by};
 
 use crate::beginning::{Begun, begin};
 use crate::naming::is_refused;
@@ -18,16 +18,16 @@ use crate::options::Options;
 use crate::out::{Asked, was_begun};
 use crate::whole::whole_text;
 use std::alloc::Global;
+use thy_arguments::{Command, WordsError, settings};
 use thy_base::{Nvm, PutError, Shelf, Sink};
 use thy_cli::{Refusal, observed, refuse};
 use thy_core::Machine;
-use thy_dual::DualScheme;
 use thy_journal::Journal;
 use thy_observe::{Counts, Watch};
 use thy_shadow::Shadow;
 use thy_text::{Closing, write_closing};
+use thy_thynvm::Thynvm;
 use thy_view::Computer;
-use thy_words::{Command, WordsError, settings};
 
 /// The exit status if OUT could not be put.
 const NOT_PUT: u8 = 3;
@@ -101,8 +101,8 @@ fn close<R: Sink>(closing: Closing, report: &mut R) -> bool
 }
 
 /// Reports that OUT was not put, if so, and returns the exit status. If the report fails in the line, the status stays.
-fn tell<R: Sink>(out: &str, why: Option<PutError>, status: u8, report: &mut R) -> u8
-    ensures { IsTold out.now why (R.stream report.old) (R.stream report.new) status result }
+fn write_report<R: Sink>(out: &str, why: Option<PutError>, status: u8, report: &mut R) -> u8
+    ensures { ReportsOut out.now why (R.stream report.old) (R.stream report.new) status result }
 {
     match why {
         None => status,
@@ -147,7 +147,7 @@ pub fn observe<H: Shelf, T: Sink, R: Sink, N: Nvm + Counts>(
         let after = around (H.stock shelf.new) nvm.new
         (T.stream terminal.new) (R.stream report.new) in
         let nvms = nvm_of N.device N.writes in
-        let machines = by_scheme ⟦<Machine<DualScheme> as Computer>⟧.kind
+        let machines = by_scheme ⟦<Machine<Thynvm> as Computer>⟧.kind
         ⟦<Machine<Journal> as Computer>⟧.kind
         ⟦<Machine<Shadow> as Computer>⟧.kind in
         Observed machines nvms N.wear options out.now (map string_bytes words.now) before after result }
@@ -171,5 +171,5 @@ pub fn observe<H: Shelf, T: Sink, R: Sink, N: Nvm + Counts>(
         return lack(options, answer.status, report);
     };
     let why = put_text(alloc, out, text.as_str(), shelf);
-    tell(out, why, answer.status, report)
+    write_report(out, why, answer.status, report)
 }

@@ -1,6 +1,6 @@
 -- Which orders can be swept.
 use Rattle.std.specs.Prelude.{◌≡◌, []}
-use Rattle.thy_words.specs.Settings.{Job, Order, run, resume, bench, compare, plain, make}
+use Rattle.thy_arguments.specs.Settings.{Job, Order, run, resume, bench, compare, plain, make}
 
 -- a job lists no cuts
 abbrev pub IsUncutJob : Job → Type 0

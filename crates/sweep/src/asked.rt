@@ -1,7 +1,7 @@
 //! What is to be tried, as the words between OUT and the command say it.
 
 use std::alloc::{AllocError, Global};
-use thy_words::{is_list, list_of, number};
+use thy_arguments::{is_list, list_of, number};
 
 /// How many options there are.
 const OPTIONS: usize = 6;

@@ -24,10 +24,10 @@ use std::io::ErrorKind;
 use std::process::ExitCode;
 use std::rt::Env;
 use thy_answer::{Refusal, refuse};
+use thy_arguments::WordsError;
 use thy_base::Sink;
 use thy_nvm::MemNvm;
 use thy_out::{FileShelf, StdSink};
-use thy_words::WordsError;
 
 /// The arguments of the command line; none if the system has none to give.
 fn words(rt: &(impl Env + Alloc<A = Global>)) -> Result<Vec<String>, AllocError> {

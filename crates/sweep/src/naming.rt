@@ -1,9 +1,9 @@
 //! Whether a command can be swept, and text be put under OUT.
 ghost use Rattle.std.specs.Prelude.{◌≡◌, false};
-ghost use Rattle.thy_words.specs.Settings.{job_of, order_of};
+ghost use Rattle.thy_arguments.specs.Settings.{job_of, order_of};
 ghost use Rattle.sweep.specs.Naming.{IsUncut, IsUncutJob};
 
-use thy_words::{Command, Job};
+use thy_arguments::{Command, Job};
 
 /// Whether OUT is this name.
 fn is_name(out: &str, name: &Option<String>) -> bool {

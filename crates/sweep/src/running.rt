@@ -19,7 +19,7 @@ use thy_text::{Event, Events};
 use thy_trial::Room;
 use thy_view::{Computer, CoreError, Did};
 
-/// What is known of a run besides its machine.
+/// What is known of a run in addition to its machine.
 #[derive(Drop)]
 pub struct Watch {
     pub account: Account,

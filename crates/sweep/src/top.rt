@@ -5,7 +5,7 @@ ghost use Rattle.thy_execute.specs.Planning.{CanRun, shape_of};
 ghost use Rattle.thy_files.specs.Restoring.{ReadsFiles};
 ghost use Rattle.thy_run.specs.Going.{IsPlanned};
 ghost use Rattle.thy_run.specs.Rounds.{IsFitted};
-ghost use Rattle.thy_words.specs.Settings.{IsInRange, order_of};
+ghost use Rattle.thy_arguments.specs.Settings.{IsInRange, order_of};
 ghost use Rattle.sweep.specs.Naming.{IsUncut};
 
 use crate::account::{Account, Last};
@@ -14,17 +14,17 @@ use crate::naming::is_refused;
 use crate::running::{Swept, Watch, last_of, sweep_run};
 use std::alloc::{AllocError, Global};
 use thy_answer::{ProgramSource, Refusal, close, refuse, stopped};
+use thy_arguments::{Command, Job, WordsError, settings};
 use thy_base::{Block, Geometry, Nvm, SchemeName, Shape, Shelf, Sink};
 use thy_core::Machine;
-use thy_dual::DualScheme;
 use thy_files::{Beginning, prepare};
 use thy_journal::Journal;
 use thy_nvm::MemNvm;
 use thy_run::{Plan, Stop};
 use thy_shadow::Shadow;
 use thy_text::Closing;
+use thy_thynvm::Thynvm;
 use thy_view::Computer;
-use thy_words::{Command, Job, WordsError, settings};
 
 /// The exit status of a difference.
 const DIFFERS: u8 = 1;
@@ -267,7 +267,7 @@ fn sweep_job<H: Shelf, T: Sink, R: Sink>(
     requires uncut { job.config.cuts ≡ [] }
 {
     match job.config.scheme {
-        SchemeName::Thynvm => sweep_source::<Machine<DualScheme>, H, T, R>(
+        SchemeName::Thynvm => sweep_source::<Machine<Thynvm>, H, T, R>(
             alloc, out, asked, source, job, shelf, terminal, report, nvm,
         ),
         SchemeName::Journal => sweep_source::<Machine<Journal>, H, T, R>(

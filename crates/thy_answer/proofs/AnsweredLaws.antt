@@ -5,10 +5,10 @@ use Rattle.thy_block.specs.declared.outside.PutError.{PutError}
 use Rattle.thy_block.specs.declared.outside.PutError.TheVariants.{Failed as PutFailed, Memory as PutMemory}
 use Rattle.thy_isa.specs.Step.{is_running}
 use Rattle.thy_run.specs.Sending.{Sent}
-use Rattle.thy_words.specs.Settings.{Job, Order, compare, plain, make, settings_of}
+use Rattle.thy_arguments.specs.Settings.{Job, Order, compare, plain, make, settings_of}
 use Rattle.thy_answer.specs.declared.answer.Answer.{Answer}
 use Rattle.thy_answer.specs.Answering.{Around, NvmOf, Outside, MakeAnswered, PlainAnswered, RunAnswered, made_line, made_status, outside_of}
-use Rattle.thy_answer.specs.Calm.{IsAsked, IsCalm, left_alone, run_of, TellsEnd, RunCompletes, PairCompletes, CompareCompletes, PlainCompletes, MakeCompletes}
+use Rattle.thy_answer.specs.Calm.{IsAsked, IsCalm, left_alone, run_of, HasEndOf, RunCompletes, PairCompletes, CompareCompletes, PlainCompletes, MakeCompletes}
 use Rattle.thy_answer.specs.Machines.{Choice}
 use Rattle.thy_answer.specs.Orders.{Answered, OrderAnswered, WordsRefused}
 use Rattle.thy_answer.specs.Saving.{PutCounted}
@@ -52,7 +52,7 @@ module _ {N : Type 0} (c : Choice) (d : NvmOf N) (words : List (List ℕ)) (befo
       (order_answered source job (asked_for (run_of source job) order i.asked asked h))
 
   plain_completes : (name : List ℕ) (job : Job) (i : IsAsked (plain name job) (file name) job words old.shelf) (k : ℕ) → IsCalm old new
-      → is_running (left_alone i.program k).status ≡ false → k ≤ job.config.limit → PlainAnswered name job old new a → TellsEnd (left_alone i.program k) a
+      → is_running (left_alone i.program k).status ≡ false → k ≤ job.config.limit → PlainAnswered name job old new a → HasEndOf (left_alone i.program k) a
   plain_completes name job i k faults over limit (device, inl (r, due, refused)) =
       inr (refused.status ∙ program_due (file name) job old.shelf new.shelf r (stands_of i) faults.shelf due)
   plain_completes name job i k faults over limit (device, inr ran) = by_faults name job k old new a (stands_of i) faults over limit ran ran.terminal_failed ran.report_failed refl refl
@@ -64,16 +64,16 @@ module _ {N : Type 0} (c : Choice) (d : NvmOf N) (words : List (List ℕ)) (befo
       plain_completes name job i k faults over limit (asked_for (plain name job) order i.asked asked h)
 
   -- a made program is put, unless memory ran out
-  make_told : (n : ℕ) (name : List ℕ) (failed : Bool) (why : Option PutError) → IsCalm old new → Sent failed old.report new.report (made_line n name why) → a.status ≡ made_status failed why
+  make_reported : (n : ℕ) (name : List ℕ) (failed : Bool) (why : Option PutError) → IsCalm old new → Sent failed old.report new.report (made_line n name why) → a.status ≡ made_status failed why
       → PutCounted name old.shelf new.shelf why → (a.status ≡ 0) ⊎ (a.status ≡ 9)
-  make_told n name false None faults sent is counted = inl is
-  make_told n name true None faults sent is counted = not_risen old.report.faults new.report.faults faults.report sent.0.rose
-  make_told n name failed (Some PutFailed) faults sent is counted = put_calm name old.shelf new.shelf faults.shelf counted
-  make_told n name false (Some (PutMemory e)) faults sent is counted = inr is
-  make_told n name true (Some (PutMemory e)) faults sent is counted = inr is
+  make_reported n name false None faults sent is counted = inl is
+  make_reported n name true None faults sent is counted = not_risen old.report.faults new.report.faults faults.report sent.0.rose
+  make_reported n name failed (Some PutFailed) faults sent is counted = put_calm name old.shelf new.shelf faults.shelf counted
+  make_reported n name false (Some (PutMemory e)) faults sent is counted = inr is
+  make_reported n name true (Some (PutMemory e)) faults sent is counted = inr is
 
   make_completes : (n : ℕ) (name : List ℕ) → IsCalm old new → MakeAnswered n name old new a → (a.status ≡ 0) ⊎ (a.status ≡ 9)
-  make_completes n name faults h = make_told n name h.told.failed h.why faults h.told.sent h.told.answers h.put.counted
+  make_completes n name faults h = make_reported n name h.reported.failed h.why faults h.reported.sent h.reported.answers h.put.counted
 
   pub Completes-make : Answered c d words before after a → MakeCompletes words old new a
   Completes-make (inl refused) n name asked faults = inr (refused_words (make n name) asked refused)

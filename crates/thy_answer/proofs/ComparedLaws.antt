@@ -12,7 +12,7 @@ use Rattle.thy_isa.specs.Step.{State, is_running}
 use Rattle.thy_text.specs.Event.{Event}
 use Rattle.thy_text.specs.History.{all_of}
 use Rattle.thy_text.specs.Summary.{scheme_line}
-use Rattle.thy_words.specs.Settings.{Job}
+use Rattle.thy_arguments.specs.Settings.{Job}
 use Rattle.thy_run.specs.declared.ending.Stop.{Stop}
 use Rattle.thy_run.specs.declared.ending.Stop.TheVariants.{Ended, Nvm, Memory, Terminal, Report, Limit}
 use Rattle.thy_run.specs.Cuts.{has_ended}
@@ -25,7 +25,7 @@ use Rattle.thy_answer.specs.declared.refusal.Refusal.{Refusal}
 use Rattle.thy_answer.specs.declared.refusal.Refusal.TheVariants.{Words, Fetch, File, Image, Input, Device as DeviceRefusal, Memory as MemoryRefusal}
 use Rattle.thy_answer.specs.Answering.{Around, NvmOf, IsRunOf, given_for, outside_of, run_status, stop_line, stop_status, with_device}
 use Rattle.thy_answer.specs.Comparing.{CompareAnswered, NotBegun, RunsBy, RunsThrough, Stage, Subject, compared, first_stage, line_status, scheme_lines, seen_by, under}
-use Rattle.thy_answer.specs.Calm.{IsCalm, Stayed, TellsEnd, left_alone}
+use Rattle.thy_answer.specs.Calm.{IsCalm, Stayed, HasEndOf, left_alone}
 use Rattle.thy_answer.specs.Machines.{Choice}
 use Rattle.thy_answer.specs.Kept.{refused_status}
 use Rattle.thy_answer.specs.Saving.{saves}
@@ -85,7 +85,7 @@ module _ {N : Type 0} (c : Choice) (d : NvmOf N) (x : Subject) (first : Bool) (s
 
   run_is : r.run.status ≡ stop_status seen.ending.stop
   run_is =
-      (unsummed x.name (under scheme x.job).config.limit (under scheme x.job).save seen.ending seen.why r.run.status seen.told (seen_by d first new.around).report seen.closes).1
+      (unsummed x.name (under scheme x.job).config.limit (under scheme x.job).save seen.ending seen.why r.run.status seen.reported (seen_by d first new.around).report seen.closes).1
       ∙ ap (run_status seen.ending.stop) put_none.2
 
   abbrev ended : Bool
@@ -143,7 +143,7 @@ record StandsWith (name : List ℕ) (job : Job) (k : ℕ) (last : State) (stock 
 
 stands_under : (scheme : SchemeName) (name : List ℕ) (job : Job) (k : ℕ) (stock : Stock) (s : Stands (file name) job stock) → StandsWith name (under scheme job) k (left_alone s.program k) stock
 stands_under scheme name job k stock s = record {
-  stands = record { files = s.files; tells = s.tells; program = program_under scheme name job stock s.program };
+  stands = record { files = s.files; holds_files = s.holds_files; program = program_under scheme name job stock s.program };
   is_last = at_under scheme job s.program.begins s.program.input _;
 }
 
@@ -163,12 +163,12 @@ sent_calm false line old new stayed sent = refl
 sent_calm true line old new stayed sent = not_risen old.faults new.faults stayed sent.0.rose
 
 -- the status is the status of this state's end, or memory ran out
-abbrev Tells : State → ℕ → Type 0
-Tells s n = (n ≡ stop_status (Ended s.status)) ⊎ (n ≡ 9)
+abbrev EndsAs : State → ℕ → Type 0
+EndsAs s n = (n ≡ stop_status (Ended s.status)) ⊎ (n ≡ 9)
 
-tells_same : (s : State) (n m : ℕ) → m ≡ n → Tells s n → Tells s m
-tells_same s n m same (inl is) = inl (same ∙ is)
-tells_same s n m same (inr is) = inr (same ∙ is)
+ends_same : (s : State) (n m : ℕ) → m ≡ n → EndsAs s n → EndsAs s m
+ends_same s n m same (inl is) = inl (same ∙ is)
+ends_same s n m same (inr is) = inr (same ∙ is)
 
 -- what a run sees has not failed: its report never does
 calm_by : {N : Type 0} (d : NvmOf N) (first : Bool) (old new : Around N) → new.shelf ≡ old.shelf → old.shelf.faults < 2 ^ 64 - 1
@@ -196,59 +196,59 @@ module _ {N : Type 0} (c : Choice) (d : NvmOf N) (name : List ℕ) (job : Job) (
   last = left_alone s.program k
 
   -- a run in which nothing failed
-  tells_run : (first : Bool) (scheme : SchemeName) (old new : Stage N) (events : List Event) → old.around.shelf ≡ stock
+  ends_run : (first : Bool) (scheme : SchemeName) (old new : Stage N) (events : List Event) → old.around.shelf ≡ stock
       → Stayed (d.device old.around.nvm).faults (d.device new.around.nvm).faults → Stayed old.around.terminal.faults new.around.terminal.faults
-      → Stayed old.around.report.faults new.around.report.faults → RunsBy c d x first scheme old new events → Tells last new.status
-  tells_run first scheme old new events is_stock device terminal report r =
+      → Stayed old.around.report.faults new.around.report.faults → RunsBy c d x first scheme old new events → EndsAs last new.status
+  ends_run first scheme old new events is_stock device terminal report r =
       let t : StandsWith name (under scheme job) k last old.around.shelf = subst (StandsWith name (under scheme job) k last) (sym is_stock) (stands_under scheme name job k stock s) in
       let ran = r.over.ran in
       let calm : IsCalm (seen_by d first old.around) (seen_by d first new.around) =
       calm_by d first old.around new.around (shelf_stays c d x first scheme old new events r) (subst (λ (y : Stock). y.faults < 2 ^ 64 - 1) (sym is_stock) counts) device terminal in
-      let tells : TellsEnd (left_alone t.stands.program k) r.run =
+      let holds_files : HasEndOf (left_alone t.stands.program k) r.run =
       by_save (c scheme).kind (file name) (under scheme job) k (with_device ran.found (seen_by d first old.around)) r.over.program (with_device ran.left (seen_by d first new.around)) r.run t.stands
       (calm_seen job.config.gap (seen_by d first old.around) (seen_by d first new.around) ran.found ran.left ran.is_found ran.is_left calm)
       one (ap (λ (y : State). is_running y.status) t.is_last ∙ over) (limit scheme) ran.seen ran.seen.why refl in
-      tells_same last r.run.status new.status (status_by c d x first scheme old new events r (sent_calm r.failed _ old.around.report new.around.report report r.lines)) (subst (λ (y : State). TellsEnd y r.run) t.is_last tells)
+      ends_same last r.run.status new.status (status_by c d x first scheme old new events r (sent_calm r.failed _ old.around.report new.around.report report r.lines)) (subst (λ (y : State). HasEndOf y r.run) t.is_last holds_files)
 
   -- runs in which nothing failed
-  tells_runs : (first : Bool) (schemes : List SchemeName) (old new : Stage N) (events : List Event) → old.around.shelf ≡ stock
+  ends_runs : (first : Bool) (schemes : List SchemeName) (old new : Stage N) (events : List Event) → old.around.shelf ≡ stock
       → Stayed (d.device old.around.nvm).faults (d.device new.around.nvm).faults → Stayed old.around.terminal.faults new.around.terminal.faults
-      → Stayed old.around.report.faults new.around.report.faults → (schemes ≡ [] → Tells last old.status) → RunsThrough c d x first schemes old new events → Tells last new.status
-  tells_runs first [] old new events is_stock device terminal report before (same, none) = tells_same last old.status new.status (ap (λ (y : Stage N). y.status) same) (before refl)
-  tells_runs first (scheme ∷ schemes) old new events is_stock device terminal report before (inl ends) =
+      → Stayed old.around.report.faults new.around.report.faults → (schemes ≡ [] → EndsAs last old.status) → RunsThrough c d x first schemes old new events → EndsAs last new.status
+  ends_runs first [] old new events is_stock device terminal report before (same, none) = ends_same last old.status new.status (ap (λ (y : Stage N). y.status) same) (before refl)
+  ends_runs first (scheme ∷ schemes) old new events is_stock device terminal report before (inl ends) =
       inr (ends.status ∙ before_due d old.around.nvm new.around.nvm ends.why device ends.due)
-  tells_runs first (scheme ∷ schemes) old new events is_stock device terminal report before (inr (middle, own, rest, run, parts, others)) =
-      by_low (nat_le middle.status 1) refl (tells_runs false schemes middle new rest) others
+  ends_runs first (scheme ∷ schemes) old new events is_stock device terminal report before (inr (middle, own, rest, run, parts, others)) =
+      by_low (nat_le middle.status 1) refl (ends_runs false schemes middle new rest) others
     where
       by_low : (low : Bool) → nat_le middle.status 1 ≡ low
-          → (middle.around.shelf ≡ stock → Stayed (d.device middle.around.nvm).faults (d.device new.around.nvm).faults → Stayed middle.around.terminal.faults new.around.terminal.faults → Stayed middle.around.report.faults new.around.report.faults → (schemes ≡ [] → Tells last middle.status)
-          → RunsThrough c d x false schemes middle new rest → Tells last new.status)
-          → MatchBool low (RunsThrough c d x false schemes middle new rest) ((new ≡ middle) × (rest ≡ [])) → Tells last new.status
+          → (middle.around.shelf ≡ stock → Stayed (d.device middle.around.nvm).faults (d.device new.around.nvm).faults → Stayed middle.around.terminal.faults new.around.terminal.faults → Stayed middle.around.report.faults new.around.report.faults → (schemes ≡ [] → EndsAs last middle.status)
+          → RunsThrough c d x false schemes middle new rest → EndsAs last new.status)
+          → MatchBool low (RunsThrough c d x false schemes middle new rest) ((new ≡ middle) × (rest ≡ [])) → EndsAs last new.status
       by_low false is go (same, none) =
-          tells_same last middle.status new.status (ap (λ (y : Stage N). y.status) same)
-          (tells_run first scheme old middle own is_stock
+          ends_same last middle.status new.status (ap (λ (y : Stage N). y.status) same)
+          (ends_run first scheme old middle own is_stock
           (subst (λ (y : Stage N). Stayed (d.device old.around.nvm).faults (d.device y.around.nvm).faults) same device)
           (subst (λ (y : Stage N). Stayed old.around.terminal.faults y.around.terminal.faults) same terminal)
           (subst (λ (y : Stage N). Stayed old.around.report.faults y.around.report.faults) same report) run)
       by_low true is go more =
           let stays : StaysOver d old.around middle.around = stays_low c d x first scheme old middle own run (leb-true middle.status 1 is) in
-          let told : Tells last middle.status =
-          tells_run first scheme old middle own is_stock
+          let reported : EndsAs last middle.status =
+          ends_run first scheme old middle own is_stock
           (record { same = stays.device; counts = device.counts }) (record { same = stays.terminal; counts = terminal.counts }) (record { same = stays.report; counts = report.counts }) run in
           go (shelf_stays c d x first scheme old middle own run ∙ is_stock)
           (record { same = device.same ∙ sym stays.device; counts = omega (arith, stays.device, device.counts) })
           (record { same = terminal.same ∙ sym stays.terminal; counts = omega (arith, stays.terminal, terminal.counts) })
           (record { same = report.same ∙ sym stays.report; counts = omega (arith, stays.report, report.counts) })
-          (λ e. told) more
+          (λ e. reported) more
 
 -- a comparison in which nothing failed reports the program's own end
 pub compare_completes : {N : Type 0} (c : Choice) (d : NvmOf N) (name : List ℕ) (job : Job) (before after : Around N) (a : Answer) (s : Stands (file name) job before.shelf) (k : ℕ) → IsCalm (outside_of d before) (outside_of d after) → job.config.harts ≡ 1
     → is_running (left_alone s.program k).status ≡ false → ((scheme : SchemeName) → cycles_for (c scheme).kind (parameters_of (under scheme job).config) job.config.cuts k ≤ job.config.limit)
-    → CompareAnswered c d name job before after a → TellsEnd (left_alone s.program k) a
+    → CompareAnswered c d name job before after a → HasEndOf (left_alone s.program k) a
 compare_completes c d name job before after a s k faults one over limit (inl (r, due, nvm, refused)) = inr (refused.status ∙ program_due (file name) job before.shelf after.shelf r s faults.shelf due)
 compare_completes {N = N} c d name job before after a s k faults one over limit (inr h) =
-    tells_same (left_alone s.program k) h.last.status a.status h.status
-    (tells_runs c d name job h.program.bytes h.program.input before.shelf s k faults.shelf.counts one over limit true compared (first_stage before) h.last (all_of a.events) refl
+    ends_same (left_alone s.program k) h.last.status a.status h.status
+    (ends_runs c d name job h.program.bytes h.program.input before.shelf s k faults.shelf.counts one over limit true compared (first_stage before) h.last (all_of a.events) refl
     (subst (λ (y : Around N). Stayed (d.device before.nvm).faults (d.device y.nvm).faults) (sym h.left) faults.device)
     (subst (λ (y : Around N). Stayed before.terminal.faults y.terminal.faults) (sym h.left) faults.terminal)
     (subst (λ (y : Around N). Stayed before.report.faults y.report.faults) (sym h.left) faults.report)

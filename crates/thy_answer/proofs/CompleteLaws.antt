@@ -1,4 +1,4 @@
--- A run is complete: if nothing fails its result is that of the program's own end.
+-- A run is complete: if nothing fails its result is the result of the program's own end.
 use Rattle.std.proofs.Common.{◌≡◌, ℕ, ◌+◌, ◌-◌, ◌*◌, ◌<◌, ◌≤◌, Bool, true, false, Option, Some, None, List, [], ◌∷◌, ◌++◌, length, refl, sym, ◌∙◌, ap, subst, inl, inr, arith}
 use Rattle.std.specs.Prelude.{Result, Ok, Err, MatchOption, ◌⊎◌, ◌||◌}
 use Rattle.std.proofs.lemmas.Bool.{cases_order}
@@ -27,10 +27,10 @@ use Rattle.thy_text.specs.History.{all_of}
 use Rattle.thy_text.specs.Marks.{Marks, marks_after, AllLawful}
 use Rattle.thy_text.specs.OneHart.{Counts, AllLawfulAt, counts_of}
 use Rattle.thy_text.proofs.OneHartLaws.{to-counts}
-use Rattle.thy_run.proofs.PromiseLaws.{first_untold}
-use Rattle.thy_words.specs.declared.words.WordsError.{WordsError}
-use Rattle.thy_words.specs.declared.words.WordsError.TheVariants.{Usage, Word, Value, Memory as WordsMemory}
-use Rattle.thy_words.specs.Settings.{Job, Order, settings_of}
+use Rattle.thy_run.proofs.PromiseLaws.{first_without_turns}
+use Rattle.thy_arguments.specs.declared.words.WordsError.{WordsError}
+use Rattle.thy_arguments.specs.declared.words.WordsError.TheVariants.{Usage, Word, Value, Memory as WordsMemory}
+use Rattle.thy_arguments.specs.Settings.{Job, Order, settings_of}
 use Rattle.thy_view.specs.Kind.{KindOf}
 use Rattle.thy_view.specs.Origin.{Origin, setting_of, at, runs_at}
 use Rattle.thy_run.specs.Progress.{cycles_for, tally_of}
@@ -47,7 +47,7 @@ use Rattle.thy_answer.specs.declared.refusal.Refusal.{Refusal}
 use Rattle.thy_answer.specs.declared.refusal.Refusal.TheVariants.{Words, Fetch, File, Image, Input, Device as DeviceRefusal, Memory as MemoryRefusal}
 use Rattle.thy_answer.specs.Answering.{Outside, WordsDue, RunDue, given_for, ClosesAs, ClosesRun, SumsUp, IsRunOf, with_device, IsPlainOf, plain_stop, end_lines, stop_line, stop_status, stop_summed, run_line, run_status, summary_for, RunAnswered}
 use Rattle.thy_answer.specs.Levelling.{IsFoundAs, IsLeftAs}
-use Rattle.thy_answer.specs.Calm.{IsAsked, Stayed, IsCalm, left_alone, run_of, TellsEnd, HasRetired}
+use Rattle.thy_answer.specs.Calm.{IsAsked, Stayed, IsCalm, left_alone, run_of, HasEndOf, HasRetired}
 use Rattle.thy_answer.specs.Kept.{refused_status}
 use Rattle.thy_answer.specs.Saving.{PutCounted, SavesUnder, saves}
 use Rattle.thy_answer.specs.Sources.{ProgramSource, file, made, image, most_bytes, most_image_bytes, Beginning, begun, from_entry, AreBytesOf, IsHeld, IsTooLong, IsInput, FetchDue, meaning_of, IsProgram, SourceDue, InputDue, IsMeant, ProgramDue, origin_for}
@@ -123,32 +123,32 @@ end_lawful c m (v ∷ vs) status count cycle state all = end_lawful c (marks_aft
 -- what is known of a job's program: its bytes and input are on a shelf with known contents, or are made
 pub record Stands (source : ProgramSource) (job : Job) (stock : Stock) : Type 0 where
   pub files : Files
-  pub tells : stock.held ≡ Some files
+  pub holds_files : stock.held ≡ Some files
   pub program : IsProgram source job stock
 
 -- a shelf with known contents holds the same under a name each time
 held_same : (most : ℕ) (stock : Stock) (files : Files) (name a b : List ℕ) → stock.held ≡ Some files → IsHeld most stock name a → IsHeld most stock name b → a ≡ b
-held_same most stock files name a b tells g h = let one : files name ≡ Some a = g.1 files tells in let other : files name ≡ Some b = h.1 files tells in cc
+held_same most stock files name a b holds_files g h = let one : files name ≡ Some a = g.1 files holds_files in let other : files name ≡ Some b = h.1 files holds_files in cc
 
 input_same : (stock : Stock) (files : Files) (name : Option (List ℕ)) (a b : List ℕ) → stock.held ≡ Some files → IsInput stock name a → IsInput stock name b → a ≡ b
-input_same stock files None a b tells g h = g ∙ sym h
-input_same stock files (Some name) a b tells g h = held_same most_bytes stock files name a b tells g h
+input_same stock files None a b holds_files g h = g ∙ sym h
+input_same stock files (Some name) a b holds_files g h = held_same most_bytes stock files name a b holds_files g h
 
 bytes_same : (source : ProgramSource) (stock : Stock) (files : Files) (a b : List ℕ) → stock.held ≡ Some files → AreBytesOf source stock a → AreBytesOf source stock b → a ≡ b
-bytes_same (file name) stock files a b tells g h = held_same most_bytes stock files name a b tells g h
-bytes_same (image name) stock files a b tells g h = held_same most_image_bytes stock files name a b tells g h
-bytes_same (made n) stock files a b tells g h = g ∙ sym h
+bytes_same (file name) stock files a b holds_files g h = held_same most_bytes stock files name a b holds_files g h
+bytes_same (image name) stock files a b holds_files g h = held_same most_image_bytes stock files name a b holds_files g h
+bytes_same (made n) stock files a b holds_files g h = g ∙ sym h
 
 -- all programs of a job have one input
 pub inputs_same : (source : ProgramSource) (job : Job) (stock : Stock) (s : Stands source job stock) (f : IsProgram source job stock) → f.input ≡ s.program.input
-inputs_same source job stock s f = input_same stock s.files job.input f.input s.program.input s.tells f.fetched.is_input s.program.fetched.is_input
+inputs_same source job stock s f = input_same stock s.files job.input f.input s.program.input s.holds_files f.fetched.is_input s.program.fetched.is_input
 
--- what is meant by bytes and an input that were had
+-- what is meant by bytes and an input that were read
 meant_same : (source : ProgramSource) (job : Job) (stock : Stock) (s : Stands source job stock) (bytes input : List ℕ) → AreBytesOf source stock bytes → IsInput stock job.input input
     → meaning_of source job bytes input ≡ Ok s.program.begins
 meant_same source job stock s bytes input fetched reads =
-    ap (λ b. meaning_of source job b input) (bytes_same source stock s.files bytes s.program.bytes s.tells fetched s.program.fetched.fetched)
-    ∙ ap (meaning_of source job s.program.bytes) (input_same stock s.files job.input input s.program.input s.tells reads s.program.fetched.is_input)
+    ap (λ b. meaning_of source job b input) (bytes_same source stock s.files bytes s.program.bytes s.holds_files fetched s.program.fetched.fetched)
+    ∙ ap (meaning_of source job s.program.bytes) (input_same stock s.files job.input input s.program.input s.holds_files reads s.program.fetched.is_input)
     ∙ s.program.means
 
 pub begins_same : (source : ProgramSource) (job : Job) (stock : Stock) (s : Stands source job stock) (f : IsProgram source job stock) → f.begins ≡ s.program.begins
@@ -160,31 +160,31 @@ begins_same source job stock s f =
 -- what is held can be read, unless memory runs out
 fetch_due : (most : ℕ) (old new : Stock) (files : Files) (name bytes : List ℕ) (text : _) (e : FetchError) → old.held ≡ Some files → IsHeld most old name bytes → Stayed old.faults new.faults → FetchDue most old new name e
     → refused_status (Fetch text e) ≡ 9
-fetch_due most old new files name bytes text FetchFailed tells held faults due = not_risen old.faults new.faults faults due.rose
-fetch_due most old new files name bytes text NotThere tells held faults due =
-    let none : (files name ≡ None) × HasNotFailed old new = subst (λ h. MatchOption h (HasFailedUnder name old new) (λ known. (known name ≡ None) × HasNotFailed old new)) tells due in
+fetch_due most old new files name bytes text FetchFailed holds_files held faults due = not_risen old.faults new.faults faults due.rose
+fetch_due most old new files name bytes text NotThere holds_files held faults due =
+    let none : (files name ≡ None) × HasNotFailed old new = subst (λ h. MatchOption h (HasFailedUnder name old new) (λ known. (known name ≡ None) × HasNotFailed old new)) holds_files due in
     let missing : files name ≡ None = none.0 in
-    absurd (let there : files name ≡ Some bytes = held.1 files tells in cc)
-fetch_due most old new files name bytes text TooLong tells held faults due =
+    absurd (let there : files name ≡ Some bytes = held.1 files holds_files in cc)
+fetch_due most old new files name bytes text TooLong holds_files held faults due =
     let long : IsTooLong most (files name) =
-    (subst (λ h. MatchOption h (HasFailedUnder name old new) (λ known. IsTooLong most (known name) × HasNotFailed old new)) tells due).0 in
-    let there : files name ≡ Some bytes = held.1 files tells in
+    (subst (λ h. MatchOption h (HasFailedUnder name old new) (λ known. IsTooLong most (known name) × HasNotFailed old new)) holds_files due).0 in
+    let there : files name ≡ Some bytes = held.1 files holds_files in
     let same : long.0 ≡ bytes = (let found : files name ≡ Some long.0 = long.1 in cc) in
     absurd (omega (arith, held.0, long.2, ap length same))
-fetch_due most old new files name bytes text (FetchMemory e) tells held faults due = refl
+fetch_due most old new files name bytes text (FetchMemory e) holds_files held faults due = refl
 
 source_due : (source : ProgramSource) (job : Job) (old new : Stock) (text : _) (name : List ℕ) (e : FetchError) → Stands source job old → Stayed old.faults new.faults → SourceDue source old new name e
     → refused_status (Fetch text e) ≡ 9
 source_due (file own) job old new text name e s faults due =
-    fetch_due most_bytes old new s.files own s.program.bytes text e s.tells s.program.fetched.fetched faults (subst (λ n. FetchDue most_bytes old new n e) due.0 due.1)
+    fetch_due most_bytes old new s.files own s.program.bytes text e s.holds_files s.program.fetched.fetched faults (subst (λ n. FetchDue most_bytes old new n e) due.0 due.1)
 source_due (image own) job old new text name e s faults due =
-    fetch_due most_image_bytes old new s.files own s.program.bytes text e s.tells s.program.fetched.fetched faults (subst (λ n. FetchDue most_image_bytes old new n e) due.0 due.1)
+    fetch_due most_image_bytes old new s.files own s.program.bytes text e s.holds_files s.program.fetched.fetched faults (subst (λ n. FetchDue most_image_bytes old new n e) due.0 due.1)
 source_due (made n) job old new text name e s faults due = absurd due
 
 input_due : (source : ProgramSource) (job : Job) (old new : Stock) (text : _) (name : List ℕ) (e : FetchError) → Stands source job old → Stayed old.faults new.faults → InputDue source job old new name e
     → refused_status (Fetch text e) ≡ 9
 input_due source job old new text name e s faults due =
-    fetch_due most_bytes old new s.files name s.program.input text e s.tells (subst (λ n. IsInput old n s.program.input) due.0 s.program.fetched.is_input) faults due.2
+    fetch_due most_bytes old new s.files name s.program.input text e s.holds_files (subst (λ n. IsInput old n s.program.input) due.0 s.program.fetched.is_input) faults due.2
 
 fetched_due : (source : ProgramSource) (job : Job) (old new : Stock) (text : _) (name : List ℕ) (e : FetchError) → Stands source job old → Stayed old.faults new.faults → SourceDue source old new name e ⊎ InputDue source job old new name e
     → refused_status (Fetch text e) ≡ 9
@@ -279,12 +279,12 @@ module _ {M : Type 0} (K : KindOf M) (source : ProgramSource) (job : Job) (k : �
   fits stop is = subst (StopFits (parameters_of job.config).limit given.fitted h.stood h.ending) is h.ran.stop_fits
 
   -- the status at an end is the program's
-  told_end : (status : Status) → EndsWith h.ending.events status → status ≡ (left_alone s.program k).status
-  told_end status e =
+  end_reported : (status : Status) → EndsWith h.ending.events status → status ≡ (left_alone s.program k).status
+  end_reported status e =
       let lawful : AllLawful (course_of o) (first_marks o) (e.before ++ EndedEvent status e.count e.cycle e.state ∷ []) =
       subst (AllLawful (course_of o) (first_marks o)) (ap all_of h.events ∙ e.last) h.promise.events_lawful in
       let by_counts : AllLawfulAt (counts_of (course_of o)) (first_marks o) (e.before ++ EndedEvent status e.count e.cycle e.state ∷ []) =
-      to-counts (course_of o) (first_marks o) (e.before ++ EndedEvent status e.count e.cycle e.state ∷ []) one (first_untold o.start.count o.kept) lawful in
+      to-counts (course_of o) (first_marks o) (e.before ++ EndedEvent status e.count e.cycle e.state ∷ []) one (first_without_turns o.start.count o.kept) lawful in
       let end : IsEndOf (counts_of (course_of o)) status = end_lawful (counts_of (course_of o)) (first_marks o) e.before status e.count e.cycle e.state by_counts in
       let j : ℕ = end.count - o.start.count in
       let there : at o end.count ≡ steps (setting_of o) j o.start = at_is o end.count refl in
@@ -297,25 +297,25 @@ module _ {M : Type 0} (K : KindOf M) (source : ProgramSource) (job : Job) (k : �
   last = left_alone s.program k
 
   -- the report's count stayed from the end of its events on
-  told_stayed : h.ending.report_failed ≡ false → Stayed h.told.faults after.report.faults
-  told_stayed heard =
-      let same : h.told.faults ≡ before.report.faults = delivered_faults false h.ending.report_failed _ _ before.report h.told heard h.ran.read_all in
+  report_stayed : h.ending.report_failed ≡ false → Stayed h.reported.faults after.report.faults
+  report_stayed heard =
+      let same : h.reported.faults ≡ before.report.faults = delivered_faults false h.ending.report_failed _ _ before.report h.reported heard h.ran.read_all in
       record { same = faults.report.same ∙ sym same; counts = omega (arith, same, faults.report.counts) }
 
   -- the status is the status of the stop, or of the put
   status_is : a.status ≡ run_status h.ending.stop h.why
-  status_is = status_heard source job.config.limit job.save h.ending h.why a.status h.told after.report h.closes told_stayed
+  status_is = status_heard source job.config.limit job.save h.ending h.why a.status h.reported after.report h.closes report_stayed
 
   -- if it was saved, or was not to be, the stop determines the status
-  by_stop : (stop : Stop) → h.ending.stop ≡ stop → h.why ≡ None → TellsEnd last a
+  by_stop : (stop : Stop) → h.ending.stop ≡ stop → h.why ≡ None → HasEndOf last a
   by_stop (Ended status) is saved =
-      inl (status_is ∙ ap (run_status h.ending.stop) saved ∙ ap stop_status is ∙ ap (λ x. stop_status (Ended x)) (told_end status (fits (Ended status) is).0))
+      inl (status_is ∙ ap (run_status h.ending.stop) saved ∙ ap stop_status is ∙ ap (λ x. stop_status (Ended x)) (end_reported status (fits (Ended status) is).0))
   by_stop Memory is saved = inr (status_is ∙ ap (run_status h.ending.stop) saved ∙ ap stop_status is)
   by_stop Terminal is saved = not_failed (is_memory h.ending.stop) h.ending.terminal_failed _ _ before.terminal after.terminal faults.terminal h.ran.shown_all (fits Terminal is).0
   by_stop Report is saved =
       let report_failed : h.ending.report_failed ≡ true = (fits Report is).0 in
-      let closed : after.report ≡ h.told = mute_end source job.config.limit job.save h.ending h.why a.status h.told after.report h.closes report_failed in
-      not_failed false h.ending.report_failed _ _ before.report h.told (subst (λ (x : Stream). Stayed before.report.faults x.faults) closed faults.report) h.ran.read_all report_failed
+      let closed : after.report ≡ h.reported = mute_end source job.config.limit job.save h.ending h.why a.status h.reported after.report h.closes report_failed in
+      not_failed false h.ending.report_failed _ _ before.report h.reported (subst (λ (x : Stream). Stayed before.report.faults x.faults) closed faults.report) h.ran.read_all report_failed
   by_stop Nvm is saved =
       let same : after.device.faults ≡ h.stood.faults = save_counts job.save (saves h.ending.stop) job.config h.stood after.device before.shelf after.shelf h.why h.saved in
       not_risen before.device.faults h.stood.faults (subst (Stayed before.device.faults) same faults.device) (fits Nvm is).0
@@ -323,7 +323,7 @@ module _ {M : Type 0} (K : KindOf M) (source : ProgramSource) (job : Job) (k : �
       let reached : h.ending.cycles ≡ job.config.limit = (fits Limit is).0 in
       absurd (omega (arith, few, reached, h.cycles))
 
-  pub by_save : (why : Option PutError) → h.why ≡ why → TellsEnd last a
+  pub by_save : (why : Option PutError) → h.why ≡ why → HasEndOf last a
   by_save None is = by_stop h.ending.stop refl is
   by_save (Some PutFailed) is =
       save_calm job.save (saves h.ending.stop) job.config h.stood after.device before.shelf after.shelf faults.shelf
@@ -385,11 +385,11 @@ module _ (name : List ℕ) (job : Job) (k : ℕ) (before after : Outside) (a : A
   ended_stop (Exited v) e = refl
   ended_stop (Trapped v) e = refl
 
-  pub by_faults : (terminal_failed report_failed : Bool) → h.terminal_failed ≡ terminal_failed → h.report_failed ≡ report_failed → TellsEnd (left_alone s.program k) a
+  pub by_faults : (terminal_failed report_failed : Bool) → h.terminal_failed ≡ terminal_failed → h.report_failed ≡ report_failed → HasEndOf (left_alone s.program k) a
   by_faults terminal_failed true is_mute is_deaf =
-      let closed : after.report ≡ h.told = subst (λ b. ClosesRun b (stop_line job.config.limit (plain_stop h.terminal_failed h.report_failed h.last.status)) h.told after.report) is_deaf h.closes in
-      let sent : Sent true before.report h.told (end_lines job h.last) = subst (λ b. Sent b before.report h.told (end_lines job h.last)) is_deaf h.read_all in
-      not_risen before.report.faults h.told.faults (subst (λ (x : Stream). Stayed before.report.faults x.faults) closed faults.report) sent.0.rose
+      let closed : after.report ≡ h.reported = subst (λ b. ClosesRun b (stop_line job.config.limit (plain_stop h.terminal_failed h.report_failed h.last.status)) h.reported after.report) is_deaf h.closes in
+      let sent : Sent true before.report h.reported (end_lines job h.last) = subst (λ b. Sent b before.report h.reported (end_lines job h.last)) is_deaf h.read_all in
+      not_risen before.report.faults h.reported.faults (subst (λ (x : Stream). Stayed before.report.faults x.faults) closed faults.report) sent.0.rose
   by_faults true false is_mute is_deaf =
       let sent : Sent true before.terminal after.terminal h.last.console = subst (λ b. Sent b before.terminal after.terminal h.last.console) is_mute h.shown_all in
       not_risen before.terminal.faults after.terminal.faults faults.terminal sent.0.rose
@@ -402,7 +402,7 @@ module _ (name : List ℕ) (job : Job) (k : ℕ) (before after : Outside) (a : A
 -- ---- results
 
 abbrev pub stands_of : {order : Order} {source : ProgramSource} {job : Job} {words : List (List ℕ)} {stock : Stock} → IsAsked order source job words stock → Stands source job stock
-stands_of i = record { files = i.files; tells = i.tells; program = i.program }
+stands_of i = record { files = i.files; holds_files = i.holds_files; program = i.program }
 
 -- if nothing failed, nothing did on the device that the run saw
 pub calm_seen : (gap : ℕ) (before after : Outside) (found left : Device) → IsFoundAs gap before.device found → IsLeftAs gap after.device left → IsCalm before after → IsCalm (with_device found before) (with_device left after)
@@ -417,7 +417,7 @@ calm_seen gap before after found left is_found is_left faults = record {
 }
 
 pub run_completes : {M : Type 0} (K : KindOf M) (words : List (List ℕ)) (before after : Outside) (a : Answer) (source : ProgramSource) (job : Job) (i : IsAsked (run_of source job) source job words before.shelf) (k : ℕ) → IsCalm before after → job.config.harts ≡ 1
-    → is_running (left_alone i.program k).status ≡ false → cycles_for K (parameters_of job.config) job.config.cuts k ≤ job.config.limit → RunAnswered K source job before after a → TellsEnd (left_alone i.program k) a
+    → is_running (left_alone i.program k).status ≡ false → cycles_for K (parameters_of job.config) job.config.cuts k ≤ job.config.limit → RunAnswered K source job before after a → HasEndOf (left_alone i.program k) a
 run_completes K words before after a source job i k faults one over limit (inl (r, due, refused)) = inr (refused.status ∙ run_due source job before after r (stands_of i) faults due)
 run_completes K words before after a source job i k faults one over limit (inr ran) =
     let r = ran.ran in
@@ -466,13 +466,13 @@ module _ {M : Type 0} (K : KindOf M) (source : ProgramSource) (job : Job) (k : �
         many = more_each (K.most_each (parameters_of job.config)) k (tally_of K o given a.cycles stopped.last ran).retired (omega (arith, paced, reached, limit));
       }
 
-  pair_stayed : h.ending.report_failed ≡ false → Stayed h.told.faults after.report.faults
+  pair_stayed : h.ending.report_failed ≡ false → Stayed h.reported.faults after.report.faults
   pair_stayed heard =
-      let same : h.told.faults ≡ before.report.faults = delivered_faults false h.ending.report_failed _ _ before.report h.told heard h.ran.read_all in
+      let same : h.reported.faults ≡ before.report.faults = delivered_faults false h.ending.report_failed _ _ before.report h.reported heard h.ran.read_all in
       record { same = faults.report.same ∙ sym same; counts = omega (arith, same, faults.report.counts) }
 
   pair_status : a.status ≡ run_status h.ending.stop h.why
-  pair_status = status_heard source job.config.limit job.save h.ending h.why a.status h.told after.report h.closes pair_stayed
+  pair_status = status_heard source job.config.limit job.save h.ending h.why a.status h.reported after.report h.closes pair_stayed
 
   pair_by_stop : (stop : Stop) → h.ending.stop ≡ stop → h.why ≡ None
       → Pairs K job (origin_for job program.begins program.input) (given_for K job program.begins) a k
@@ -489,8 +489,8 @@ module _ {M : Type 0} (K : KindOf M) (source : ProgramSource) (job : Job) (k : �
   pair_by_stop Report is saved =
       let fits = subst (StopFits (parameters_of job.config).limit (given_for K job program.begins before.device).fitted h.stood h.ending) is h.ran.stop_fits in
       let report_failed : h.ending.report_failed ≡ true = fits.0 in
-      let closed : after.report ≡ h.told = mute_end source job.config.limit job.save h.ending h.why a.status h.told after.report h.closes report_failed in
-      not_failed false h.ending.report_failed _ _ before.report h.told (subst (λ (x : Stream). Stayed before.report.faults x.faults) closed faults.report) h.ran.read_all report_failed
+      let closed : after.report ≡ h.reported = mute_end source job.config.limit job.save h.ending h.why a.status h.reported after.report h.closes report_failed in
+      not_failed false h.ending.report_failed _ _ before.report h.reported (subst (λ (x : Stream). Stayed before.report.faults x.faults) closed faults.report) h.ran.read_all report_failed
   pair_by_stop Nvm is saved =
       let fits = subst (StopFits (parameters_of job.config).limit (given_for K job program.begins before.device).fitted h.stood h.ending) is h.ran.stop_fits in
       let same : after.device.faults ≡ h.stood.faults = save_counts job.save (saves h.ending.stop) job.config h.stood after.device before.shelf after.shelf h.why h.saved in

@@ -2,14 +2,14 @@
 use Rattle.std.proofs.Common.{◌≡◌, ℕ, ◌-◌, List, [], sym, ◌∙◌, ap, arith, ◌+◌, ◌≤◌, false, inl, inr}
 use Rattle.thy_isa.specs.Step.{State, is_running, steps, Setting}
 use Rattle.thy_view.specs.Origin.{Origin, setting_of, at}
-use Rattle.thy_view.specs.Told.{told}
-use Rattle.thy_view.proofs.TurnLaws.{at-untold}
+use Rattle.thy_view.specs.WithTurns.{with_turns}
+use Rattle.thy_view.proofs.TurnLaws.{at-without_turns}
 use Rattle.std.proofs.lemmas.Bool.{cases_order}
 use Rattle.thy_isa.proofs.StepLaws.{steps-add, steps-ended}
 
 -- with no turn reported the plain machine takes one step after another
 pub at_is : (o : Origin) (k : ℕ) → o.turns ≡ [] → at o k ≡ steps (setting_of o) (k - o.start.count) o.start
-at_is o k none = ap (λ (turns : List ℕ). at (told o turns) k) none ∙ at-untold o k
+at_is o k none = ap (λ (turns : List ℕ). at (with_turns o turns) k) none ∙ at-without_turns o k
 
 -- two ended states of a run of the plain machine are one
 later_end : (g : Setting) (s : State) (j k : ℕ) → j ≤ k → is_running (steps g j s).status ≡ false → steps g k s ≡ steps g j s

@@ -22,7 +22,7 @@ use Rattle.thy_layout.proofs.FileLemmas.{length-blocks_of}
 use Rattle.thy_layout.proofs.LayoutLemmas.{HasNoFault, decode_by-whole, whole_parts}
 use Rattle.thy_layout.proofs.PlacesLemmas.{length-memory_places, decode-filled_up, decode-higher, two_blocks}
 use Rattle.thy_layout.proofs.ReaderLemmas.{HasLength-file, IsWholeFile, IsWholeFile-decoded}
-use Rattle.thy_record.proofs.IssuingLemmas.{dual_are_layouts}
+use Rattle.thy_record.proofs.IssuingLemmas.{thynvm_are_layouts}
 use Rattle.thy_journal_image.proofs.LayoutLemmas.{journal_are_layouts}
 use Rattle.thy_shadow_image.proofs.LayoutLemmas.{shadow_are_layouts}
 use Rattle.thy_answer.specs.Meaning.{layouts_by_scheme, blocks_by_scheme, decode_bytes}
@@ -79,7 +79,7 @@ module _ (L : Layouts) (are : AreLayouts L) (p : Parameters) (ceiling : ℕ) (by
 -- ---- by those of a scheme
 
 pub are_by_scheme : (scheme : SchemeName) → AreLayouts (layouts_by_scheme scheme)
-are_by_scheme Thynvm = dual_are_layouts
+are_by_scheme Thynvm = thynvm_are_layouts
 are_by_scheme Journal = journal_are_layouts
 are_by_scheme Shadow = shadow_are_layouts
 

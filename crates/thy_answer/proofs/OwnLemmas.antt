@@ -39,7 +39,7 @@ same_scheme Shadow Thynvm p q h = absurd (omega (arith, h))
 same_scheme Shadow Journal p q h = absurd (omega (arith, h))
 same_scheme Shadow Shadow p q h = refl
 
-record Tells (number : ℕ) (p : Parameters) (b : Block) : Type 0 where
+record HasNumberOf (number : ℕ) (p : Parameters) (b : Block) : Type 0 where
   base : word_of b 2 ≡ p.base
   pages : word_of b 3 ≡ p.pages
   console : word_of b 4 ≡ p.console
@@ -53,7 +53,7 @@ three_parts a b c h =
     let inner = and_parts a b outer.0 in
     (inner.0, inner.1, outer.1)
 
-of_geometry : (number : ℕ) (p : Parameters) (b : Block) → is_of_geometry number b p ≡ true → Tells number p b
+of_geometry : (number : ℕ) (p : Parameters) (b : Block) → is_of_geometry number b p ≡ true → HasNumberOf number p b
 of_geometry number p b h =
     let parts = and_parts (word_of b 2 == p.base && word_of b 3 == p.pages && word_of b 4 == p.console)
     (word_of b 5 == p.btt && word_of b 6 == p.ptt && word_of b 7 == last_word number p) h in
@@ -75,15 +75,15 @@ geometry_asks true true false long h = cc
 geometry_asks true false c long h = cc
 geometry_asks false b c long h = cc
 
-tells : (number : ℕ) (p : Parameters) (b : Block) (long : Bool) → header_fault number b p long ≡ None → Tells number p b
+means_mark : (number : ℕ) (p : Parameters) (b : Block) (long : Bool) → header_fault number b p long ≡ None → HasNumberOf number p b
 unfolding header_fault
-tells number p b long h =
+means_mark number p b long h =
     of_geometry number p b
     (geometry_asks (word_of b 0 == header_magic) (is_of_version number p b) (is_of_geometry number b p) long h)
 
 -- one header is of one scheme and one geometry
 one_header : (p q : Parameters) (header : Block) → 0 < p.harts → 0 < q.harts
-    → Tells (number_of p.scheme p) p header → Tells (number_of q.scheme q) q header → AreAlike p q
+    → HasNumberOf (number_of p.scheme p) p header → HasNumberOf (number_of q.scheme q) q header → AreAlike p q
 one_header p q header one other x y =
     let last : last_word (number_of p.scheme p) p ≡ last_word (number_of q.scheme q) q = sym x.last ∙ y.last in
     let low = number_below p.scheme p in
@@ -101,17 +101,17 @@ one_header p q header one other x y =
 -- ---- images and files
 
 -- the header of an image with a checkpoint is of its scheme and geometry
-image_tells : (p : Parameters) (ceiling epoch : ℕ) (image : List Block) (s : State)
-    → decode_of p ceiling image ≡ At epoch s → Tells (number_of p.scheme p) p (block_at image 0)
-image_tells p ceiling epoch image s h =
+image_has_number : (p : Parameters) (ceiling epoch : ℕ) (image : List Block) (s : State)
+    → decode_of p ceiling image ≡ At epoch s → HasNumberOf (number_of p.scheme p) p (block_at image 0)
+image_has_number p ceiling epoch image s h =
     let l : Layout = own_layout p in
-    subst (λ (q : Parameters). Tells (number_of p.scheme p) q (block_at image 0)) ((are_by_scheme p.scheme).of p)
-    (tells l.scheme l.p (block_at image 0) (is_sized l image) (decoded_parts l ceiling image epoch s h).0)
+    subst (λ (q : Parameters). HasNumberOf (number_of p.scheme p) q (block_at image 0)) ((are_by_scheme p.scheme).of p)
+    (means_mark l.scheme l.p (block_at image 0) (is_sized l image) (decoded_parts l ceiling image epoch s h).0)
 
 pub image_is_of_one : (p q : Parameters) (low high e f : ℕ) (image : List Block) (s t : State) → 0 < p.harts → 0 < q.harts
     → decode_of p low image ≡ At e s → decode_of q high image ≡ At f t → AreAlike p q
 image_is_of_one p q low high e f image s t one other h k =
-    one_header p q (block_at image 0) one other (image_tells p low e image s h) (image_tells q high f image t k)
+    one_header p q (block_at image 0) one other (image_has_number p low e image s h) (image_has_number q high f image t k)
 
 pub file_is_of_one : (p q : Parameters) (low high e f : ℕ) (bytes : List ℕ) (s t : State) → 0 < p.harts → 0 < q.harts
     → decode_bytes p low bytes ≡ At e s → decode_bytes q high bytes ≡ At f t → AreAlike p q

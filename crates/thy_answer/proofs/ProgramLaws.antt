@@ -8,7 +8,7 @@ use Rattle.thy_block.specs.Outside.{Stock}
 use Rattle.thy_elf.specs.declared.error.ElfError.{ElfError}
 use Rattle.thy_elf.specs.Image.{Contents}
 use Rattle.thy_plain.specs.Start.{second_regs, start_regs}
-use Rattle.thy_words.specs.Settings.{Job}
+use Rattle.thy_arguments.specs.Settings.{Job}
 use Rattle.thy_answer.specs.Comparing.{under}
 use Rattle.thy_answer.specs.Sources.{Beginning, IsProgram, begun, file, from_entry}
 

@@ -25,9 +25,9 @@ use Rattle.thy_text.specs.Event.{Event}
 use Rattle.thy_text.specs.History.{all_of, of_run}
 use Rattle.thy_text.specs.Lines.{joined, line_feed, ended_lines, made_of}
 use Rattle.thy_text.specs.Summary.{summary_of}
-use Rattle.thy_words.specs.declared.words.WordsError.{WordsError}
-use Rattle.thy_words.specs.declared.words.WordsError.TheVariants.{Usage, Word, Value, Memory as WordsMemory}
-use Rattle.thy_words.specs.Settings.{Job, settings_of}
+use Rattle.thy_arguments.specs.declared.words.WordsError.{WordsError}
+use Rattle.thy_arguments.specs.declared.words.WordsError.TheVariants.{Usage, Word, Value, Memory as WordsMemory}
+use Rattle.thy_arguments.specs.Settings.{Job, settings_of}
 use Rattle.thy_view.specs.Kind.{KindOf}
 use Rattle.thy_view.specs.Origin.{Origin, at, runs_at}
 use Rattle.thy_run.specs.declared.ending.Ending.{Ending}
@@ -108,22 +108,22 @@ file_line e =
     joined (codes "file " ∷ decimal (called e).0 ∷ codes " " ∷ (called e).1 ∷ index_parts (index_of e))
 
 -- what is reported of a refusal: the exit status and the closing line
-abbrev pub told_of : Refusal → ℕ × List ℕ
-told_of (Words (WordsMemory e)) = (9, closing_of closing.Memory)
-told_of (Words Usage) = (2, closing_of closing.Usage)
-told_of (Words (Word field)) = (2, closing_of (closing.Word field))
-told_of (Words (Value field value)) = (2, closing_of (closing.Value field value))
-told_of (Fetch name (FetchMemory e)) = (9, closing_of closing.Memory)
-told_of (Fetch name FetchFailed) = (3, closing_of (closing.Fetch name fault.Failed))
-told_of (Fetch name NotThere) = (3, closing_of (closing.Fetch name fault.Missing))
-told_of (Fetch name TooLong) = (3, closing_of (closing.Fetch name fault.TooLong))
-told_of (File (ElfMemory e)) = (9, closing_of closing.Memory)
-told_of (File e) = (4, file_line e)
-told_of (Image bad) = (5, closing_of (closing.Image bad))
-told_of (Input cursor length) = (10, closing_of (closing.Input cursor length))
-told_of (DeviceRefusal (FitMemory e)) = (9, closing_of closing.Memory)
-told_of (DeviceRefusal FitFailed) = (7, closing_of closing.Nvm)
-told_of (MemoryRefusal e) = (9, closing_of closing.Memory)
+abbrev pub report_of_refusal : Refusal → ℕ × List ℕ
+report_of_refusal (Words (WordsMemory e)) = (9, closing_of closing.Memory)
+report_of_refusal (Words Usage) = (2, closing_of closing.Usage)
+report_of_refusal (Words (Word field)) = (2, closing_of (closing.Word field))
+report_of_refusal (Words (Value field value)) = (2, closing_of (closing.Value field value))
+report_of_refusal (Fetch name (FetchMemory e)) = (9, closing_of closing.Memory)
+report_of_refusal (Fetch name FetchFailed) = (3, closing_of (closing.Fetch name fault.Failed))
+report_of_refusal (Fetch name NotThere) = (3, closing_of (closing.Fetch name fault.Missing))
+report_of_refusal (Fetch name TooLong) = (3, closing_of (closing.Fetch name fault.TooLong))
+report_of_refusal (File (ElfMemory e)) = (9, closing_of closing.Memory)
+report_of_refusal (File e) = (4, file_line e)
+report_of_refusal (Image bad) = (5, closing_of (closing.Image bad))
+report_of_refusal (Input cursor length) = (10, closing_of (closing.Input cursor length))
+report_of_refusal (DeviceRefusal (FitMemory e)) = (9, closing_of closing.Memory)
+report_of_refusal (DeviceRefusal FitFailed) = (7, closing_of closing.Nvm)
+report_of_refusal (MemoryRefusal e) = (9, closing_of closing.Memory)
 
 -- the report took this line, or failed in it
 abbrev pub Closes : List ℕ → Stream → Stream → Type 0
@@ -131,12 +131,12 @@ Closes line old new = (failed : Bool) × Sent failed old new line
 
 -- a call that began no run: a line says why, and what the shelf holds stays
 pub record IsRefused (r : Refusal) (before after : Outside) (a : Answer) : Type 0 where
-  pub status : a.status ≡ (told_of r).0
+  pub status : a.status ≡ (report_of_refusal r).0
   pub events : a.events ≡ of_run []
   pub cycles : a.cycles ≡ 0
   pub shown_none : after.terminal ≡ before.terminal
   pub held : after.shelf.held ≡ before.shelf.held
-  pub closes : Closes (told_of r).1 before.report after.report
+  pub closes : Closes (report_of_refusal r).1 before.report after.report
 
 -- ---- runs
 
@@ -226,12 +226,12 @@ pub record IsRunFrom {M : Type 0} (K : KindOf M) (o : Origin) (given : Given) (s
   pub ending : Ending
   -- the device when the run stopped, and the report with the lines of its events
   pub stood : Device
-  pub told : Stream
-  pub ran : HasRun K o given stood ending before.terminal after.terminal before.report told
+  pub reported : Stream
+  pub ran : HasRun K o given stood ending before.terminal after.terminal before.report reported
   -- why it was not saved, if it was to be and was not
   pub why : Option PutError
   pub saved : SavesUnder job.save (saves ending.stop) job.config stood after.device before.shelf after.shelf why
-  pub closes : ClosesAs source job.config.limit job.save ending why a.status told after.report
+  pub closes : ClosesAs source job.config.limit job.save ending why a.status reported after.report
   pub events : a.events ≡ of_run ending.events
   pub cycles : a.cycles ≡ ending.cycles
   pub promise : Promise K o given a.cycles (all_of a.events) stood
@@ -292,9 +292,9 @@ pub record IsPlainOf (name : List ℕ) (job : Job) (before after : Outside) (a :
   pub terminal_failed : Bool
   pub report_failed : Bool
   pub shown_all : Sent terminal_failed before.terminal after.terminal last.console
-  pub told : Stream
-  pub read_all : Sent report_failed before.report told (end_lines job last)
-  pub closes : ClosesRun report_failed (stop_line job.config.limit (plain_stop terminal_failed report_failed last.status)) told after.report
+  pub reported : Stream
+  pub read_all : Sent report_failed before.report reported (end_lines job last)
+  pub closes : ClosesRun report_failed (stop_line job.config.limit (plain_stop terminal_failed report_failed last.status)) reported after.report
   pub status : a.status ≡ stop_status (plain_stop terminal_failed report_failed last.status)
   pub events : a.events ≡ of_run []
 
@@ -314,7 +314,7 @@ made_status failed (Some PutFailed) = 3
 made_status failed (Some (PutMemory e)) = 9
 
 -- the report takes what is said of a put, or fails in it
-pub record TellsMade (n : ℕ) (name : List ℕ) (why : Option PutError) (status : ℕ) (old new : Stream) : Type 0 where
+pub record ReportsMade (n : ℕ) (name : List ℕ) (why : Option PutError) (status : ℕ) (old new : Stream) : Type 0 where
   pub failed : Bool
   pub sent : Sent failed old new (made_line n name why)
   pub answers : status ≡ made_status failed why
@@ -323,7 +323,7 @@ pub record TellsMade (n : ℕ) (name : List ℕ) (why : Option PutError) (status
 pub record MakeAnswered (n : ℕ) (name : List ℕ) (before after : Outside) (a : Answer) : Type 0 where
   pub why : Option PutError
   pub put : IsPut name (made_file n) before.shelf after.shelf why
-  pub told : TellsMade n name why a.status before.report after.report
+  pub reported : ReportsMade n name why a.status before.report after.report
   pub events : a.events ≡ of_run []
   pub cycles : a.cycles ≡ 0
   pub shown_none : after.terminal ≡ before.terminal

@@ -1,5 +1,5 @@
 -- Part of the claim.
--- The result of a call in which nothing fails: that of the program's own end.
+-- The result of a call in which nothing fails: the result of the program's own end.
 use Rattle.std.specs.Prelude.{◌≡◌, ◌⊎◌, ℕ, ◌+◌, ◌-◌, ◌^◌, ◌<◌, ◌≤◌, List, Some, Ok, false}
 use Rattle.thy_block.specs.Outside.{Stock, Files}
 use Rattle.thy_isa.specs.Step.{State, is_running}
@@ -9,7 +9,7 @@ use Rattle.thy_run.specs.World.{World, Given, Ran}
 use Rattle.thy_text.specs.History.{all_of}
 use Rattle.thy_view.specs.Kind.{KindOf}
 use Rattle.thy_view.specs.Origin.{Origin, at}
-use Rattle.thy_words.specs.Settings.{Job, Order, run, resume, bench, settings_of, compare, plain, make}
+use Rattle.thy_arguments.specs.Settings.{Job, Order, run, resume, bench, settings_of, compare, plain, make}
 use Rattle.thy_answer.specs.Answering.{Outside, stop_status, given_for}
 use Rattle.thy_answer.specs.Sources.{ProgramSource, file, made, image, IsProgram, origin_for}
 use Rattle.thy_answer.specs.declared.answer.Answer.{Answer}
@@ -30,7 +30,7 @@ run_of (image name) job = resume name job
 pub record IsAsked (order : Order) (source : ProgramSource) (job : Job) (words : List (List ℕ)) (stock : Stock) : Type 0 where
   pub asked : settings_of words ≡ Ok order
   pub files : Files
-  pub tells : stock.held ≡ Some files
+  pub holds_files : stock.held ≡ Some files
   pub program : IsProgram source job stock
 
 -- a count of faults stayed, below the last value, at which it would stay after a fault too
@@ -50,8 +50,8 @@ abbrev pub left_alone : {source : ProgramSource} {job : Job} {stock : Stock} →
 left_alone {job = job} p k = at (origin_for job p.begins p.input) (p.begins.start.count + k)
 
 -- the status is the status of this state's end, or memory ran out
-abbrev pub TellsEnd : State → Answer → Type 0
-TellsEnd s a = (a.status ≡ stop_status (Ended s.status)) ⊎ (a.status ≡ 9)
+abbrev pub HasEndOf : State → Answer → Type 0
+HasEndOf s a = (a.status ≡ stop_status (Ended s.status)) ⊎ (a.status ≡ 9)
 
 -- With one hart, a program that ends within k instructions ends so on the machine, in spite of all power cuts, if the
 -- limit is not below the cycles that the machine promises for k instructions.
@@ -61,7 +61,7 @@ RunCompletes c words before after a =
     → IsCalm before after → job.config.harts ≡ 1
     → is_running (left_alone i.program k).status ≡ false
     → cycles_for (c job.config.scheme).kind (parameters_of job.config) job.config.cuts k ≤ job.config.limit
-    → TellsEnd (left_alone i.program k) a
+    → HasEndOf (left_alone i.program k) a
 
 -- at least k instructions retired since power came on last, in a run that gave these events in this number of cycles
 pub record HasRetired {M : Type 0} (K : KindOf M) (o : Origin) (given : Given) (a : Answer) (k : ℕ) : Type 0 where
@@ -88,7 +88,7 @@ PlainCompletes words before after a =
     → IsCalm before after
     → is_running (left_alone i.program k).status ≡ false
     → k ≤ job.config.limit
-    → TellsEnd (left_alone i.program k) a
+    → HasEndOf (left_alone i.program k) a
 
 -- With one hart, a program that ends within k instructions ends so in each run of a comparison, if the limit is not
 -- below the cycles that each machine promises for k. The status is the status of the program's end, or memory ran out.
@@ -98,7 +98,7 @@ CompareCompletes c words before after a =
     → IsCalm before after → job.config.harts ≡ 1
     → is_running (left_alone i.program k).status ≡ false
     → ((scheme : SchemeName) → cycles_for (c scheme).kind (parameters_of (under scheme job).config) job.config.cuts k ≤ job.config.limit)
-    → TellsEnd (left_alone i.program k) a
+    → HasEndOf (left_alone i.program k) a
 
 -- a file that is to be made is put, unless memory ran out
 abbrev pub MakeCompletes : List (List ℕ) → Outside → Outside → Answer → Type 0

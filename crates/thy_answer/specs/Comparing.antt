@@ -13,14 +13,14 @@ use Rattle.thy_text.specs.Event.{Event, Scheme, Ended}
 use Rattle.thy_text.specs.History.{all_of}
 use Rattle.thy_text.specs.Marks.{AllLawful}
 use Rattle.thy_text.specs.Summary.{scheme_line}
-use Rattle.thy_words.specs.Settings.{Job}
+use Rattle.thy_arguments.specs.Settings.{Job}
 use Rattle.thy_run.specs.Cuts.{has_ended}
 use Rattle.thy_run.specs.Laws.{course_of, first_marks}
 use Rattle.thy_run.specs.Sending.{Sent}
 use Rattle.thy_answer.specs.declared.answer.Answer.{Answer}
 use Rattle.thy_answer.specs.declared.refusal.Refusal.{Refusal}
 use Rattle.thy_answer.specs.declared.refusal.Refusal.TheVariants.{Device as DeviceRefusal, Memory as MemoryRefusal}
-use Rattle.thy_answer.specs.Answering.{Around, Closes, NvmOf, Outside, IsRefused, IsRunOver, outside, outside_of, stop_line, told_of}
+use Rattle.thy_answer.specs.Answering.{Around, Closes, NvmOf, Outside, IsRefused, IsRunOver, outside, outside_of, stop_line, report_of_refusal}
 use Rattle.thy_answer.specs.Machines.{Choice}
 use Rattle.thy_answer.specs.Sources.{IsProgram, ProgramDue, file, origin_for}
 
@@ -109,8 +109,8 @@ pub record EndsBefore {N : Type 0} (d : NvmOf N) (old new : Stage N) (events : L
   pub none : events ≡ []
   pub shelf : new.around.shelf ≡ old.around.shelf
   pub terminal : new.around.terminal ≡ old.around.terminal
-  pub closes : Closes (told_of why).1 old.around.report new.around.report
-  pub status : new.status ≡ (told_of why).0
+  pub closes : Closes (report_of_refusal why).1 old.around.report new.around.report
+  pub status : new.status ≡ (report_of_refusal why).0
   pub cycles : new.cycles ≡ old.cycles
 
 -- runs by these schemes, one after another, up to the first that was not begun or whose status is neither 0 nor 1

@@ -6,7 +6,7 @@ use Rattle.thy_answer.specs.declared.answer.Ran.{Ran}
 use Rattle.thy_answer.specs.declared.refusal.Refusal.{Refusal}
 use Rattle.thy_answer.specs.declared.source.ProgramSource.{ProgramSource as SourceValue}
 use Rattle.thy_answer.specs.declared.source.ProgramSource.TheVariants as value
-use Rattle.thy_answer.specs.Answering.{told_of}
+use Rattle.thy_answer.specs.Answering.{report_of_refusal}
 use Rattle.thy_answer.specs.Sources.{ProgramSource, file, made, image}
 
 -- what the program keeps of a source
@@ -17,10 +17,10 @@ named (value.Image name) = image name.now
 
 -- the exit status of a refusal, and its line
 abbrev pub refused_status : Refusal → ℕ
-refused_status r = (told_of r).0
+refused_status r = (report_of_refusal r).0
 
 abbrev pub refused_line : Refusal → List ℕ
-refused_line r = (told_of r).1
+refused_line r = (report_of_refusal r).1
 
 -- why there is no result, if there is none
 abbrev pub err_of : {T E : Type 0} → Result T E → Option E

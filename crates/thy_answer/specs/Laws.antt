@@ -1,4 +1,4 @@
--- What is answered is complete: the result of an order in which nothing fails is that of its program's own end.
+-- What is answered is complete: the result of an order in which nothing fails is the result of its program's own end.
 use Rattle.std.specs.Prelude.{ℕ, List}
 use Rattle.thy_answer.specs.declared.answer.Answer.{Answer}
 use Rattle.thy_answer.specs.Answering.{Around, NvmOf, outside_of}

@@ -1,5 +1,5 @@
 -- Part of the claim.
--- Which machine runs a configuration: that of its scheme.
+-- Which machine runs a configuration: the machine of its scheme.
 use Rattle.thy_block.specs.declared.parameters.SchemeName.{SchemeName}
 use Rattle.thy_block.specs.declared.parameters.SchemeName.TheVariants.{Thynvm, Journal, Shadow}
 use Rattle.thy_view.specs.Kind.{KindOf}

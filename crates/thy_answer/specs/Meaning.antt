@@ -7,13 +7,13 @@ use Rattle.thy_block.specs.declared.parameters.SchemeName.TheVariants.{Thynvm, J
 use Rattle.thy_layout.specs.Decoded.{Decoded, Reading}
 use Rattle.thy_layout.specs.Files.{decode_file}
 use Rattle.thy_layout.specs.Layout.{Layout, Layouts, reading}
-use Rattle.thy_record.specs.DualLayouts.{dual_layouts}
+use Rattle.thy_record.specs.ThynvmLayouts.{thynvm_layouts}
 use Rattle.thy_journal_image.specs.Layout.{journal_layouts}
 use Rattle.thy_shadow_image.specs.Layout.{shadow_layouts}
 
 -- how a scheme lays out its images
 abbrev pub layouts_by_scheme : SchemeName → Layouts
-layouts_by_scheme Thynvm = dual_layouts
+layouts_by_scheme Thynvm = thynvm_layouts
 layouts_by_scheme Journal = journal_layouts
 layouts_by_scheme Shadow = shadow_layouts
 

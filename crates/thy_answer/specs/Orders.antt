@@ -1,8 +1,8 @@
 -- Part of the claim.
 -- The result of an order, and of a call.
 use Rattle.std.specs.Prelude.{◌≡◌, ◌⊎◌, ℕ, List, Ok}
-use Rattle.thy_words.specs.declared.words.WordsError.{WordsError}
-use Rattle.thy_words.specs.Settings.{Order, run, resume, bench, compare, plain, make, settings_of}
+use Rattle.thy_arguments.specs.declared.words.WordsError.{WordsError}
+use Rattle.thy_arguments.specs.Settings.{Order, run, resume, bench, compare, plain, make, settings_of}
 use Rattle.thy_answer.specs.declared.answer.Answer.{Answer}
 use Rattle.thy_answer.specs.declared.refusal.Refusal.TheVariants.{Words}
 use Rattle.thy_answer.specs.Answering.{Around, NvmOf, IsRefused, MakeAnswered, PlainAnswered, RunAnswered, WordsDue, outside_of}

@@ -23,7 +23,7 @@ use Rattle.thy_layout.specs.Decoded.{Decoded, Nothing, Refused, At}
 use Rattle.thy_layout.specs.Files.{blocks_of}
 use Rattle.thy_answer.specs.Meaning.{decode_bytes}
 use Rattle.thy_view.specs.Origin.{Origin}
-use Rattle.thy_words.specs.Settings.{Job}
+use Rattle.thy_arguments.specs.Settings.{Job}
 use Rattle.thy_answer.specs.declared.refusal.Refusal.{Refusal}
 use Rattle.thy_answer.specs.declared.refusal.Refusal.TheVariants.{Words, Fetch, File, Image, Input, Device as DeviceRefusal, Memory as MemoryRefusal}
 

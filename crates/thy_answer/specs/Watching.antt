@@ -7,7 +7,7 @@ use Rattle.thy_run.specs.Watching.{Taken}
 use Rattle.thy_run.specs.World.{Given}
 use Rattle.thy_view.specs.Kind.{KindOf}
 use Rattle.thy_view.specs.Origin.{Origin}
-use Rattle.thy_words.specs.Settings.{Job, Order, run, resume, bench, compare, plain, make}
+use Rattle.thy_arguments.specs.Settings.{Job, Order, run, resume, bench, compare, plain, make}
 use Rattle.thy_answer.specs.declared.answer.Answer.{Answer}
 use Rattle.thy_answer.specs.Answering.{Around, NvmOf, Outside, IsRunFrom, IsRunOf, IsRunOverOf, PlainAnswered, RunAnswered, given_for, outside_of, with_device}
 use Rattle.thy_answer.specs.Machines.{Choice}
@@ -19,7 +19,7 @@ abbrev pub HasSeenFrom : {M O : Type 0} (K : KindOf M) (has_seen : O → List Ta
     (source : ProgramSource) (job : Job) (before after : Outside) (a : Answer)
     → IsRunFrom K o given source job before after a → O → Type 0
 HasSeenFrom K has_seen o given source job before after a r observer =
-    HasSeenRun K has_seen o given r.stood r.ending before.terminal after.terminal before.report r.told r.ran observer
+    HasSeenRun K has_seen o given r.stood r.ending before.terminal after.terminal before.report r.reported r.ran observer
 
 abbrev pub HasSeenOf : {M O : Type 0} (K : KindOf M) (has_seen : O → List Taken → Type 0) (source : ProgramSource) (job : Job)
     (before : Outside) (program : IsProgram source job before.shelf) (after : Outside) (a : Answer)

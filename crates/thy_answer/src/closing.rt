@@ -85,7 +85,7 @@ fn stop_summed(failed: bool, stop: Stop) -> Stop
     if failed { Stop::Report } else { stop }
 }
 
-/// What came of a run that has stopped. A report that has not failed gets the summary, if the run has one, and then the
+/// The outcome of a run that has stopped. A report that has not failed gets the summary, if the run has one, and then the
 /// closing line. If it refuses the summary, the status says so; if it refuses the closing line, the status stays.
 pub fn stopped<R: Sink>(
     source: ProgramSource,

@@ -8,7 +8,7 @@
 //!
 //! Open specs/Meaning.antt and src/file.rt first, then specs/Orders.antt (`Answered`), specs/Answering.antt,
 //! specs/Comparing.antt and specs/Calm.antt, and src/refusal.rt. It depends on thy_run, on thy_record,
-//! thy_journal_image and thy_shadow_image, on thy_gap, thy_words, thy_elf, thy_make, thy_plain and thy_text, and on
+//! thy_journal_image and thy_shadow_image, on thy_gap, thy_arguments, thy_elf, thy_make, thy_plain and thy_text, and on
 //! their dependencies; thy_files, thy_execute, thy_commands and thy_cli depend on it.
 #![tactic(auto)]
 
@@ -25,5 +25,5 @@ pub use closing::{close, close_stop, stopped};
 pub use complete_laws::what_is_answered_is_complete;
 pub use file::{check, state};
 pub use image_laws::{a_checkpoint_can_begin_a_run, a_file_is_an_image, an_image_is_of_one_scheme};
-pub use refusal::{Refusal, refuse, told_of};
+pub use refusal::{Refusal, refuse, report_of_refusal};
 pub use source::ProgramSource;

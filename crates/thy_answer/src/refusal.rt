@@ -8,11 +8,11 @@ ghost use Rattle.thy_answer.specs.Kept.{refused_status, refused_line};
 use crate::answer::Answer;
 use crate::closing::close;
 use std::alloc::{AllocError, Global};
+use thy_arguments::WordsError;
 use thy_base::{FetchError, FitError, Sink};
 use thy_elf::ElfError;
 use thy_layout::BadImage;
 use thy_text::{Closing, Events, FetchFault, History};
-use thy_words::WordsError;
 
 /// Why a call begins no run.
 #[derive(Clone, Copy)]
@@ -50,7 +50,7 @@ fn file_closing(error: ElfError) -> Closing<'static>
 }
 
 /// What is reported of a refusal: the exit status and the closing line.
-pub fn told_of(refusal: Refusal<'_>) -> (u8, Closing<'_>)
+pub fn report_of_refusal(refusal: Refusal<'_>) -> (u8, Closing<'_>)
     ensures status { result.0 ≡ refused_status refusal.entry }
     ensures line { closing_of result.1 ≡ refused_line refusal.entry }
 {
@@ -86,7 +86,7 @@ pub fn refuse<R: Sink>(alloc: Global, refusal: Refusal, report: &mut R) -> Answe
     ensures closes { Closes (refused_line refusal.entry)
         (R.stream report.old) (R.stream report.new) }
 {
-    let (status, closing) = told_of(refusal);
+    let (status, closing) = report_of_refusal(refusal);
     close(closing, report);
     Answer {
         status,

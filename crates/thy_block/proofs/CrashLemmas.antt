@@ -4,7 +4,7 @@ use Rattle.std.proofs.lemmas.List.{ext_get_or}
 use Rattle.std.proofs.lemmas.List.Elements.{Contains-push, Contains-append_left}
 use Rattle.thy_block.specs.declared.block.Block.{Block}
 use Rattle.thy_block.specs.Device.{Device, Crash, HoldsNoMore, HasFailed, IsFramed, zero_block, block_at, queued_for, applied, possible, cut_to}
-use Rattle.thy_block.proofs.DeviceLemmas.{MayLeave-possible, MayLeave-landed, length-applied, Contains-applied}
+use Rattle.thy_block.proofs.DeviceLemmas.{CrashAt-possible, CrashAt-landed, length-applied, Contains-applied}
 
 -- the block that has landed is possible
 pub Contains-stands : (n : Device) (x : ℕ) → Contains (possible n x) (block_at n.image x)
@@ -12,7 +12,7 @@ Contains-stands n x = Contains-append_left (block_at n.image x ∷ []) (queued_f
 
 -- each choice of whole blocks is a choice of words
 pub Crash-of_blocks : (n : Device) (g : List Block) → length g ≡ length n.image → ((x : ℕ) → Contains (possible n x) (block_at g x)) → Crash n g
-Crash-of_blocks n g same each = record { same_length = same; each = λ x. MayLeave-possible n x (block_at g x) (each x) }
+Crash-of_blocks n g same each = record { same_length = same; each = λ x. CrashAt-possible n x (block_at g x) (each x) }
 
 -- a device whose blocks land whole leaves no other
 pub Crash-whole : (n : Device) (g : List Block) → n.whole ≡ true → Crash n g → (x : ℕ) → Contains (possible n x) (block_at g x)
@@ -39,7 +39,7 @@ Crash-failed failed framed c = Crash-no_more failed.no_more framed.blocks c
 
 -- nothing queued for a place: a cut leaves there what a read gives
 pub block_at-settled : (n : Device) (g : List Block) (x : ℕ) → queued_for n.queue x ≡ [] → Crash n g → block_at g x ≡ block_at n.image x
-block_at-settled n g x none c = MayLeave-landed n x (block_at g x) none (c.each x)
+block_at-settled n g x none c = CrashAt-landed n x (block_at g x) none (c.each x)
 
 -- an image that differs from another at no place
 pub same_images : (g h : List Block) → length g ≡ length h → ((x : ℕ) → block_at g x ≡ block_at h x) → g ≡ h

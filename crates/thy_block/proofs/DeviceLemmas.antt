@@ -9,7 +9,7 @@ use Rattle.std.proofs.lemmas.List.FromFn.{length-map-range_with_len, get_or-map-
 use Rattle.thy_block.specs.declared.block.Block.{Block}
 use Rattle.thy_block.specs.declared.nvm.Write.{Write}
 use Rattle.thy_block.specs.Counts.{RoseByOne}
-use Rattle.thy_block.specs.Device.{Device, failed_calls, CountsOneFault, MayLeave, HoldsNoMore, zero_block, write_of, block_at, queued_for, newest_over, applied, possible, newest, landed, drained, settled, surplus, with_queued, written_to}
+use Rattle.thy_block.specs.Device.{Device, failed_calls, CountsOneFault, CrashAt, HoldsNoMore, zero_block, write_of, block_at, queued_for, newest_over, applied, possible, newest, landed, drained, settled, surplus, with_queued, written_to}
 use Rattle.thy_block.proofs.MadeLemmas.{IsMadeOf-one, IsMadeOf-more, IsMadeOf-only}
 
 -- the blocks queued by one list of writes and then by another
@@ -78,25 +78,25 @@ Contains-landed image ws vs x b h =
 -- ---- what a cut may leave
 
 -- a possible block may be left
-pub MayLeave-possible : (n : Device) (x : ℕ) (b : Block) → Contains (possible n x) b → MayLeave n x b
-MayLeave-possible n x b h = record { words = IsMadeOf-one (possible n x) b h; whole = λ _. h }
+pub CrashAt-possible : (n : Device) (x : ℕ) (b : Block) → Contains (possible n x) b → CrashAt n x b
+CrashAt-possible n x b h = record { words = IsMadeOf-one (possible n x) b h; whole = λ _. h }
 
 -- if nothing more is possible at a place, nothing more may be left there
-pub MayLeave-more : (old new : Device) (x y : ℕ) (b : Block) → new.whole ≡ old.whole
-    → ((c : Block) → Contains (possible new y) c → Contains (possible old x) c) → MayLeave new y b → MayLeave old x b
-MayLeave-more old new x y b same among left = record {
+pub CrashAt-more : (old new : Device) (x y : ℕ) (b : Block) → new.whole ≡ old.whole
+    → ((c : Block) → Contains (possible new y) c → Contains (possible old x) c) → CrashAt new y b → CrashAt old x b
+CrashAt-more old new x y b same among left = record {
   words = IsMadeOf-more (possible new y) (possible old x) b among left.words;
   whole = λ whole. among b (left.whole (same ∙ whole));
 }
 
 -- if one block alone is possible, it is left
-pub MayLeave-only : (n : Device) (x : ℕ) (c b : Block) → ((d : Block) → Contains (possible n x) d → d ≡ c) → MayLeave n x b → b ≡ c
-MayLeave-only n x c b only left = IsMadeOf-only (possible n x) c b only left.words
+pub CrashAt-only : (n : Device) (x : ℕ) (c b : Block) → ((d : Block) → Contains (possible n x) d → d ≡ c) → CrashAt n x b → b ≡ c
+CrashAt-only n x c b only left = IsMadeOf-only (possible n x) c b only left.words
 
 -- if no write is queued for a place, a cut can leave only the image's block there
-pub MayLeave-landed : (n : Device) (x : ℕ) (b : Block) → queued_for n.queue x ≡ [] → MayLeave n x b → b ≡ block_at n.image x
-MayLeave-landed n x b none left =
-    MayLeave-only n x (block_at n.image x) b
+pub CrashAt-landed : (n : Device) (x : ℕ) (b : Block) → queued_for n.queue x ≡ [] → CrashAt n x b → b ≡ block_at n.image x
+CrashAt-landed n x b none left =
+    CrashAt-only n x (block_at n.image x) b
     (λ d h. sym (same_as_only (block_at n.image x) d (subst (λ (q : List Block). Contains (block_at n.image x ∷ q) d) none h)))
     left
 
@@ -107,7 +107,7 @@ possible-landed k n x b h =
     (Contains-landed n.image (take k n.queue) (drop k n.queue) x b h)
 
 pub no_more-landed : (k : ℕ) (n : Device) → HoldsNoMore n (landed k n)
-no_more-landed k n x b left = MayLeave-more n (landed k n) x x b refl (possible-landed k n x) left
+no_more-landed k n x b left = CrashAt-more n (landed k n) x x b refl (possible-landed k n x) left
 
 -- a drain makes nothing more possible
 pub no_more-drained : (n : Device) → HoldsNoMore n (drained n)
@@ -116,7 +116,7 @@ no_more-drained n = no_more-landed 1 n
 -- a barrier makes nothing more possible
 pub no_more-settled : (n : Device) → HoldsNoMore n (settled n)
 no_more-settled n x b left =
-    MayLeave-more n (settled n) x x b refl
+    CrashAt-more n (settled n) x x b refl
     (λ c h. subst (λ (q : List Write). Contains (block_at n.image x ∷ queued_for q x) c) (append-nil n.queue) (Contains-landed n.image n.queue [] x c h))
     left
 
@@ -153,7 +153,7 @@ possible-before_queued n at block x b h =
     (Contains-append_left (possible n x) (queued_for (write_of at block ∷ []) x) b h)
 
 pub no_more-with_queued : (n : Device) (at : ℕ) (block : Block) → HoldsNoMore (with_queued at block n) n
-no_more-with_queued n at block x b left = MayLeave-more (with_queued at block n) n x x b refl (possible-before_queued n at block x) left
+no_more-with_queued n at block x b left = CrashAt-more (with_queued at block n) n x x b refl (possible-before_queued n at block x) left
 
 -- the block of the write is possible
 pub possible-queued : (n : Device) (at : ℕ) (block : Block) → Contains (possible (with_queued at block n) at) block
@@ -163,19 +163,19 @@ possible-queued n at block =
     ∙ ap (λ t. queued_for n.queue at ++ (if t then block ∷ [] else [])) (eq-eqb at at refl) in
     subst (λ (q : List Block). Contains (block_at n.image at ∷ q) block) (sym queued) (Contains-push (possible n at) block)
 
--- ---- the laws of whole blocks imply those of words
+-- ---- the laws of whole blocks imply the laws of words
 
 -- if no block is possible that was not, no more may be left
 pub HoldsNoMore-of_blocks : (old new : Device) → new.whole ≡ old.whole
     → ((x : ℕ) (b : Block) → Contains (possible new x) b → Contains (possible old x) b) → HoldsNoMore old new
-HoldsNoMore-of_blocks old new same each x b left = MayLeave-more old new x x b same (each x) left
+HoldsNoMore-of_blocks old new same each x b left = CrashAt-more old new x x b same (each x) left
 
 -- if one block is, at one place, no more than if it were queued there
 pub HoldsNoMore-but_block : (old new : Device) (at : ℕ) (block : Block) → new.whole ≡ old.whole
     → ((x : ℕ) (b : Block) → Contains (possible new x) b → Contains (possible old x) b ⊎ ((x ≡ at) × (b ≡ block)))
     → HoldsNoMore (with_queued at block old) new
 HoldsNoMore-but_block old new at block same each x b left =
-    MayLeave-more (with_queued at block old) new x x b same
+    CrashAt-more (with_queued at block old) new x x b same
     (λ c h. elim (each x c h) as (λ _. Contains (possible (with_queued at block old) x) c) [
       | inl before ↦ possible-before_queued old at block x c before
       | inr this ↦
@@ -185,9 +185,9 @@ HoldsNoMore-but_block old new at block same each x b left =
     left
 
 -- at every place other than the write's nothing more may be left
-pub MayLeave-elsewhere : (n : Device) (at : ℕ) (block : Block) (x : ℕ) (b : Block) → x ≢ at → MayLeave (with_queued at block n) x b → MayLeave n x b
-MayLeave-elsewhere n at block x b other left =
-    MayLeave-more n (with_queued at block n) x x b refl
+pub CrashAt-elsewhere : (n : Device) (at : ℕ) (block : Block) (x : ℕ) (b : Block) → x ≢ at → CrashAt (with_queued at block n) x b → CrashAt n x b
+CrashAt-elsewhere n at block x b other left =
+    CrashAt-more n (with_queued at block n) x x b refl
     (λ c h. elim (possible-with_queued n at block x c h) as (λ _. Contains (possible n x) c) [
       | inl before ↦ before
       | inr this ↦ absurd (other this.0)
@@ -201,15 +201,15 @@ no_more-written_to n at block x b left =
     let queue : take k n.queue ++ (drop k n.queue ++ write_of at block ∷ []) ≡ n.queue ++ write_of at block ∷ []
     = sym (append_assoc (take k n.queue) (drop k n.queue) (write_of at block ∷ []))
     ∙ ap (λ (q : List Write). q ++ write_of at block ∷ []) (take-append-drop k n.queue) in
-    MayLeave-more (with_queued at block n) (written_to n at block) x x b refl
+    CrashAt-more (with_queued at block n) (written_to n at block) x x b refl
     (λ c h. subst (λ (q : List Write). Contains (block_at n.image x ∷ queued_for q x) c) queue
     (Contains-landed n.image (take k n.queue) (drop k n.queue ++ write_of at block ∷ []) x c h))
     left
 
 -- at every other place a write makes nothing more possible
 pub no_more-written_to_other : (n : Device) (at : ℕ) (block : Block) (x : ℕ) (b : Block) → x ≢ at
-    → MayLeave (written_to n at block) x b → MayLeave n x b
-no_more-written_to_other n at block x b other left = MayLeave-elsewhere n at block x b other (no_more-written_to n at block x b left)
+    → CrashAt (written_to n at block) x b → CrashAt n x b
+no_more-written_to_other n at block x b other left = CrashAt-elsewhere n at block x b other (no_more-written_to n at block x b left)
 
 -- reads are as before if writes have landed
 pub newest-landed : (k : ℕ) (n : Device) (x : ℕ) → x < length n.image → newest (landed k n) x ≡ newest n x

@@ -1,4 +1,4 @@
--- The bytes of a list of blocks: how many there are, and where those of a block stand.
+-- The bytes of a list of blocks: how many there are, and where a block's bytes are.
 use Rattle.std.proofs.Common.{◌≡◌, ℕ, zero, suc, ◌+◌, ◌*◌, ◌<◌, ◌≤◌, List, [], ◌∷◌, ◌++◌, length, take, drop, get_or, slice_index, refl, sym, ◌∙◌, ap, arith, append_assoc}
 use Rattle.std.proofs.lemmas.List.{append-nil, length-append, length-drop, length-take-le, take-append-drop, take_at, take_more, get_or_append_left, get_or-append-add, take-append-le, drop-append-le, drop-drop, drop_at}
 use Rattle.thy_block.specs.declared.block.Block.{Block}

@@ -1,4 +1,4 @@
--- The bytes of a span in its one or two blocks are those of the list of bytes.
+-- The bytes of a span in its one or two blocks are the same bytes of the list.
 use Rattle.std.proofs.Common.{◌≡◌, ℕ, ◌+◌, ◌-◌, ◌*◌, ◌/◌, ◌%◌, ◌<◌, ◌≤◌, ◌==◌, Bool, true, false, if◌then◌else◌, List, [], ◌++◌, length, take, drop, slice_set, refl, sym, ◌∙◌, ap, inl, inr, arith}
 use Rattle.std.proofs.lemmas.Bool.{cases_lt, eqb-true}
 use Rattle.std.proofs.lemmas.List.{append-nil, nil_from_length, length-append, length-drop, length-set, length-take-le, take_all, take-append-drop, drop-drop, get_or-set_other}

@@ -80,18 +80,18 @@ abbrev pub IsMadeOf : List Block → Block → Type 0
 IsMadeOf blocks b = (i : ℕ) → (c : Block) × Contains blocks c × (word_bytes b i ≡ word_bytes c i)
 
 -- a block that may be left of these: it is made of their words; if blocks land whole, it is one of them
-pub record IsLeftOf (lands_whole : Bool) (blocks : List Block) (b : Block) : Type 0 where
+pub record IsCrashOf (lands_whole : Bool) (blocks : List Block) (b : Block) : Type 0 where
   pub words : IsMadeOf blocks b
   pub whole : lands_whole ≡ true → Contains blocks b
 
 -- a block that a cut may leave at a place
-abbrev pub MayLeave : Device → ℕ → Block → Type 0
-MayLeave n x b = IsLeftOf n.whole (possible n x) b
+abbrev pub CrashAt : Device → ℕ → Block → Type 0
+CrashAt n x b = IsCrashOf n.whole (possible n x) b
 
 -- an image that a cut may leave: at each place its own choice
 pub record Crash (n : Device) (g : List Block) : Type 0 where
   pub same_length : length g ≡ length n.image
-  pub each : (x : ℕ) → MayLeave n x (block_at g x)
+  pub each : (x : ℕ) → CrashAt n x (block_at g x)
 
 -- two blocks differ in one aligned word at most
 pub record IsOneWordApart (a b : Block) : Type 0 where
@@ -175,7 +175,7 @@ pub record IsFramed (old new : Device) : Type 0 where
 
 -- no place may hold after a cut what it could not hold before
 abbrev pub HoldsNoMore : Device → Device → Type 0
-HoldsNoMore old new = (x : ℕ) (b : Block) → MayLeave new x b → MayLeave old x b
+HoldsNoMore old new = (x : ℕ) (b : Block) → CrashAt new x b → CrashAt old x b
 
 -- a device after a call that failed
 pub record HasFailed (old new : Device) : Type 0 where

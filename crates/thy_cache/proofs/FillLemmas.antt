@@ -9,7 +9,7 @@ use Rattle.thy_block.specs.Device.{block_at}
 use Rattle.thy_cache.specs.declared.line.Line.{Line}
 use Rattle.thy_cache.specs.Ways.{Ways, line_at, line_in, holds, is_dirty, way_of, with_line, fresh_line}
 use Rattle.thy_cache.specs.Flat.{IsLineOf, SetAgrees}
-use Rattle.thy_cache.proofs.LineLemmas.{place, held, place-way_of, line_in-place, line_in-none, none_held}
+use Rattle.thy_cache.proofs.LineLemmas.{location, held, location-way_of, line_in-location, line_in-none, none_held}
 use Rattle.thy_cache.proofs.AgreeLemmas.{line_at-rewritten, line_in-single, some_is}
 
 -- what is filled in
@@ -83,11 +83,11 @@ not_left n blocks s w b block ways filling x line other e at v m its (inl here) 
 not_left n blocks s w b block ways filling x line other e at v m its (inr there) = there.0 (filling.agrees.single v w m line there.1 e (its ∙ sym at))
 
 -- a way whose line is not the block's is not where the block's line is
-pub not_in : (ways : Ways) (x w : ℕ) → w < length ways.lines → holds x (line_at ways w) ≡ false → place ways x ≡ w → ⊥
+pub not_in : (ways : Ways) (x w : ℕ) → w < length ways.lines → holds x (line_at ways w) ≡ false → location ways x ≡ w → ⊥
 not_in ways x w inside fails e =
-    let here : place ways x < length ways.lines = omega (arith, e, inside) in
-    let found : way_of ways x ≡ Some (place ways x) = ap (λ t. cond t (Some (place ways x)) None) (lt-ltb _ _ here) in
-    let passes : holds x (line_at ways (place ways x)) ≡ true = (place-way_of ways x (place ways x) found).2 in
+    let here : location ways x < length ways.lines = omega (arith, e, inside) in
+    let found : way_of ways x ≡ Some (location ways x) = ap (λ t. cond t (Some (location ways x)) None) (lt-ltb _ _ here) in
+    let passes : holds x (line_at ways (location ways x)) ≡ true = (location-way_of ways x (location ways x) found).2 in
     let wrong : true ≡ false = sym passes ∙ ap (λ v. holds x (line_at ways v)) e ∙ fails in
     cc
 
@@ -108,12 +108,12 @@ pub stays_there : (w b : ℕ) (block : Block) (ways : Ways) (x : ℕ) → w < le
     → line_in (with_line w (fresh_line b block) ways) x ≡ line_in ways x
 stays_there w b block ways x inside other fails =
     let new_fails : holds x (Some (fresh_line b block)) ≡ false = ne_eqb b x (λ e. other (sym e)) in
-    let same : place (with_line w (fresh_line b block) ways) x ≡ place ways x = position_or_len-set (holds x) ways.lines w (Some (fresh_line b block)) None (new_fails ∙ sym fails) in
-    let elsewhere : place ways x ≢ w = λ e. not_in ways x w inside fails e in
-    line_in-place (with_line w (fresh_line b block) ways) x
+    let same : location (with_line w (fresh_line b block) ways) x ≡ location ways x = position_or_len-set (holds x) ways.lines w (Some (fresh_line b block)) None (new_fails ∙ sym fails) in
+    let elsewhere : location ways x ≢ w = λ e. not_in ways x w inside fails e in
+    line_in-location (with_line w (fresh_line b block) ways) x
     ∙ ap (line_at (with_line w (fresh_line b block) ways)) same
-    ∙ get_or-set_other ways.lines w (place ways x) (Some (fresh_line b block)) None elsewhere
-    ∙ sym (line_in-place ways x)
+    ∙ get_or-set_other ways.lines w (location ways x) (Some (fresh_line b block)) None elsewhere
+    ∙ sym (line_in-location ways x)
 
 -- every block reads as before in a set that was filled
 pub seen-filled : (n : ℕ) (blocks : List Block) (s w b : ℕ) (block : Block) (ways : Ways) → Filling n blocks s w b block ways

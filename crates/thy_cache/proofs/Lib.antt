@@ -11,4 +11,4 @@ pub mod WriteLaws
 pub mod StoreLaws
 pub mod FlushLaws
 pub mod SizeLaws
-pub mod PlaceLaws
+pub mod LocationLaws

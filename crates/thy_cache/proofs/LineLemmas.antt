@@ -11,8 +11,8 @@ use Rattle.thy_cache.specs.declared.line.Line.{Line}
 use Rattle.thy_cache.specs.Ways.{Ways, line_at, holds, way_of, line_in, over_line}
 
 -- the first way that has a block's line, or the number of ways
-abbrev pub place : Ways → ℕ → ℕ
-place ways b = position_or_len (holds b) ways.lines
+abbrev pub location : Ways → ℕ → ℕ
+location ways b = position_or_len (holds b) ways.lines
 
 -- a way that has a block's line has a line
 pub held : (b : ℕ) (o : Option Line) → holds b o ≡ true → (line : Line) × (o ≡ Some line) × (line.at ≡ b)
@@ -34,41 +34,41 @@ holds_one b x o h n = elim (cases_Bool (holds x o)) as (λ _. holds x o ≡ fals
 ]
 
 -- a block's line is what stands in its first way
-pub line_in-place : (ways : Ways) (b : ℕ) → line_in ways b ≡ line_at ways (place ways b)
-line_in-place ways b = elim (cases_Bool (nat_lt (place ways b) (length ways.lines))) as (λ _. line_in ways b ≡ line_at ways (place ways b)) [
-  | inl is_so ↦ ap (λ t. option_and_then (line_at ways) (cond t (Some (place ways b)) None)) is_so
-  | inr not_so ↦ ap (λ t. option_and_then (line_at ways) (cond t (Some (place ways b)) None)) not_so
-      ∙ sym (get_or_past ways.lines (place ways b) None (ltb-false _ _ not_so))
+pub line_in-location : (ways : Ways) (b : ℕ) → line_in ways b ≡ line_at ways (location ways b)
+line_in-location ways b = elim (cases_Bool (nat_lt (location ways b) (length ways.lines))) as (λ _. line_in ways b ≡ line_at ways (location ways b)) [
+  | inl is_so ↦ ap (λ t. option_and_then (line_at ways) (cond t (Some (location ways b)) None)) is_so
+  | inr not_so ↦ ap (λ t. option_and_then (line_at ways) (cond t (Some (location ways b)) None)) not_so
+      ∙ sym (get_or_past ways.lines (location ways b) None (ltb-false _ _ not_so))
 ]
 
 -- a way that has a block's line, found first
-pub place-way_of : (ways : Ways) (b w : ℕ) → way_of ways b ≡ Some w → (place ways b ≡ w) × (w < length ways.lines) × (holds b (line_at ways w) ≡ true)
-place-way_of ways b w e = elim (cases_Bool (nat_lt (place ways b) (length ways.lines))) as (λ _. (place ways b ≡ w) × (w < length ways.lines) × (holds b (line_at ways w) ≡ true)) [
+pub location-way_of : (ways : Ways) (b w : ℕ) → way_of ways b ≡ Some w → (location ways b ≡ w) × (w < length ways.lines) × (holds b (line_at ways w) ≡ true)
+location-way_of ways b w e = elim (cases_Bool (nat_lt (location ways b) (length ways.lines))) as (λ _. (location ways b ≡ w) × (w < length ways.lines) × (holds b (line_at ways w) ≡ true)) [
   | inl is_so ↦
-      let is : Some (place ways b) ≡ Some w = sym (ap (λ t. cond t (Some (place ways b)) None) is_so) ∙ e in
-      let same : place ways b ≡ w = cc in
+      let is : Some (location ways b) ≡ Some w = sym (ap (λ t. cond t (Some (location ways b)) None) is_so) ∙ e in
+      let same : location ways b ≡ w = cc in
       let found = position-Some (holds b) ways.lines w None e in
       (same, found.0, found.1)
-  | inr not_so ↦ let is : None ≡ Some w = sym (ap (λ t. cond t (Some (place ways b)) None) not_so) ∙ e in cc
+  | inr not_so ↦ let is : None ≡ Some w = sym (ap (λ t. cond t (Some (location ways b)) None) not_so) ∙ e in cc
 ]
 
 -- a line that is found stands in a way, and is the block's
 pub line_in-found : (ways : Ways) (b : ℕ) (line : Line) → line_in ways b ≡ Some line → (w : ℕ) × (line_at ways w ≡ Some line) × (line.at ≡ b)
-line_in-found ways b line e = elim (cases_Bool (nat_lt (place ways b) (length ways.lines))) as (λ _. (w : ℕ) × (line_at ways w ≡ Some line) × (line.at ≡ b)) [
+line_in-found ways b line e = elim (cases_Bool (nat_lt (location ways b) (length ways.lines))) as (λ _. (w : ℕ) × (line_at ways w ≡ Some line) × (line.at ≡ b)) [
   | inl is_so ↦
-      let is : way_of ways b ≡ Some (place ways b) = ap (λ t. cond t (Some (place ways b)) None) is_so in
-      let there = place-way_of ways b (place ways b) is in
-      let stands : line_at ways (place ways b) ≡ Some line = sym (line_in-place ways b) ∙ e in
-      let other = held b (line_at ways (place ways b)) there.2 in
+      let is : way_of ways b ≡ Some (location ways b) = ap (λ t. cond t (Some (location ways b)) None) is_so in
+      let there = location-way_of ways b (location ways b) is in
+      let stands : line_at ways (location ways b) ≡ Some line = sym (line_in-location ways b) ∙ e in
+      let other = held b (line_at ways (location ways b)) there.2 in
       let same : Some other.0 ≡ Some line = sym other.1 ∙ stands in
       let is_it : other.0 ≡ line = cc in
-      (place ways b, stands, sym (ap (λ (l : Line). l.at) is_it) ∙ other.2)
+      (location ways b, stands, sym (ap (λ (l : Line). l.at) is_it) ∙ other.2)
   | inr not_so ↦
-      let none : line_in ways b ≡ None = ap (λ t. option_and_then (line_at ways) (cond t (Some (place ways b)) None)) not_so in
+      let none : line_in ways b ≡ None = ap (λ t. option_and_then (line_at ways) (cond t (Some (location ways b)) None)) not_so in
       let is : None ≡ Some line = sym none ∙ e in cc
 ]
 
--- a way's number is below the count where the way has a line
+-- a way's number is below the count if the way has a line
 pub line_at-inside : (ways : Ways) (w : ℕ) (line : Line) → line_at ways w ≡ Some line → w < length ways.lines
 line_at-inside ways w line e = elim (cases_lt w (length ways.lines)) as (λ _. w < length ways.lines) [
   | inl l ↦ l
@@ -85,37 +85,37 @@ holds-map f keeps b None = refl
 holds-map f keeps b (Some line) = ap (λ a. a == b) (keeps line)
 
 -- a change of a line that keeps its block leaves where each block's line is
-pub place-over_line : (f : Line → Line) → KeepsBlock f → (ways : Ways) (w x : ℕ) → place (over_line f w ways) x ≡ place ways x
-place-over_line f keeps ways w x = position_or_len-set (holds x) ways.lines w (option_map f (line_at ways w)) None (holds-map f keeps x (line_at ways w))
+pub location-over_line : (f : Line → Line) → KeepsBlock f → (ways : Ways) (w x : ℕ) → location (over_line f w ways) x ≡ location ways x
+location-over_line f keeps ways w x = position_or_len-set (holds x) ways.lines w (option_map f (line_at ways w)) None (holds-map f keeps x (line_at ways w))
 
 -- the line of a block in the way that was changed
-pub line_in-changed : (f : Line → Line) → KeepsBlock f → (ways : Ways) (w x : ℕ) → w < length ways.lines → place ways x ≡ w
+pub line_in-changed : (f : Line → Line) → KeepsBlock f → (ways : Ways) (w x : ℕ) → w < length ways.lines → location ways x ≡ w
     → line_in (over_line f w ways) x ≡ option_map f (line_in ways x)
 line_in-changed f keeps ways w x inside e =
-    line_in-place (over_line f w ways) x
-    ∙ ap (line_at (over_line f w ways)) (place-over_line f keeps ways w x ∙ e)
+    line_in-location (over_line f w ways) x
+    ∙ ap (line_at (over_line f w ways)) (location-over_line f keeps ways w x ∙ e)
     ∙ get_or-set_same ways.lines w (option_map f (line_at ways w)) None inside
     ∙ ap (λ v. option_map f (line_at ways v)) (sym e)
-    ∙ ap (option_map f) (sym (line_in-place ways x))
+    ∙ ap (option_map f) (sym (line_in-location ways x))
 
 -- the line of a block in a way that was not changed
-pub line_in-unchanged : (f : Line → Line) → KeepsBlock f → (ways : Ways) (w x : ℕ) → place ways x ≢ w → line_in (over_line f w ways) x ≡ line_in ways x
+pub line_in-unchanged : (f : Line → Line) → KeepsBlock f → (ways : Ways) (w x : ℕ) → location ways x ≢ w → line_in (over_line f w ways) x ≡ line_in ways x
 line_in-unchanged f keeps ways w x n =
-    line_in-place (over_line f w ways) x
-    ∙ ap (line_at (over_line f w ways)) (place-over_line f keeps ways w x)
-    ∙ get_or-set_other ways.lines w (place ways x) (option_map f (line_at ways w)) None n
-    ∙ sym (line_in-place ways x)
+    line_in-location (over_line f w ways) x
+    ∙ ap (line_at (over_line f w ways)) (location-over_line f keeps ways w x)
+    ∙ get_or-set_other ways.lines w (location ways x) (option_map f (line_at ways w)) None n
+    ∙ sym (line_in-location ways x)
 
 -- a change in the way of a block changes no other block's line
 pub line_in-other : (f : Line → Line) → KeepsBlock f → (ways : Ways) (b w x : ℕ) → way_of ways b ≡ Some w → x ≢ b → line_in (over_line f w ways) x ≡ line_in ways x
-line_in-other f keeps ways b w x e n = elim (cases_eq (place ways x) w) as (λ _. line_in (over_line f w ways) x ≡ line_in ways x) [
+line_in-other f keeps ways b w x e n = elim (cases_eq (location ways x) w) as (λ _. line_in (over_line f w ways) x ≡ line_in ways x) [
   | inl same ↦
-      let there = place-way_of ways b w e in
-      let inside : place ways x < length ways.lines = omega (arith, same, there.1) in
-      let found : way_of ways x ≡ Some (place ways x) = ap (λ t. cond t (Some (place ways x)) None) (lt-ltb _ _ inside) in
-      let held_x : holds x (line_at ways (place ways x)) ≡ true = (place-way_of ways x (place ways x) found).2 in
+      let there = location-way_of ways b w e in
+      let inside : location ways x < length ways.lines = omega (arith, same, there.1) in
+      let found : way_of ways x ≡ Some (location ways x) = ap (λ t. cond t (Some (location ways x)) None) (lt-ltb _ _ inside) in
+      let held_x : holds x (line_at ways (location ways x)) ≡ true = (location-way_of ways x (location ways x) found).2 in
       let no : holds x (line_at ways w) ≡ false = holds_one b x (line_at ways w) there.2 n in
-      let at : holds x (line_at ways (place ways x)) ≡ holds x (line_at ways w) = ap (λ v. holds x (line_at ways v)) same in
+      let at : holds x (line_at ways (location ways x)) ≡ holds x (line_at ways w) = ap (λ v. holds x (line_at ways v)) same in
       let wrong : true ≡ false = sym held_x ∙ at ∙ no in
       cc
   | inr other ↦ line_in-unchanged f keeps ways w x other
@@ -124,7 +124,7 @@ line_in-other f keeps ways b w x e n = elim (cases_eq (place ways x) w) as (λ _
 -- what a change does not touch of a line it does not touch of any block's line
 pub line_in-kept : {Y : Type 0} (g : Option Line → Y) (f : Line → Line) → KeepsBlock f → ((o : Option Line) → g (option_map f o) ≡ g o)
     → (ways : Ways) (w x : ℕ) → w < length ways.lines → g (line_in (over_line f w ways) x) ≡ g (line_in ways x)
-line_in-kept g f keeps same ways w x inside = elim (cases_eq (place ways x) w) as (λ _. g (line_in (over_line f w ways) x) ≡ g (line_in ways x)) [
+line_in-kept g f keeps same ways w x inside = elim (cases_eq (location ways x) w) as (λ _. g (line_in (over_line f w ways) x) ≡ g (line_in ways x)) [
   | inl here ↦ ap g (line_in-changed f keeps ways w x inside here) ∙ same (line_in ways x)
   | inr other ↦ ap g (line_in-unchanged f keeps ways w x other)
 ]
@@ -136,17 +136,17 @@ passed_over p xs w d l inside = not-true (p (get_or xs w d)) (prefix_len_passes 
 -- if no way has a block's line, the block has none
 pub line_in-none : (ways : Ways) (b : ℕ) → ((w : ℕ) → w < length ways.lines → holds b (line_at ways w) ≡ false) → line_in ways b ≡ None
 line_in-none ways b none =
-    let last : place ways b ≡ length ways.lines
+    let last : location ways b ≡ length ways.lines
     = position_or_len_is (holds b) ways.lines (length ways.lines) None (omega arith) none (λ l. absurd (omega arith)) in
-    line_in-place ways b ∙ get_or_past ways.lines (place ways b) None (omega arith)
+    line_in-location ways b ∙ get_or_past ways.lines (location ways b) None (omega arith)
 
 -- if a block has no line, no way has a line of it
 pub none_held : (ways : Ways) (b w : ℕ) (line : Line) → line_in ways b ≡ None → line_at ways w ≡ Some line → line.at ≢ b
-none_held ways b w line none e = λ same. elim (cases_lt (place ways b) (length ways.lines)) as (λ _. ⊥) [
+none_held ways b w line none e = λ same. elim (cases_lt (location ways b) (length ways.lines)) as (λ _. ⊥) [
   | inl l ↦
-      let found : way_of ways b ≡ Some (place ways b) = ap (λ t. cond t (Some (place ways b)) None) (lt-ltb _ _ l) in
-      let there = held b (line_at ways (place ways b)) (place-way_of ways b (place ways b) found).2 in
-      let wrong : None ≡ Some there.0 = sym none ∙ line_in-place ways b ∙ there.1 in
+      let found : way_of ways b ≡ Some (location ways b) = ap (λ t. cond t (Some (location ways b)) None) (lt-ltb _ _ l) in
+      let there = held b (line_at ways (location ways b)) (location-way_of ways b (location ways b) found).2 in
+      let wrong : None ≡ Some there.0 = sym none ∙ line_in-location ways b ∙ there.1 in
       cc
   | inr l ↦
       let fails : holds b (line_at ways w) ≡ false = passed_over (holds b) ways.lines w None l (line_at-inside ways w line e) in

@@ -4,7 +4,7 @@ use Rattle.std.proofs.lemmas.Bool.{cases_Bool, lt-ltb}
 use Rattle.std.proofs.lemmas.List.Sums.{position_or_len_is}
 use Rattle.thy_cache.specs.declared.line.Line.{Line}
 use Rattle.thy_cache.specs.Ways.{Ways, HaveOneLineEach, holds, line_at, line_in, way_of, over_line, with_line}
-use Rattle.thy_cache.proofs.LineLemmas.{KeepsBlock, place, held, none_held}
+use Rattle.thy_cache.proofs.LineLemmas.{KeepsBlock, location, held, none_held}
 use Rattle.thy_cache.proofs.AgreeLemmas.{line_at-rewritten, some_is, before, before-at}
 
 -- no way before one with a block's line has one
@@ -21,10 +21,10 @@ none_before ways b w k single here below = elim (cases_Bool (holds b (line_at wa
 -- a way that alone has the block is the first
 pub way_of-held : (ways : Ways) (b w : ℕ) → HaveOneLineEach ways.lines → w < length ways.lines → holds b (line_at ways w) ≡ true → way_of ways b ≡ Some w
 way_of-held ways b w single inside here =
-    let first : place ways b ≡ w
+    let first : location ways b ≡ w
     = position_or_len_is (holds b) ways.lines w None (omega (arith, inside)) (λ k below. none_before ways b w k single here below) (λ _. here) in
-    let there : place ways b < length ways.lines = omega (arith, first, inside) in
-    ap (λ t. cond t (Some (place ways b)) None) (lt-ltb _ _ there) ∙ ap Some first
+    let there : location ways b < length ways.lines = omega (arith, first, inside) in
+    ap (λ t. cond t (Some (location ways b)) None) (lt-ltb _ _ there) ∙ ap Some first
 
 -- a change that leaves each line the line of its block
 pub HaveOneLineEach-changed : (f : Line → Line) → KeepsBlock f → (ways : Ways) (w : ℕ) → HaveOneLineEach ways.lines → HaveOneLineEach (over_line f w ways).lines

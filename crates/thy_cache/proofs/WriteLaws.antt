@@ -10,7 +10,7 @@ use Rattle.thy_cache.specs.declared.line.Line.{Line}
 use Rattle.thy_cache.specs.Ways.{Ways, line_at, line_in, way_of, is_dirty, used, used_for, over_line, changed, written_to, dirty_lines}
 use Rattle.thy_cache.specs.Contents.{Contents, IsSoundCache, set_of, index_of, line_of, peeked, hits, read_from, written_at, dirty_count}
 use Rattle.thy_cache.specs.Flat.{flat, SetAgrees, PeeksSame, HitsSame, ReadsSame, ReadsAs, WritesOver, AgreesStill}
-use Rattle.thy_cache.proofs.LineLemmas.{KeepsBlock, place-way_of, held, line_in-changed, line_in-other}
+use Rattle.thy_cache.proofs.LineLemmas.{KeepsBlock, location-way_of, held, line_in-changed, line_in-other}
 use Rattle.thy_cache.proofs.AgreeLemmas.{SetAgrees-same, SetAgrees-over_line}
 use Rattle.thy_cache.proofs.FlatLemmas.{block_at-flat, flat-same, flat-put, set_of-same, line_of-kept, Agrees-with_set}
 use Rattle.thy_cache.proofs.CountLemmas.{dirt, dirty_lines-rewritten, dirty_count-with_set, dirty-fits}
@@ -61,7 +61,7 @@ written-here b at bytes ways None e =
     let none : line_in ways b ≡ None = ap (option_and_then (line_at ways)) e in
     none ∙ ap (option_map (changed at bytes)) (sym none)
 written-here b at bytes ways (Some w) e =
-    let there = place-way_of ways b w e in
+    let there = location-way_of ways b w e in
     line_in-changed (changed at bytes) (changed-keeps at bytes) (used w ways) w b there.1 there.0
 
 -- no line but the block's was written to
@@ -86,7 +86,7 @@ pub written-count : (b at : ℕ) (bytes : List ℕ) (ways : Ways) (o : Option �
     → dirty_lines (written_in at bytes ways o) + dirt (line_in ways b) ≡ dirty_lines ways + 1
 written-count b at bytes ways None e hit = absurd (true_is_not_false (sym hit ∙ ap (λ p. is_some (option_and_then (line_at ways) p)) e))
 written-count b at bytes ways (Some w) e hit =
-    let there = place-way_of ways b w e in
+    let there = location-way_of ways b w e in
     let was = held b (line_at ways w) there.2 in
     let same : line_in ways b ≡ line_at ways w = ap (option_and_then (line_at ways)) e in
     let grown : dirt (option_map (changed at bytes) (line_at ways w)) ≡ 1 = ap (λ p. dirt (option_map (changed at bytes) p)) was.1 in

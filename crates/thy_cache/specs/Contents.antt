@@ -7,7 +7,7 @@ use Rattle.thy_block.specs.declared.store.Stored.{Stored}
 use Rattle.thy_block.specs.declared.store.Stored.TheVariants.{Done, CopyFirst}
 use Rattle.thy_block.specs.Store.{Holding, HasStored, page_of}
 use Rattle.thy_cache.specs.declared.line.Line.{Line}
-use Rattle.thy_cache.specs.declared.line.LinePlace.{LinePlace}
+use Rattle.thy_cache.specs.declared.line.LineLocation.{LineLocation}
 use Rattle.thy_cache.specs.declared.line.Victim.{Victim}
 use Rattle.thy_cache.specs.declared.line.Victim.TheVariants.{Room, Dirty}
 use Rattle.thy_cache.specs.declared.line.Flushed.{Flushed}
@@ -50,9 +50,9 @@ set_of c b = set_at c (index_of c b)
 abbrev pub line_of : Contents → ℕ → Option Line
 line_of c b = line_in (set_of c b) b
 
--- the place of a block's line, if it has one
-abbrev pub place_of : Contents → ℕ → Option LinePlace
-place_of c b = option_map (λ way. record { set = index_of c b; way = way }) (way_of (set_of c b) b)
+-- the location of a block's line, if it has one
+abbrev pub location_of : Contents → ℕ → Option LineLocation
+location_of c b = option_map (λ way. record { set = index_of c b; way = way }) (way_of (set_of c b) b)
 
 -- what a block's line holds, if it has one
 abbrev pub peeked : Contents → ℕ → Option Block

@@ -3,10 +3,10 @@ ghost use Rattle.std.specs.Prelude.{◌≡◌, ◌≢◌, ◌<◌, ◌≤◌, �
 ghost use Rattle.thy_block.specs.Device.{block_at, CountsOneFault};
 ghost use Rattle.thy_block.specs.Store.{IsKeptByLoad};
 ghost use Rattle.thy_cache.specs.Ways.{is_dirty, line_at, victim_way, has_dirty};
-ghost use Rattle.thy_cache.specs.Contents.{Contents, empty_cache, set_at, set_of, index_of, victim_line_of, is_dirty_victim, cleaned_at, filled_with, evicted_for, stored_at, dirty_set, dirty_way, dirty_line, HasNoneDirty, IsSized, KeepsSize, KeepsOpen, flushed_from, HasFlushed, CountsFlushed, StoresLine, CountsStored, line_of, place_of, peeked, hits, victim_of, dirty_count, read_from, written_at};
+ghost use Rattle.thy_cache.specs.Contents.{Contents, empty_cache, set_at, set_of, index_of, victim_line_of, is_dirty_victim, cleaned_at, filled_with, evicted_for, stored_at, dirty_set, dirty_way, dirty_line, HasNoneDirty, IsSized, KeepsSize, KeepsOpen, flushed_from, HasFlushed, CountsFlushed, StoresLine, CountsStored, line_of, location_of, peeked, hits, victim_of, dirty_count, read_from, written_at};
 ghost use Rattle.thy_cache.specs.Flat.{flat, Agrees, PeeksSame, HitsSame, ReadsAs, AgreesWithAll, ReadsAsStore, KeepsLines, IsWritten};
 
-use crate::line::{Flushed, Line, LinePlace, Victim};
+use crate::line::{Flushed, Line, LineLocation, Victim};
 use crate::modulus::Modulus;
 use crate::ways::{WaySet, empty_sets};
 use std::alloc::{AllocError, Global};
@@ -76,29 +76,29 @@ impl Cache {
         self.sets[set].line_of(b)
     }
 
-    /// The place of the line of block `b`, if the cache has one.
+    /// The location of the line of block `b`, if the cache has one.
     #[inline(always)]
-    pub fn find(&self, b: u64) -> Option<LinePlace>
-        ensures place { result ≡ place_of self.now b }
+    pub fn find(&self, b: u64) -> Option<LineLocation>
+        ensures location { result ≡ location_of self.now b }
         ensures hit { is_some result ≡ hits self.now b }
     {
         let set = self.index_of(b);
         match self.sets[set].way_of(b) {
-            Some(way) => Some(LinePlace { set, way }),
+            Some(way) => Some(LineLocation { set, way }),
             None => None,
         }
     }
 
-    /// The place of the line of block `b`, if no other line of its set was used after it, as is mostly so: a caller for whom the
+    /// The location of the line of block `b`, if no other line of its set was used after it, as is mostly so: a caller for whom the
     /// rest is rare asks for this first.
     #[inline(always)]
-    pub fn latest(&self, b: u64) -> Option<LinePlace>
-        ensures place { IfSome result (λ place. place_of self.now b ≡ Some place) }
-        ensures hit { IfSome result (λ place. hits self.now b ≡ true) }
+    pub fn latest(&self, b: u64) -> Option<LineLocation>
+        ensures location { IfSome result (λ location. location_of self.now b ≡ Some location) }
+        ensures hit { IfSome result (λ location. hits self.now b ≡ true) }
     {
         let set = self.index_of(b);
         match self.sets[set].latest_of(b) {
-            Some(way) => Some(LinePlace { set, way }),
+            Some(way) => Some(LineLocation { set, way }),
             None => None,
         }
     }
@@ -134,89 +134,89 @@ impl Cache {
         }
     }
 
-    /// Notes that the line of block `b`, which is at this place, was used.
+    /// Notes that the line of block `b`, which is at this location, was used.
     #[inline(always)]
-    fn use_line(&mut self, b: u64, place: LinePlace)
-        requires { place_of self.old b ≡ Some place }
+    fn use_line(&mut self, b: u64, location: LineLocation)
+        requires { location_of self.old b ≡ Some location }
         ensures cache { self.new ≡ read_from b self.old }
         ensures inside { index_of self.old b < length self.old.sets }
     {
-        self.sets[place.set].touch(place.way);
+        self.sets[location.set].touch(location.way);
     }
 
-    /// The line of block `b`, which is at this place, where it stands.
+    /// The line of block `b`, which is at this location, where it stands.
     #[inline(always)]
-    fn line_in(&self, b: u64, place: LinePlace) -> &Line
-        requires { place_of self.now b ≡ Some place }
+    fn line_in(&self, b: u64, location: LineLocation) -> &Line
+        requires { location_of self.now b ≡ Some location }
         ensures { line_of self.now b ≡ Some result.now }
     {
-        match self.sets[place.set].line_ref(place.way) {
+        match self.sets[location.set].line_ref(location.way) {
             Some(line) => line,
             None => unreachable!(),
         }
     }
 
-    /// Block `b`, whose line is at this place, where it stands. It does not count as a use: `touch` makes it one.
+    /// Block `b`, whose line is at this location, where it stands. It does not count as a use: `touch` makes it one.
     #[inline(always)]
-    pub fn block_in(&self, b: u64, place: LinePlace) -> &Block
-        requires { place_of self.now b ≡ Some place }
+    pub fn block_in(&self, b: u64, location: LineLocation) -> &Block
+        requires { location_of self.now b ≡ Some location }
         ensures block { peeked self.now b ≡ Some result.now }
         ensures reads { ReadsAs self.now b result.now }
     {
-        let line = self.line_in(b, place);
+        let line = self.line_in(b, location);
         &line.block
     }
 
-    /// Uses block `b`, whose line is at this place. It is now the most recently used of its set.
+    /// Uses block `b`, whose line is at this location. It is now the most recently used of its set.
     #[inline(always)]
-    pub fn touch(&mut self, b: u64, place: LinePlace)
-        requires { place_of self.old b ≡ Some place }
+    pub fn touch(&mut self, b: u64, location: LineLocation)
+        requires { location_of self.old b ≡ Some location }
         ensures cache { self.new ≡ read_from b self.old }
         ensures lines { KeepsLines self.old self.new }
     {
-        self.use_line(b, place);
+        self.use_line(b, location);
     }
 
-    /// Block `b`, whose line is at this place. It is now the most recently used of its set.
-    pub fn read_at(&mut self, b: u64, place: LinePlace) -> Block
-        requires { place_of self.old b ≡ Some place }
+    /// Block `b`, whose line is at this location. It is now the most recently used of its set.
+    pub fn read_at(&mut self, b: u64, location: LineLocation) -> Block
+        requires { location_of self.old b ≡ Some location }
         ensures block { peeked self.old b ≡ Some result }
         ensures reads { ReadsAs self.old b result }
         ensures cache { self.new ≡ read_from b self.old }
         ensures lines { KeepsLines self.old self.new }
     {
-        let block = self.line_in(b, place).block;
-        self.use_line(b, place);
+        let block = self.line_in(b, location).block;
+        self.use_line(b, location);
         block
     }
 
-    /// Writes bytes over block `b`, whose line is at this place, from byte `at` on. It is dirty then, and
+    /// Writes bytes over block `b`, whose line is at this location, from byte `at` on. It is dirty then, and
     /// the most recently used of its set.
-    pub fn write_at(&mut self, b: u64, place: LinePlace, at: u64, bytes: &[u8])
-        requires place { place_of self.old b ≡ Some place }
+    pub fn write_at(&mut self, b: u64, location: LineLocation, at: u64, bytes: &[u8])
+        requires location { location_of self.old b ≡ Some location }
         requires within { at + length bytes.now ≤ 64 }
         ensures cache { self.new ≡ written_at b at bytes.now self.old }
         ensures lines { IsWritten b at bytes.now self.old self.new }
     {
-        self.write_line(b, place, at as usize, bytes);
+        self.write_line(b, location, at as usize, bytes);
     }
 
-    /// Writes bytes over the line of block `b`, which is at this place, from byte `at` on.
-    fn write_line(&mut self, b: u64, place: LinePlace, at: usize, bytes: &[u8])
-        requires place { place_of self.old b ≡ Some place }
+    /// Writes bytes over the line of block `b`, which is at this location, from byte `at` on.
+    fn write_line(&mut self, b: u64, location: LineLocation, at: usize, bytes: &[u8])
+        requires location { location_of self.old b ≡ Some location }
         requires within { at + length bytes.now ≤ 64 }
         ensures cache { self.new ≡ written_at b at bytes.now self.old }
         ensures inside { index_of self.old b < length self.old.sets }
     {
-        let was_dirty = self.line_in(b, place).dirty;
-        self.sets[place.set].write(place.way, at, bytes);
+        let was_dirty = self.line_in(b, location).dirty;
+        self.sets[location.set].write(location.way, at, bytes);
         if !was_dirty {
             self.dirty += 1;
         }
     }
 
     /// Loads block `b`, which does not hit, into the way of its victim, as a clean line.
-    fn place(&mut self, b: u64, block: &Block)
+    fn location(&mut self, b: u64, block: &Block)
         requires room { is_dirty (victim_line_of self.old b) ≡ false }
         requires miss { hits self.old b ≡ false }
         ensures cache { self.new ≡ filled_with b block.now self.old }
@@ -260,7 +260,7 @@ impl Cache {
         ensures cause { CountsOneFault result (S.holding store.old nvm.old).faults (S.holding store.new nvm.new).faults }
     {
         let block = store.load(b, nvm)?;
-        self.place(b, &block);
+        self.location(b, &block);
         Ok(())
     }
 
@@ -360,12 +360,12 @@ impl Cache {
         ensures stays { S.stays store.old nvm.old store.new nvm.new }
         ensures cause { CountsOneFault result (S.holding store.old nvm.old).faults (S.holding store.new nvm.new).faults }
     {
-        let (set, way) = self.victim_place(b);
+        let (set, way) = self.victim_location(b);
         self.store_line(set, way, store, nvm)
     }
 
     /// The set of block `b`, and the way in it for the next line.
-    fn victim_place(&self, b: u64) -> (usize, usize)
+    fn victim_location(&self, b: u64) -> (usize, usize)
         ensures set { result.0 ≡ index_of self.now b }
         ensures inside { result.0 < length self.now.sets }
         ensures way { result.1 ≡ victim_way (set_of self.now b) }
@@ -425,12 +425,12 @@ impl Cache {
     fn dirty_place(&self) -> Option<(usize, usize)>
         ensures none { IfNone result (dirty_count self.now ≡ 0) }
         ensures clean { IfNone result (HasNoneDirty self.now) }
-        ensures some { IfSome result (λ place. 0 < dirty_count self.now) }
-        ensures set { IfSome result (λ place. place.0 ≡ dirty_set self.now) }
-        ensures inside { IfSome result (λ place. place.0 < length self.now.sets) }
-        ensures way { IfSome result (λ place. place.1 ≡ dirty_way self.now) }
-        ensures dirty { IfSome result (λ place. is_dirty (line_at (set_at self.now place.0) place.1) ≡ true) }
-        ensures first { IfSome result (λ place. dirty_line self.now ≡ line_at (set_at self.now place.0) place.1) }
+        ensures some { IfSome result (λ location. 0 < dirty_count self.now) }
+        ensures set { IfSome result (λ location. location.0 ≡ dirty_set self.now) }
+        ensures inside { IfSome result (λ location. location.0 < length self.now.sets) }
+        ensures way { IfSome result (λ location. location.1 ≡ dirty_way self.now) }
+        ensures dirty { IfSome result (λ location. is_dirty (line_at (set_at self.now location.0) location.1) ≡ true) }
+        ensures first { IfSome result (λ location. dirty_line self.now ≡ line_at (set_at self.now location.0) location.1) }
     {
         match self.dirty_set() {
             None => None,

@@ -12,4 +12,4 @@ mod modulus;
 mod ways;
 
 pub use cache::Cache;
-pub use line::{Flushed, Line, LinePlace, Victim};
+pub use line::{Flushed, Line, LineLocation, Victim};

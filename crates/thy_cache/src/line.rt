@@ -15,7 +15,7 @@ pub struct Line {
 
 /// Where a cache has the line of a block.
 #[derive(Clone, Copy, Debug, PartialEq, Eq)]
-pub struct LinePlace {
+pub struct LineLocation {
     /// The number of the line's set.
     pub set: usize,
     /// The way of the line in its set.

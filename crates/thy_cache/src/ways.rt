@@ -156,8 +156,8 @@ impl WaySet {
     }
 
     /// The place of a way in the order.
-    fn place_of(&self, way: usize) -> Option<usize>
-        ensures place { result ≡ position (λ other. other == way) self.now.order }
+    fn order_of(&self, way: usize) -> Option<usize>
+        ensures location { result ≡ position (λ other. other == way) self.now.order }
         ensures inside { IfSome result (λ at. at < length self.now.order) }
     {
         self.order.iter().position(|other| *other == way)
@@ -188,7 +188,7 @@ impl WaySet {
         requires { way < length self.old.lines }
         ensures { self.new ≡ used way self.old }
     {
-        if let Some(at) = self.place_of(way) {
+        if let Some(at) = self.order_of(way) {
             move_last(&mut self.order, at, way);
             self.latest = way;
         }

@@ -23,10 +23,10 @@ use Rattle.thy_view.specs.Safe.{ceiling}
 use Rattle.thy_view.specs.declared.did.Did.TheVariants.{Restarted as HasRestarted}
 use Rattle.thy_view.specs.declared.view.Phase.TheVariants.{Boot as BootPhase}
 use Rattle.thy_view.specs.Moves.{standing, IsKeeping, Move, Goes, Standing, Seals}
-use Rattle.thy_view.proofs.KeepsLemmas.{IsKeeping-move, finding_view-told}
+use Rattle.thy_view.proofs.KeepsLemmas.{IsKeeping-move, finding_view-meant}
 use Rattle.thy_view.specs.Rounds.{saved_in, HasWrittenBefore}
 use Rattle.thy_view.proofs.RoundLemmas.{drain_keeps_written}
-use Rattle.thy_view.specs.Keeps.{Keeps, Tells, finding_view}
+use Rattle.thy_view.specs.Keeps.{Keeps, HasKept, finding_view}
 use Rattle.thy_view.specs.declared.round.Round.{Round}
 use Rattle.thy_view.specs.declared.round.Round.TheVariants.{Write}
 use Rattle.thy_view.specs.Round.{is_written}
@@ -149,11 +149,11 @@ module _ {C : Type 0} (F : FillingOf C) (laws : IsFilling F) where
 
 -- ---- what an image means to a run
 
-found-none : (o : Origin) (l : Layout) (before : List Block) (kept : Option Mark) → Tells o l before kept → decode_by l ceiling before ≡ Nothing → kept ≡ None
+found-none : (o : Origin) (l : Layout) (before : List Block) (kept : Option Mark) → HasKept o l before kept → decode_by l ceiling before ≡ Nothing → kept ≡ None
 found-none o l before None t e = refl
 found-none o l before (Some m) is e = let both : Nothing ≡ At m.epoch (at o m.count) = sym e ∙ is.decodes in absurd (cc)
 
-pub never-bad : (o : Origin) (l : Layout) (before : List Block) (kept : Option Mark) (bad : BadImage) → Tells o l before kept → decode_by l ceiling before ≡ IsRefused bad → ⊥
+pub never-bad : (o : Origin) (l : Layout) (before : List Block) (kept : Option Mark) (bad : BadImage) → HasKept o l before kept → decode_by l ceiling before ≡ IsRefused bad → ⊥
 never-bad o l before None bad t e = let both : Nothing ≡ IsRefused bad = sym t.0 ∙ e in absurd (cc)
 never-bad o l before (Some m) bad is e = let both : At m.epoch (at o m.count) ≡ IsRefused bad = sym is.decodes ∙ e in absurd (cc)
 
@@ -166,7 +166,7 @@ pub record IsFoundAt (o : Origin) (kept : Option Mark) (epoch : ℕ) (state : St
   pub counted : (at o m.count).count ≡ m.count
 
 found-mark : (o : Origin) (l : Layout) (before : List Block) (kept : Option Mark) (epoch : ℕ) (state : State)
-    → Tells o l before kept → decode_by l ceiling before ≡ At epoch state → IsFoundAt o kept epoch state
+    → HasKept o l before kept → decode_by l ceiling before ≡ At epoch state → IsFoundAt o kept epoch state
 found-mark o l before None epoch state t e = let both : Nothing ≡ At epoch state = sym t.0 ∙ e in absurd (cc)
 found-mark o l before (Some m) epoch state is e =
     let both : At m.epoch (at o m.count) ≡ At epoch state = sym is.decodes ∙ e in
@@ -186,18 +186,18 @@ restores o m = record { phase = refl; done = refl; unsealed = refl; unwritten = 
 
 module _ {C : Type 0} (F : FillingOf C) (laws : IsFilling F) where
   module _ (o : Origin) (g : BootImages) (m : Device) (d : Booting) (e : C) (before_is : g.before ≡ m.image)
-      (same : d.p ≡ o.geometry) (told : Tells o (layout_for F o) g.before g.kept) (read : HasRead F m d e) where
+      (same : d.p ≡ o.geometry) (meant : HasKept o (layout_for F o) g.before g.kept) (read : HasRead F m d e) where
     pub decoded : (x : Decoded) → decode_by (layout_in F d) ceiling m.image ≡ x → decode_by (layout_for F o) ceiling g.before ≡ x
     decoded x h = ap (decode_by (layout_for F o) ceiling) before_is ∙ ap (λ (p : Parameters). decode_by (layout_at F p) ceiling m.image) (sym same) ∙ h
 
     none_kept : decode_by (layout_in F d) ceiling m.image ≡ Nothing → g.kept ≡ None
-    none_kept h = found-none o (layout_for F o) g.before g.kept told (decoded Nothing h)
+    none_kept h = found-none o (layout_for F o) g.before g.kept meant (decoded Nothing h)
 
     -- what was found at a restart
     pub found-restored : IsRestored F m d e → IsFoundAt o g.kept (epoch_of d.commit) (state_by (layout_in F d) (slot_read F d) (F.loads e m))
     found-restored f =
         let state : State = state_by (layout_in F d) (slot_read F d) (F.loads e m) in
-        found-mark o (layout_for F o) g.before g.kept (epoch_of d.commit) state told (decoded (At (epoch_of d.commit) state) f.found)
+        found-mark o (layout_for F o) g.before g.kept (epoch_of d.commit) state meant (decoded (At (epoch_of d.commit) state) f.found)
 
     -- a read is a move; with the last one before a migration that seals the mark that is kept
     pub read-moves : (n : Device) → m ≡ n → (q : Stage) → HasReadAt F q m d e → Move o (layout_for F o) (reading_of o g n) (standing_in_boot o q g m)
@@ -256,7 +256,7 @@ module _ {C : Type 0} (F : FillingOf C) (laws : IsFilling F) where
     Shows q = CoreStep o (finding_view o.start.count g.kept) (boot_did (answer_at F q d)) (seen_at o g.kept q)
 
     pub shows : (q : Stage) → HasReadAt F q m d e → Shows q
-    shows (Reads (Refusing bad)) f = absurd (never-bad o (layout_for F o) g.before g.kept bad told (decoded (IsRefused bad) f))
+    shows (Reads (Refusing bad)) f = absurd (never-bad o (layout_for F o) g.before g.kept bad meant (decoded (IsRefused bad) f))
     shows (Loads r) f =
         let same_view : record (loading_view o.start.count) { written = is_written r } ≡ finding_view o.start.count g.kept
         = ap (λ (q : Round). record (loading_view o.start.count) { written = is_written q }) f.2 ∙ ap (finding_view o.start.count) (sym (none_kept f.1)) in
@@ -280,7 +280,7 @@ module _ {C : Type 0} (F : FillingOf C) (laws : IsFilling F) where
       let rec : IsRecovering F g n b c = subst (λ (q : Stage). IsSoundAt F o q g n b c) is sound.so_far in
       let k : IsKeeping o (layout_for F o) (reading_of o g n) = subst (λ (q : Stage). IsKeeping o (layout_for F o) (standing_in_boot o q g n)) is sound.keeps in
       ap (seen_at o g.kept) is
-      ∙ sym (finding_view-told o (layout_for F o) g.before g.kept o.start.count k.told)
+      ∙ sym (finding_view-meant o (layout_for F o) g.before g.kept o.start.count k.meant)
       ∙ ap (λ (h : List Block). view_of_image o.start.count (decode_by (layout_for F o) ceiling h)) rec.before_is
 
   -- ---- its end
@@ -290,7 +290,7 @@ module _ {C : Type 0} (F : FillingOf C) (laws : IsFilling F) where
       let rec : IsRecovering F g n b c = subst (λ (q : Stage). IsSoundAt F o q g n b c) is sound.so_far in
       let k : IsKeeping o (layout_for F o) (reading_of o g n) = subst (λ (q : Stage). IsKeeping o (layout_for F o) (standing_in_boot o q g n)) is sound.keeps in
       let f : IsFoundNew F n b c = subst (λ (q : Stage). HasReadAt F q n b c) is rec.read.so_far in
-      let found = found-restored o g n b c rec.before_is sound.geometry k.told rec.read f.restored in
+      let found = found-restored o g n b c rec.before_is sound.geometry k.meant rec.read f.restored in
       let keeps : Keeps o (layout_for F o) n (Kept g.before) (Some found.m) None
       = subst (λ (x : Option Mark). Keeps o (layout_for F o) n (Kept g.before) x (sealed_by o x)) found.kept_is k in
       (found.m, found.kept_is, found.epoch_is, keeps, found.state_is, f.restored, f.stated)
@@ -300,4 +300,4 @@ module _ {C : Type 0} (F : FillingOf C) (laws : IsFilling F) where
       let at : IsRecovering F g n b c = subst (λ (q : Stage). IsSoundAt F o q g n b c) is sound.so_far in
       let k : IsKeeping o (layout_for F o) (reading_of o g n) = subst (λ (q : Stage). IsKeeping o (layout_for F o) (standing_in_boot o q g n)) is sound.keeps in
       let f : decode_by (layout_in F b) ceiling n.image ≡ IsRefused bad = subst (λ (q : Stage). HasReadAt F q n b c) is at.read.so_far in
-      never-bad o (layout_for F o) g.before g.kept bad k.told (decoded o g n b c at.before_is sound.geometry k.told at.read (IsRefused bad) f)
+      never-bad o (layout_for F o) g.before g.kept bad k.meant (decoded o g n b c at.before_is sound.geometry k.meant at.read (IsRefused bad) f)

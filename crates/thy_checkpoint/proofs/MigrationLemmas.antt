@@ -21,7 +21,7 @@ use Rattle.thy_view.specs.Safe.{ceiling}
 use Rattle.thy_view.specs.declared.round.Round.{Round}
 use Rattle.thy_view.specs.declared.round.Round.TheVariants.{Write, Settle, Commit, Confirm}
 use Rattle.thy_view.specs.Issuing.{slot_of, AreIssued}
-use Rattle.thy_view.specs.Keeps.{IsOf, Tells}
+use Rattle.thy_view.specs.Keeps.{IsOf, HasKept}
 use Rattle.thy_view.specs.Moves.{IsKeeping, Move, Standing, standing}
 use Rattle.thy_view.specs.Round.{RoundWrites, IsInRound, round_action, next_round}
 use Rattle.thy_view.specs.Rounds.{made_after, standing_then, MayTake, AreApart, HasWritten, HasWrittenBefore, HasWrittenThen, saved_in, saved_after_fault, AreIssuedBefore, AreIssuedThen}
@@ -91,11 +91,11 @@ module _ {C : Type 0} (F : FillingOf C) (laws : IsFilling F) (o : Origin) (can :
     may_load = by_round r inside keeps made stood where
       by_round : (r : Round) → IsInRound ws.blocks r → IsKeeping o ly (standing_in_boot o (Loads r) g n) → IsMade o ly f r g.next → HasWrittenBefore ws r n
           → MayTake o ly (start_mark o) ws r g.before g.next n
-      by_round (Write k) inside keeps made stood = alone ly g.before (ws.place k) keeps.told.0 (apart.elsewhere k inside)
+      by_round (Write k) inside keeps made stood = alone ly g.before (ws.place k) keeps.meant.0 (apart.elsewhere k inside)
       by_round Settle inside keeps made stood = let next = whole n keeps.sized stood in (next.0, next.1)
       by_round Commit inside keeps made stood = (
         made.commit,
-        subst (λ (b : Block). IsOneWordApart b ws.commit) (sym (nothing-stated ly ceiling g.before keeps.told.0.0)) (one_word-first (commit_magic VersionTwo)),
+        subst (λ (b : Block). IsOneWordApart b ws.commit) (sym (nothing-stated ly ceiling g.before keeps.meant.0.0)) (one_word-first (commit_magic VersionTwo)),
       )
       by_round Confirm inside keeps made stood = (made.commit, stood.1)
 
@@ -203,13 +203,13 @@ module _ {C : Type 0} (F : FillingOf C) (laws : IsFilling F) where
     made : (is : IsMigrating F o Settle g n b c) → IsKeeping o lay (standing_in_boot o (Migrates Settle) g n)
         → IsAnew o lay is.m new_commit (renewed_parts F b) (next_image n new_commit)
     made is keeps =
-        let told : IsOf o lay g.before is.m = subst (λ (k : Option Mark). Tells o lay g.before k) is.kept keeps.told in
+        let meant : IsOf o lay g.before is.m = subst (λ (k : Option Mark). HasKept o lay g.before k) is.kept keeps.meant in
         record {
           of = record {
             decodes = next-decodes F laws b c same g.before is.listed is.version n is.header is.issued
                 ∙ ap (λ (e : ℕ). At e (state_by lay (slot_read F b) (F.loads c n))) is.epoch
                 ∙ ap (At is.m.epoch) is.state;
-            counted = told.counted;
+            counted = meant.counted;
           };
           commit_is = next-commit F laws b c same g.before is.listed is.version n is.header is.issued;
           header = next-header F laws b c same g.before is.listed is.version n is.header is.issued;
@@ -223,10 +223,10 @@ module _ {C : Type 0} (F : FillingOf C) (laws : IsFilling F) where
     may_take Settle is keeps = ((made is keeps).of, next-issued F laws b c same g.before is.listed is.version n is.header is.issued)
     may_take Commit is keeps =
         let new : IsAnew o lay is.m new_commit (renewed_parts F b) g.next = is.made.0 in
-        let told : IsOf o lay g.before is.m = subst (λ (k : Option Mark). Tells o lay g.before k) is.kept keeps.told.0 in (
+        let meant : IsOf o lay g.before is.m = subst (λ (k : Option Mark). HasKept o lay g.before k) is.kept keeps.meant.0 in (
           new.commit_is,
           subst (IsOneWordApart (block_at g.before 1)) new.commit_is
-              (one_word-between lay ceiling g.before g.next is.m.epoch is.m.epoch (at o is.m.count) (at o is.m.count) told.decodes new.of.decodes (inr refl)),
+              (one_word-between lay ceiling g.before g.next is.m.epoch is.m.epoch (at o is.m.count) (at o is.m.count) meant.decodes new.of.decodes (inr refl)),
         )
     may_take Confirm is keeps = (is.made.0.commit_is, is.issued.1)
 

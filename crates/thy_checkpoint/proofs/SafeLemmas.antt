@@ -49,11 +49,11 @@ use Rattle.thy_checkpoint.proofs.MigrationLemmas.{migration_fails, apart, load_f
 
 module _ {C : Type 0} (F : FillingOf C) (laws : IsFilling F) where
   pub new_is_sound : NewIsSound F
-  new_is_sound o g n c fresh same before_is sized settled told = record {
+  new_is_sound o g n c fresh same before_is sized settled meant = record {
     geometry = refl;
     same_p = same;
     keeps = subst (λ (h : List Block). Keeps o (layout_for F o) n (Kept h) g.kept (sealed_by o g.kept)) (sym before_is)
-        (Keeps-empty o (layout_for F o) n g.kept (sealed_by o g.kept) sized settled told);
+        (Keeps-empty o (layout_for F o) n g.kept (sealed_by o g.kept) sized settled meant);
     so_far = record { before_is = before_is; read = HasRead-new F o.geometry n c fresh same sized settled };
   }
 
@@ -316,15 +316,15 @@ module _ {C : Type 0} (F : FillingOf C) (laws : IsFilling F) where
         let before_is : g.before ≡ m.image = rec.before_is ∙ ap (λ (x : Device). x.image) (sym on.device) in
         let same : d.p ≡ o.geometry = on.same_p ∙ geometry in
         let move : Move o (layout_for F o) (reading_of o g n) (standing_in_boot o d.stage g m)
-        = read-moves F laws o g m d e before_is same k.told on.read n on.device d.stage on.read.so_far in (
+        = read-moves F laws o g m d e before_is same k.meant on.read n on.device d.stage on.read.so_far in (
           move,
           record {
             geometry = same;
             same_p = on.read.same_p ∙ same;
             keeps = IsKeeping-move o (layout_for F o) (reading_of o g n) (standing_in_boot o d.stage g m) move k;
-            so_far = found-sound F laws o g m d e before_is same k.told on.read d.stage on.read.so_far;
+            so_far = found-sound F laws o g m d e before_is same k.meant on.read d.stage on.read.so_far;
           },
-          shows F laws o g m d e before_is same k.told on.read d.stage on.read.so_far,
+          shows F laws o g m d e before_is same k.meant on.read d.stage on.read.so_far,
         )
 
     abbrev f : First
@@ -383,7 +383,7 @@ module _ {C : Type 0} (F : FillingOf C) (laws : IsFilling F) where
           → CoreStep o (seen_at o g.kept (Migrates k)) (boot_did (answer_of F (migrated_by F k b))) (seen_at o g.kept (migrated_by F k b).stage))
       by_round Confirm keeps sound =
           shows F laws o (images_after (first_of F o) (Migrates Confirm) n g) (settled n) (migrated_by F Confirm b) c
-          sound.before_is geometry keeps.told sound.read (Over Restored) sound.read.so_far
+          sound.before_is geometry keeps.meant sound.read (Over Restored) sound.read.so_far
       by_round k keeps sound = (boots o.start.count g.kept, inl refl)
 
     migration_outcome : (b : Booting) → b.p ≡ o.geometry → IsKeeping o (layout_for F o) (standing_in_boot o (Migrates r) g n) → IsMigrating F o r g n b c

@@ -17,7 +17,7 @@ use Rattle.thy_view.specs.Dram.{ActsOnDram}
 use Rattle.thy_view.specs.Origin.{Origin, IsOrigin, at}
 use Rattle.thy_view.specs.Safe.{ceiling, Safe}
 use Rattle.thy_view.specs.Views.{doubt_of}
-use Rattle.thy_view.specs.Keeps.{Keeps, Tells}
+use Rattle.thy_view.specs.Keeps.{Keeps, HasKept}
 use Rattle.thy_layout.specs.Layout.{state_by, decode_by, reading}
 use Rattle.thy_view.specs.Moves.{Standing, standing, Move}
 use Rattle.thy_checkpoint.specs.declared.boot_stage.Stage.{Stage}
@@ -47,7 +47,7 @@ abbrev pub NewIsSound : {C : Type 0} → FillingOf C → Type 0
 NewIsSound {C} F =
     (o : Origin) (g : BootImages) (n : Device) (c : C)
     → F.fresh c → F.p c ≡ o.geometry → g.before ≡ n.image → length n.image ≡ (layout_for F o).image_blocks → n.queue ≡ []
-    → Tells o (layout_for F o) n.image g.kept → IsSoundBoot F o g n (new_boot F o.geometry) c
+    → HasKept o (layout_for F o) n.image g.kept → IsSoundBoot F o g n (new_boot F o.geometry) c
 
 -- the boot is not over
 abbrev pub IsGoing : Stage → Type 0

@@ -86,12 +86,12 @@ pub record Fits {C : Type 0} (F : FillingOf C) (I : ItemsOf C) (e : Progress) (c
 
 -- ---- items
 
--- what one cycle does
+-- what one cycle does, by the numbers of the actions in docs/CONTROLLER.md
 pub data Item : Type 0 where
   NoItem : Item
-  -- a position of the body
+  -- a position of the body: actions 1 and 2
   BodyItem : (k : ℕ) → Item
-  -- an action of the round that writes the slot
+  -- an action of the round that writes the slot: actions 3 to 7
   RoundItem : (r : Round) → Item
   -- a position of the tail, and the barrier after the last
   TailItem : (k : ℕ) → Item

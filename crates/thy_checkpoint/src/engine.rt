@@ -68,7 +68,7 @@ impl Engine {
     }
 
     /// The engine has the registers.
-    pub fn sound(&self)
+    pub fn recall_sound(&self)
         ensures { length self.now.cpu.regs ≡ 32 }
     {
         let _cpu = &self.cpu;
@@ -166,7 +166,8 @@ impl Engine {
         }
     }
 
-    /// Writes the first position of the body from one on; if there is none, the slot's first block.
+    /// Writes the first position of the body from one on, actions 1 and 2 of a checkpoint in docs/CONTROLLER.md; if there is
+    /// none, the slot's first block.
     fn write_body<E: Checkpoints, N: Nvm>(
         &self,
         from: u64,
@@ -231,11 +232,14 @@ impl Engine {
             Takes (round_action w round) result (N.device nvm.old) (N.device nvm.new) }
     {
         match round {
+            // actions 3 and 4 of a checkpoint
             Round::Write(k) => {
                 let at = self.slot_at::<E>(k);
                 nvm.write(at, &self.slot_block::<E>(k, control))
             }
+            // actions 5 and 7
             Round::Settle | Round::Confirm => nvm.barrier(),
+            // action 6
             Round::Commit => nvm.write(COMMIT_PLACE, &commit_block(self.epoch)),
         }
     }

@@ -2,7 +2,7 @@
 //! contract of `thynvm` is the theorem of this repository: `Claim`, which is `Answered` and complete.
 //!
 //! Open src/top.rt first, then specs/Completing.antt (`Claim`), and of thy_answer specs/Orders.antt (`Answered`) and
-//! specs/Answering.antt. It depends on thy_core, thy_dual, thy_journal and thy_shadow, whose machines it names, on
+//! specs/Answering.antt. It depends on thy_core, thy_thynvm, thy_journal and thy_shadow, whose machines it names, on
 //! thy_commands, which does what the arguments ask for, on thy_answer, and on their dependencies; the programs and the tests
 //! of whole runs depend on it.
 #![tactic(auto)]

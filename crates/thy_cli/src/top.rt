@@ -11,10 +11,10 @@ use thy_answer::Answer;
 use thy_block::{Nvm, Shelf, Sink};
 use thy_commands::carry_out;
 use thy_core::Machine;
-use thy_dual::DualScheme;
 use thy_journal::Journal;
 use thy_run::{Observer, Silent};
 use thy_shadow::Shadow;
+use thy_thynvm::Thynvm;
 use thy_view::Computer;
 
 /// Does what the arguments after the program's name ask for, and keeps the claim of this project (`docs/THEOREM.md`):
@@ -51,7 +51,7 @@ pub fn thynvm<H: Shelf, T: Sink, R: Sink, N: Nvm>(
         let after = around (H.stock shelf.new) nvm.new
         (T.stream terminal.new) (R.stream report.new) in
         let nvms = nvm_of N.device N.writes in
-        let machines = by_scheme ⟦<Machine<DualScheme> as Computer>⟧.kind
+        let machines = by_scheme ⟦<Machine<Thynvm> as Computer>⟧.kind
         ⟦<Machine<Journal> as Computer>⟧.kind
         ⟦<Machine<Shadow> as Computer>⟧.kind in
         Claim machines nvms (map string_bytes words.now) before after result }
@@ -80,13 +80,13 @@ pub fn observed<H: Shelf, T: Sink, R: Sink, N: Nvm, O: Observer>(
         let after = around (H.stock shelf.new) nvm.new
         (T.stream terminal.new) (R.stream report.new) in
         let nvms = nvm_of N.device N.writes in
-        let machines = by_scheme ⟦<Machine<DualScheme> as Computer>⟧.kind
+        let machines = by_scheme ⟦<Machine<Thynvm> as Computer>⟧.kind
         ⟦<Machine<Journal> as Computer>⟧.kind
         ⟦<Machine<Shadow> as Computer>⟧.kind in
         let words = map string_bytes words.now in
         ClaimSeen machines nvms O.has_seen O.has_seen_last words before after result observer.new }
 {
-    carry_out::<Machine<DualScheme>, Machine<Journal>, Machine<Shadow>, H, T, R, N, O>(
+    carry_out::<Machine<Thynvm>, Machine<Journal>, Machine<Shadow>, H, T, R, N, O>(
         alloc, words, shelf, terminal, report, nvm, observer,
     )
 }

@@ -10,14 +10,14 @@ use Rattle.thy_isa.specs.Step.{State, is_running, steps}
 use Rattle.thy_text.specs.Event.{Event, Scheme, EpochEnd, Commit, Cut, Restart, Reload, Ended}
 use Rattle.thy_text.specs.History.{all_of}
 use Rattle.thy_text.specs.Marks.{Course, Marks, AllLawful, loading_marks, marks_after, marks_from}
-use Rattle.thy_text.specs.OneHart.{Counts, LawfulAt, AllLawfulAt, IsUntold, counts_of}
+use Rattle.thy_text.specs.OneHart.{Counts, LawfulAt, AllLawfulAt, HasNoTurns, counts_of}
 use Rattle.thy_text.proofs.Histories.{AllLawful-append}
 use Rattle.thy_text.proofs.OneHartLaws.{to-counts}
 use Rattle.thy_view.specs.Origin.{Origin, at, setting_of}
-use Rattle.thy_words.specs.Settings.{Job}
+use Rattle.thy_arguments.specs.Settings.{Job}
 use Rattle.thy_run.specs.Laws.{course_of, first_marks, marks_at}
 use Rattle.thy_run.specs.declared.plan.Plan.{Plan}
-use Rattle.thy_run.proofs.PromiseLaws.{first_untold}
+use Rattle.thy_run.proofs.PromiseLaws.{first_without_turns}
 use Rattle.thy_answer.specs.declared.answer.Answer.{Answer}
 use Rattle.thy_answer.specs.Answering.{Around, NvmOf}
 use Rattle.thy_commands.specs.Compared.{Compares, IsPlanFor}
@@ -61,10 +61,10 @@ last_among c m events status count cycle s h there =
     All-contains (EndsAs c) events (Ended status count cycle s) (All-from_recursion (EndsAs c) events (all_end_as c m events h)) there
 
 -- with one hart any two ends have the same state
-ends_alike : (o : Origin) (m : Marks) (events : List Event) → o.geometry.harts ≡ 1 → IsUntold m → AllLawful (course_of o) m events → EndAlike events
-ends_alike o m events one_hart untold all = λ a b k l cycle other s t one two.
+ends_alike : (o : Origin) (m : Marks) (events : List Event) → o.geometry.harts ≡ 1 → HasNoTurns m → AllLawful (course_of o) m events → EndAlike events
+ends_alike o m events one_hart unlisted all = λ a b k l cycle other s t one two.
     let c : Counts = counts_of (course_of o) in
-    let by_counts : AllLawfulAt c m events = to-counts (course_of o) m events one_hart untold all in
+    let by_counts : AllLawfulAt c m events = to-counts (course_of o) m events one_hart unlisted all in
     let first : IsLast c s = last_among c m events a k cycle s by_counts one in
     let second : IsLast c t = last_among c m events b l other t by_counts two in
     let there : c.at first.count ≡ steps (setting_of o) (first.count - o.start.count) o.start = at_is (record o { turns = [] }) first.count refl in
@@ -148,5 +148,5 @@ IsComparison-compares c d name job plan before after a p plans compares =
       status = all.3;
       cycles = all.4;
       events_lawful = lawful;
-      ends_alike = λ one. ends_alike o (first_marks o) (all_of a.events) one (first_untold o.start.count o.kept) lawful;
+      ends_alike = λ one. ends_alike o (first_marks o) (all_of a.events) one (first_without_turns o.start.count o.kept) lawful;
     }

@@ -2,9 +2,9 @@
 use Rattle.std.proofs.Common.{◌≡◌, ℕ, ◌-◌, List, subst}
 use Rattle.std.specs.Prelude.{Err}
 use Rattle.thy_isa.specs.Step.{State}
-use Rattle.thy_words.specs.declared.words.WordsError.{WordsError}
-use Rattle.thy_words.specs.declared.words.WordsError.TheVariants.{Usage, Word, Value, Memory as WordsMemory}
-use Rattle.thy_words.specs.Settings.{Job, settings_of, order_of, ShowsOrMemory}
+use Rattle.thy_arguments.specs.declared.words.WordsError.{WordsError}
+use Rattle.thy_arguments.specs.declared.words.WordsError.TheVariants.{Usage, Word, Value, Memory as WordsMemory}
+use Rattle.thy_arguments.specs.Settings.{Job, settings_of, order_of, ShowsOrMemory}
 use Rattle.thy_view.specs.Kind.{KindOf}
 use Rattle.thy_answer.specs.declared.answer.Answer.{Answer}
 use Rattle.thy_answer.specs.Answering.{Outside, WordsDue}

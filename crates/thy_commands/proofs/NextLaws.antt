@@ -24,7 +24,7 @@ use Rattle.thy_block.specs.Bytes.{bytes_of}
 use Rattle.thy_base.specs.Config.{fault_of, parameters_of}
 use Rattle.thy_block.specs.Outside.{Stock}
 use Rattle.thy_view.specs.Origin.{IsOrigin}
-use Rattle.thy_words.specs.Settings.{Job}
+use Rattle.thy_arguments.specs.Settings.{Job}
 use Rattle.thy_files.specs.declared.restoring.Beginning.{Beginning as BeginningValue}
 use Rattle.thy_answer.specs.Sources.{Beginning, file, origin_for}
 use Rattle.thy_answer.proofs.ProgramLaws.{begun_bare, begun_fresh, program_under}

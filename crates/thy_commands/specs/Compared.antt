@@ -6,7 +6,7 @@ use Rattle.thy_block.specs.Outside.{Stock}
 use Rattle.thy_block.specs.Schemes.{scheme_number}
 use Rattle.thy_text.specs.Event.{Event, Scheme}
 use Rattle.thy_text.specs.History.{Recorded, all_of}
-use Rattle.thy_words.specs.Settings.{Job}
+use Rattle.thy_arguments.specs.Settings.{Job}
 use Rattle.thy_run.specs.Cuts.{has_ended}
 use Rattle.thy_run.specs.Sending.{Sent}
 use Rattle.thy_run.specs.declared.plan.Plan.{Plan}
@@ -15,7 +15,7 @@ use Rattle.thy_answer.specs.declared.answer.Answer.{Answer}
 use Rattle.thy_answer.specs.declared.answer.Ran.{Ran}
 use Rattle.thy_commands.specs.declared.comparing.Compared.{Compared}
 use Rattle.thy_answer.specs.declared.refusal.Refusal.{Refusal}
-use Rattle.thy_answer.specs.Answering.{Around, Closes, NvmOf, Outside, IsRunOverOf, outside, stop_line, told_of}
+use Rattle.thy_answer.specs.Answering.{Around, Closes, NvmOf, Outside, IsRunOverOf, outside, stop_line, report_of_refusal}
 use Rattle.thy_answer.specs.Comparing.{NotBegun, RunsThrough, Stage, Subject, compared, first_stage, line_status, nowhere, scheme_lines, under, with_scheme}
 use Rattle.thy_answer.specs.Machines.{Choice}
 use Rattle.thy_execute.specs.Planning.{IsPlanOf}
@@ -65,8 +65,8 @@ pub record HasNotRun {N : Type 0} (d : NvmOf N) (old new : Around N) (so_far nex
   pub events : events_of next ≡ events_of so_far
   pub shelf : new.shelf ≡ old.shelf
   pub terminal : new.terminal ≡ old.terminal
-  pub closes : Closes (told_of why).1 old.report new.report
-  pub status : next.status ≡ (told_of why).0
+  pub closes : Closes (report_of_refusal why).1 old.report new.report
+  pub status : next.status ≡ (report_of_refusal why).0
   pub cycles : next.cycles ≡ so_far.cycles
 
 abbrev pub RunsNext : {M N : Type 0} → KindOf M → NvmOf N → List ℕ → Plan → Around N → Around N → Compared → Compared → Type 0

@@ -7,7 +7,7 @@ ghost use Rattle.thy_run.specs.Cuts.{has_ended, is_end};
 ghost use Rattle.thy_run.specs.Sending.{Sent};
 ghost use Rattle.thy_text.specs.Event.{Scheme};
 ghost use Rattle.thy_text.specs.Seen.{event_of};
-ghost use Rattle.thy_words.specs.Settings.{job_of};
+ghost use Rattle.thy_arguments.specs.Settings.{job_of};
 ghost use Rattle.thy_answer.specs.Answering.{around, Closes, nvm_of, stop_line};
 ghost use Rattle.thy_commands.specs.Compared.{Compares, RunsNext, events_of, plan_under, recorded_of};
 ghost use Rattle.thy_answer.specs.Comparing.{CompareAnswered, line_status, scheme_lines};
@@ -17,14 +17,16 @@ ghost use Rattle.thy_answer.specs.Kept.{refused_line, refused_status};
 ghost use Rattle.thy_files.specs.Restoring.{ReadsFiles};
 
 use std::alloc::{AllocError, Global};
-use thy_answer::{Answer, ProgramSource, Ran, Refusal, close, close_stop, refuse, told_of};
+use thy_answer::{
+    Answer, ProgramSource, Ran, Refusal, close, close_stop, refuse, report_of_refusal,
+};
+use thy_arguments::Job;
 use thy_base::{Geometry, Nvm, SchemeName, Shelf, Sink, SinkError};
 use thy_execute::run_plan;
 use thy_files::{Beginning, prepare};
 use thy_run::{Plan, Silent};
 use thy_text::{Event, Events, History, write_scheme};
 use thy_view::Computer;
-use thy_words::Job;
 
 /// A sink that keeps nothing and never fails.
 #[derive(Drop)]
@@ -170,7 +172,7 @@ fn end_before<R: Sink>(refusal: Refusal, so_far: Compared, report: &mut R) -> Co
     ensures cycles { result.cycles ≡ so_far.cycles }
     ensures closes { Closes (refused_line refusal.entry) (R.stream report.old) (R.stream report.new) }
 {
-    let (status, closing) = told_of(refusal);
+    let (status, closing) = report_of_refusal(refusal);
     close(closing, report);
     Compared {
         earlier: so_far.earlier,

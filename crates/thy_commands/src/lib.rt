@@ -3,7 +3,7 @@
 //! their lines, as specified.
 //!
 //! Open src/order.rt first; then specs/Comparing.antt of thy_answer, specs/Compared.antt, and src/comparing.rt. It
-//! depends on thy_words, thy_execute, thy_files and thy_answer, and on their dependencies; thy_cli depends on it.
+//! depends on thy_arguments, thy_execute, thy_files and thy_answer, and on their dependencies; thy_cli depends on it.
 #![tactic(auto)]
 
 mod comparing;

@@ -10,12 +10,12 @@ ghost use Rattle.thy_files.specs.Restoring.{ReadsFiles};
 use crate::compare;
 use std::alloc::Global;
 use thy_answer::{Answer, ProgramSource, Refusal, refuse};
+use thy_arguments::{Command, settings};
 use thy_block::{Nvm, SchemeName, Shelf, Sink};
 use thy_execute::{plain_file, run_by_scheme};
 use thy_files::make;
 use thy_run::Observer;
 use thy_view::Computer;
-use thy_words::{Command, settings};
 
 /// Does what the arguments after the program's name ask for, with the machine `A` for `SchemeName::Thynvm`, `B` for
 /// `SchemeName::Journal`, and `C` for `SchemeName::Shadow`. Each machine has to read the files of its own scheme alone.

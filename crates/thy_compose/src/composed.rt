@@ -116,10 +116,10 @@ where
     }
 
     /// The controller's tables and its DRAM are sound. The call does nothing.
-    pub fn sound(&self)
+    pub fn recall_sound(&self)
         ensures { P.parts.sound self.now.control }
     {
-        P::sound(&self.control);
+        P::recall_sound(&self.control);
     }
 
     /// Loads block `b`, as it was stored last.
@@ -239,7 +239,7 @@ where
             Counts action result (N.writes nvm.old) (N.writes nvm.new) }
     {
         let result = self.boot.step::<P, N>(&mut self.control, start, nvm);
-        P::sound(&self.control);
+        P::recall_sound(&self.control);
         begin_tail::<P>(self.boot.stage(), &mut self.engine);
         result
     }

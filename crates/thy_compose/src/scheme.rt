@@ -40,7 +40,7 @@ where
     }
 
     fn store<N: Nvm>(&mut self, b: u64, block: &Block, nvm: &mut N) -> Result<Stored, NvmError> {
-        P::sound(&self.control);
+        P::recall_sound(&self.control);
         self.store_block(b, block, nvm)
     }
 

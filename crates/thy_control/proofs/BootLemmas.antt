@@ -9,9 +9,9 @@ use Rattle.thy_block.specs.Store.{page_of}
 use Rattle.thy_dram.specs.Contents.{Contents}
 use Rattle.thy_layout.specs.Entries.{Lists, entry_at as table_entry}
 use Rattle.thy_record.specs.Tables.{IsTables}
-use Rattle.thy_table.specs.Listing.{Listing, IsListing, entry_at, lists, place_of, with_entry}
+use Rattle.thy_table.specs.Listing.{Listing, IsListing, entry_at, lists, index_of, with_entry}
 use Rattle.thy_table.proofs.IndexLemmas.{lists-some}
-use Rattle.thy_table.proofs.ListingLaws.{entry_at-with_same, entry_at-with_other, place_of-none, IsListing-put, place_of-put, place_of-put_other}
+use Rattle.thy_table.proofs.ListingLaws.{entry_at-with_same, entry_at-with_other, index_of-none, IsListing-put, index_of-put, index_of-put_other}
 use Rattle.thy_table.specs.declared.block_entry.BttEntry.{BttEntry}
 use Rattle.thy_table.specs.declared.block_entry.Version.TheVariants.{Out, Alt}
 use Rattle.thy_table.specs.declared.page_entry.PttEntry.{PttEntry}
@@ -34,15 +34,15 @@ use Rattle.thy_control.proofs.LiveLemmas.{used-set}
 
 -- one entry more, of a number that was not listed: what the table has for each number
 module _ {E : Type 0} (key : E → ℕ) (new : ℕ → E) (t : Listing E) (once : IsListing key t) (i : ℕ) (e : E)
-    (inside : i < length t.entries) (free : entry_at t i ≡ None) (unlisted : place_of key (key e) t ≡ None) (room : key e < t.numbers) where
+    (inside : i < length t.entries) (free : entry_at t i ≡ None) (unlisted : index_of key (key e) t ≡ None) (room : key e < t.numbers) where
   entry_for-put_same : entry_for key new (key e) (with_entry i (Some e) t) ≡ e
   entry_for-put_same =
-      entry_for-some key new (with_entry i (Some e) t) (key e) i e (place_of-put key t once i e inside unlisted room) (entry_at-with_same t i (Some e) inside)
+      entry_for-some key new (with_entry i (Some e) t) (key e) i e (index_of-put key t once i e inside unlisted room) (entry_at-with_same t i (Some e) inside)
 
   entry_for-put_other : (n : ℕ) → n ≢ key e → entry_for key new n (with_entry i (Some e) t) ≡ entry_for key new n t
   entry_for-put_other n other =
       entry_for-kept key new t (with_entry i (Some e) t) n
-      (place_of-put_other key t once i e n inside free unlisted room other)
+      (index_of-put_other key t once i e n inside free unlisted room other)
       (λ k x was of_n. entry_at-put t i (Some e) free k x was)
 
 -- lists that two rules make of the same entries are one if the rules agree on each
@@ -104,13 +104,13 @@ module _ (i b : ℕ) (s : State) (t : AreSoundTables s) (boot : IsBooting s) (ma
 
   cell-block_same : cell_of u b ≡ record { i = i; entry = listed_entry b; j = index_for page_key no_page (page_of b) s.ptt; page = no_page (page_of b) }
   cell-block_same =
-      ap (λ (o : Option ℕ). record (cell_of u b) { i = unwrap_or o 0 }) (place_of-put block_key s.btt t.btt_once i (listed_entry b) inside may.unlisted room)
+      ap (λ (o : Option ℕ). record (cell_of u b) { i = unwrap_or o 0 }) (index_of-put block_key s.btt t.btt_once i (listed_entry b) inside may.unlisted room)
       ∙ ap (λ (e : BttEntry). record (cell_of s b) { i = i; entry = e }) (entry_for-put_same block_key new_entry s.btt t.btt_once i (listed_entry b) inside may.free may.unlisted room)
       ∙ ap (λ (e : PttEntry). record (cell_of s b) { i = i; entry = listed_entry b; page = e }) (entry_for-none page_key no_page s.ptt (page_of b) may.bare)
 
   cell-block_other : (k : ℕ) → k ≢ b → cell_of u k ≡ cell_of s k
   cell-block_other k other =
-      ap (λ (o : Option ℕ). record (cell_of u k) { i = unwrap_or o 0 }) (place_of-put_other block_key s.btt t.btt_once i (listed_entry b) k inside may.free may.unlisted room other)
+      ap (λ (o : Option ℕ). record (cell_of u k) { i = unwrap_or o 0 }) (index_of-put_other block_key s.btt t.btt_once i (listed_entry b) k inside may.free may.unlisted room other)
       ∙ ap (λ (e : BttEntry). record (cell_of s k) { entry = e }) (entry_for-put_other block_key new_entry s.btt t.btt_once i (listed_entry b) inside may.free may.unlisted room k other)
 
   sound-block : ListedCellsAreSound → (k : ℕ) → k < memory_blocks s.p → IsSoundCell s.under_way (cell_of u k)
@@ -163,13 +163,13 @@ module _ (j n : ℕ) (s : State) (t : AreSoundTables s) (boot : IsBooting s) (ma
   cell-page_same : (b : ℕ) → page_of b ≡ n → cell_of v b ≡ record { i = index_for block_key new_entry b s.btt; entry = new_entry b; j = j; page = listed_page n }
   cell-page_same b q =
       ap (λ (k : ℕ). record (cell_of s b) { j = index_for page_key no_page k v.ptt; page = entry_for page_key no_page k v.ptt }) q
-      ∙ ap (λ (o : Option ℕ). record (cell_of s b) { j = unwrap_or o 0; page = entry_for page_key no_page n v.ptt }) (place_of-put page_key s.ptt t.ptt_once j (listed_page n) inside_page may.unlisted room_page)
+      ∙ ap (λ (o : Option ℕ). record (cell_of s b) { j = unwrap_or o 0; page = entry_for page_key no_page n v.ptt }) (index_of-put page_key s.ptt t.ptt_once j (listed_page n) inside_page may.unlisted room_page)
       ∙ ap (λ (e : PttEntry). record (cell_of s b) { j = j; page = e }) (entry_for-put_same page_key no_page s.ptt t.ptt_once j (listed_page n) inside_page may.free may.unlisted room_page)
       ∙ ap (λ (e : BttEntry). record { i = index_for block_key new_entry b s.btt; entry = e; j = j; page = listed_page n }) (entry_for-none block_key new_entry s.btt b (may.bare b q))
 
   cell-page_other : (b : ℕ) → page_of b ≢ n → cell_of v b ≡ cell_of s b
   cell-page_other b other =
-      ap (λ (o : Option ℕ). record (cell_of v b) { j = unwrap_or o 0 }) (place_of-put_other page_key s.ptt t.ptt_once j (listed_page n) (page_of b) inside_page may.free may.unlisted room_page other)
+      ap (λ (o : Option ℕ). record (cell_of v b) { j = unwrap_or o 0 }) (index_of-put_other page_key s.ptt t.ptt_once j (listed_page n) (page_of b) inside_page may.free may.unlisted room_page other)
       ∙ ap (λ (e : PttEntry). record (cell_of s b) { page = e }) (entry_for-put_other page_key no_page s.ptt t.ptt_once j (listed_page n) inside_page may.free may.unlisted room_page (page_of b) other)
 
   sound-page : ListedCellsAreSound → (b : ℕ) → b < memory_blocks s.p → IsSoundCell s.under_way (cell_of v b)
@@ -232,8 +232,8 @@ module _ {E : Type 0} (key : E → ℕ) (listed : E → Option ℕ) (t : Listing
     by_entry None h = h
     by_entry (Some e) h = let both : Some (key e) ≡ None = sym (lists-live i e h).is ∙ none in absurd (cc)
 
-  unlisted-by : (n : ℕ) → ((k : ℕ) → Lists all_listed k n → ⊥) → place_of key n t ≡ None
-  unlisted-by n none = place_of-none key t n (λ k. elim (cases_Bool (lists key n (entry_at t k))) as (λ _. lists key n (entry_at t k) ≡ false) [
+  unlisted-by : (n : ℕ) → ((k : ℕ) → Lists all_listed k n → ⊥) → index_of key n t ≡ None
+  unlisted-by n none = index_of-none key t n (λ k. elim (cases_Bool (lists key n (entry_at t k))) as (λ _. lists key n (entry_at t k) ≡ false) [
     | inl h ↦
         let f = lists-some key n (entry_at t k) h in
         absurd (none k (subst (λ (m : ℕ). Lists all_listed k m) f.2 (lists-live k f.0 f.1)))

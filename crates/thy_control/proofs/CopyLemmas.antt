@@ -9,7 +9,7 @@ use Rattle.thy_block.specs.Geometry.{memory_blocks}
 use Rattle.thy_table.specs.Places.{IsPlace}
 use Rattle.thy_table.specs.Devices.{Devices, devices_of}
 use Rattle.thy_table.proofs.MoveLemmas.{AreSized-written_at}
-use Rattle.thy_table.specs.Listing.{Listing, IsListing, entry_at, passes, place_of, with_entry}
+use Rattle.thy_table.specs.Listing.{Listing, IsListing, entry_at, passes, index_of, with_entry}
 use Rattle.thy_table.proofs.FirstLemmas.{first_from-first, none-first_from}
 use Rattle.thy_table.specs.declared.block_entry.BttEntry.{BttEntry}
 use Rattle.thy_table.specs.declared.block_entry.Pending.{Pending}
@@ -27,7 +27,7 @@ use Rattle.thy_control.specs.Copies.{is_pending, needs_copy, next_copy, copies_l
 use Rattle.thy_control.specs.Moves.{moved, IsOneLess}
 use Rattle.thy_control.specs.Versions.{KeepsAll}
 use Rattle.thy_control.proofs.FindLemmas.{found_entry, stands_at, entry_for-there, by_number}
-use Rattle.thy_control.proofs.StateLemmas.{block-cell_of, IsPlace-target, IsWithin-cell_of, place_of-index, cell-set_block_same, cell-set_block_other}
+use Rattle.thy_control.proofs.StateLemmas.{block-cell_of, IsPlace-target, IsWithin-cell_of, index_of-index, cell-set_block_same, cell-set_block_other}
 use Rattle.thy_control.proofs.CountLemmas.{count-set_less}
 use Rattle.thy_control.proofs.TablesLemmas.{owner, Owns-cell_of, owned-target}
 use Rattle.thy_control.proofs.StepLemmas.{KeepsEach, Keeps-untouched, reads_after, puts, untouched, none-passes, KeepsEach-same, holds-each, KeepsAll-each}
@@ -57,8 +57,8 @@ pub pending-under_way : (u : Bool) (c : Cell) → IsSoundCell u c → c.entry.pe
 pending-under_way u c s h = grind (arith, s.pending_moves, s.one)
 
 module _ (b : ℕ) (s : State) (pending : (cell_of s b).entry.pend ≢ Settled) where
-  pub listed-pending : place_of block_key b s.btt ≡ Some (cell_of s b).i
-  listed-pending = place_of-index block_key new_entry s.btt b (λ e. pending (ap (λ (x : BttEntry). x.pend) e))
+  pub listed-pending : index_of block_key b s.btt ≡ Some (cell_of s b).i
+  listed-pending = index_of-index block_key new_entry s.btt b (λ e. pending (ap (λ (x : BttEntry). x.pend) e))
 
   module _ (m : Device) where
     pub cell-copied_same : cell_of (copied b s m) b ≡ after_copy (cell_of s b)

@@ -3,7 +3,7 @@ use Rattle.std.proofs.Common.{◌≡◌, ◌≢◌, ℕ, ◌+◌, ◌<◌, ◌�
 use Rattle.std.specs.List.{count_by}
 use Rattle.std.proofs.lemmas.List.Sums.{sum_by-set, get_or-le-sum_by}
 use Rattle.thy_block.specs.Store.{page_of}
-use Rattle.thy_table.specs.Listing.{Listing, place_of, free_count, passes, with_entry}
+use Rattle.thy_table.specs.Listing.{Listing, index_of, free_count, passes, with_entry}
 use Rattle.thy_table.proofs.IndexLemmas.{one_if}
 use Rattle.thy_table.specs.declared.block_entry.BttEntry.{BttEntry}
 use Rattle.thy_table.specs.declared.block_entry.Pending.TheVariants.{Settled, FromBuffer}
@@ -50,7 +50,7 @@ waiting-with r b t = btt_with-by (λ u. waiting u ≡ waiting t) r b t refl (λ 
     count-set_same waits_at t.entries i (Some (new_entry b)) None free.1 (sym (ap waits_at free.0)))
 
 -- another entry of a block that has one
-module _ (t : State) (b : ℕ) (e : BttEntry) (listed : place_of block_key b t.btt ≡ Some (cell_of t b).i) where
+module _ (t : State) (b : ℕ) (e : BttEntry) (listed : index_of block_key b t.btt ≡ Some (cell_of t b).i) where
   there : (get_or t.btt.entries (cell_of t b).i None ≡ Some (cell_of t b).entry)
       × ((cell_of t b).i < length t.btt.entries)
   there = stands_at block_key new_entry t.btt b (cell_of t b).i listed
@@ -73,7 +73,7 @@ module _ (t : State) (b : ℕ) (e : BttEntry) (listed : place_of block_key b t.b
       (ap waits now) (ap (passes (λ (e : BttEntry). waits e.pend)) there.0 ∙ ap waits was)
 
 -- another entry of a page that has one
-pub promoted-set : (t : State) (b : ℕ) (e : PttEntry) → place_of page_key (page_of b) t.ptt ≡ Some (cell_of t b).j → is_promoted e ≡ is_promoted (cell_of t b).page
+pub promoted-set : (t : State) (b : ℕ) (e : PttEntry) → index_of page_key (page_of b) t.ptt ≡ Some (cell_of t b).j → is_promoted e ≡ is_promoted (cell_of t b).page
     → promoted (with_entry (cell_of t b).j (Some e) t.ptt) ≡ promoted t.ptt
 promoted-set t b e listed same =
     let there = stands_at page_key no_page t.ptt (page_of b) (cell_of t b).j listed in

@@ -2,7 +2,7 @@
 -- the tables start.
 use Rattle.std.proofs.Common.{◌≡◌, ℕ, ◌<◌, true, false, length, refl, sym, ◌∙◌, ap, inl, inr, arith, Option, Some, None, ◌≢◌, ◌+◌, ◌≤◌, Bool, ◌&&◌, nat_lt, unwrap_or, subst}
 use Rattle.std.proofs.lemmas.Bool.{cases_lt, and_parts, cases_eq, lt-ltb, false_from_ne_true, both_ways}
-use Rattle.thy_table.specs.Listing.{Listing, entry_at, passes, place_of, free_place, with_entry, next_from}
+use Rattle.thy_table.specs.Listing.{Listing, entry_at, passes, index_of, free_index, with_entry, next_from}
 use Rattle.thy_table.specs.declared.block_entry.BttEntry.{BttEntry}
 use Rattle.thy_table.specs.declared.block_entry.Working.TheVariants.{NoWork, InBuffer}
 use Rattle.thy_table.specs.declared.page_entry.PttEntry.{PttEntry}
@@ -125,15 +125,15 @@ overlaid_as now old same (Some e) = ap (λ (f : Bool). is_buffered e.work && f) 
 
 -- the entries of a block
 module _ (s : State) (b : ℕ) where
-  block_there : place_of block_key b s.btt ≡ Some (cell_of s b).i → (entry_at s.btt (cell_of s b).i ≡ Some (cell_of s b).entry) × ((cell_of s b).i < length s.btt.entries)
+  block_there : index_of block_key b s.btt ≡ Some (cell_of s b).i → (entry_at s.btt (cell_of s b).i ≡ Some (cell_of s b).entry) × ((cell_of s b).i < length s.btt.entries)
   block_there listed = stands_at block_key new_entry s.btt b (cell_of s b).i listed
 
-  page_there : place_of page_key (page_of b) s.ptt ≡ Some (cell_of s b).j → (entry_at s.ptt (cell_of s b).j ≡ Some (cell_of s b).page) × ((cell_of s b).j < length s.ptt.entries)
+  page_there : index_of page_key (page_of b) s.ptt ≡ Some (cell_of s b).j → (entry_at s.ptt (cell_of s b).j ≡ Some (cell_of s b).page) × ((cell_of s b).j < length s.ptt.entries)
   page_there listed = stands_at page_key no_page s.ptt (page_of b) (cell_of s b).j listed
 
   -- another entry of the block, which has to be copied only if that one had to
   AreCursors-entry : (e : BttEntry) (k : Cursors) (merges : ℕ)
-      → place_of block_key b s.btt ≡ Some (cell_of s b).i → merges ≤ k.merges
+      → index_of block_key b s.btt ≡ Some (cell_of s b).i → merges ≤ k.merges
       → (needs_copy (cell_of s b).entry ≡ false → needs_copy e ≡ false)
       → ((cell_of s b).i < merges → is_overlaid s.ptt (cell_of s b).entry ≡ false
       → is_overlaid s.ptt e ≡ false)
@@ -154,7 +154,7 @@ module _ (s : State) (b : ℕ) where
       }
 
   -- another entry of its page that passes as the one there did
-  page_as : (test : PttEntry → Bool) (e : PttEntry) (place : ℕ) → place_of page_key (page_of b) s.ptt ≡ Some (cell_of s b).j → (test (cell_of s b).page ≡ false → test e ≡ false)
+  page_as : (test : PttEntry → Bool) (e : PttEntry) (place : ℕ) → index_of page_key (page_of b) s.ptt ≡ Some (cell_of s b).j → (test (cell_of s b).page ≡ false → test e ≡ false)
       → NoneBelow test place s.ptt → NoneBelow test place (with_entry (cell_of s b).j (Some e) s.ptt)
   page_as test e place listed keeps below =
       let there = page_there listed in
@@ -205,7 +205,7 @@ AreCursors-cell PendingFirst b t k l h merges less at =
 same_cursors : (k now : Cursors) → now.copies ≡ k.copies → now.writes ≡ k.writes → now.promotions ≡ k.promotions → record k { merges = now.merges } ≡ now
 same_cursors k now copies writes promotions = grind arith
 
-pub AreCursors-after : (b : ℕ) (block : Block) (s : State) (n : Device) (k now : Cursors) → AreCursors s.ptt s.btt k → (free_place s.btt ≡ None → ⊥)
+pub AreCursors-after : (b : ℕ) (block : Block) (s : State) (n : Device) (k now : Cursors) → AreCursors s.ptt s.btt k → (free_index s.btt ≡ None → ⊥)
     → AreLowered (rule_for b s) (cell_before b s) k now → AreCursors (state_after b block s n).ptt (state_after b block s n).btt now
 unfolding state_after cell_before
 AreCursors-after b block s n k now h some low =

@@ -16,7 +16,7 @@ use Rattle.thy_block.specs.Store.{page_of}
 use Rattle.thy_block.proofs.BasicLemmas.{not_and}
 use Rattle.thy_table.specs.Devices.{Devices, devices_of}
 use Rattle.thy_table.proofs.MoveLemmas.{AreSized-written_at}
-use Rattle.thy_table.specs.Listing.{Listing, IsListing, entry_at, passes, place_of, with_entry}
+use Rattle.thy_table.specs.Listing.{Listing, IsListing, entry_at, passes, index_of, with_entry}
 use Rattle.thy_table.proofs.IndexLemmas.{one_if}
 use Rattle.thy_table.proofs.FirstLemmas.{first_from-first, none-first_from}
 use Rattle.thy_table.specs.declared.block_entry.Working.{Working}
@@ -51,7 +51,7 @@ module _ (b : ℕ) (s : State) (fresh : (cell_of s b).page.fresh ≡ true) where
   pub has_page : (cell_of s b).page ≢ no_page (page_of b)
   has_page e = let no : (cell_of s b).page.fresh ≡ false = ap (λ (x : PttEntry). x.fresh) e in both_ways _ no fresh
 
-  pub listed-fresh : place_of page_key (page_of b) s.ptt ≡ Some (cell_of s b).j
+  pub listed-fresh : index_of page_key (page_of b) s.ptt ≡ Some (cell_of s b).j
   listed-fresh = listed-page b s has_page
 
   fresh-same : (k : ℕ) → page_of k ≡ page_of b → (cell_of s k).page.fresh ≡ true

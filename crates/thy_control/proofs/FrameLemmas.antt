@@ -8,7 +8,7 @@ use Rattle.thy_block.specs.Geometry.{memory_blocks}
 use Rattle.thy_table.specs.Places.{IsPlace, number_of}
 use Rattle.thy_block.specs.Store.{page_of}
 use Rattle.thy_dram.specs.Contents.{Contents, written}
-use Rattle.thy_table.specs.Listing.{entry_at, lists, place_of}
+use Rattle.thy_table.specs.Listing.{entry_at, lists, index_of}
 use Rattle.thy_table.proofs.IndexLemmas.{lists-key, lists-inside}
 use Rattle.thy_table.specs.declared.block_entry.BttEntry.{BttEntry}
 use Rattle.thy_table.specs.declared.block_entry.Version.{Version}
@@ -69,8 +69,8 @@ module _ (j k : ℕ) (s : State) (t : AreSoundTables s) (boot : IsBooting s) (ma
   pub entry_inside : j < s.p.ptt
   entry_inside = omega (arith, lists-inside page_key s.ptt.entries j n there, t.ptt_size)
 
-  place : place_of page_key (page_of b) s.ptt ≡ Some j
-  place = ap (λ (m : ℕ). place_of page_key m s.ptt) is_page ∙ t.ptt_once.found j n there
+  place : index_of page_key (page_of b) s.ptt ≡ Some j
+  place = ap (λ (m : ℕ). index_of page_key m s.ptt) is_page ∙ t.ptt_once.found j n there
 
   in_memory : b < memory_blocks s.p
   in_memory = omega (arith, t.ptt_once.inside j n there, t.ptt_numbers, may.inside)
@@ -85,8 +85,8 @@ module _ (j k : ℕ) (s : State) (t : AreSoundTables s) (boot : IsBooting s) (ma
   page_is = entry_for-some page_key no_page s.ptt (page_of b) j found.0 place found.1 ∙ boot.pages j found.0 found.1
 
   idle_entry : c.entry.work ≡ NoWork
-  idle_entry = by_place (place_of block_key b s.btt) refl where
-    by_place : (o : Option ℕ) → place_of block_key b s.btt ≡ o → (entry_for block_key new_entry b s.btt).work ≡ NoWork
+  idle_entry = by_place (index_of block_key b s.btt) refl where
+    by_place : (o : Option ℕ) → index_of block_key b s.btt ≡ o → (entry_for block_key new_entry b s.btt).work ≡ NoWork
     by_place None h = ap (λ (e : BttEntry). e.work) (entry_for-none block_key new_entry s.btt b h)
     by_place (Some i) h =
         let f = found_entry block_key new_entry s.btt b i h in
@@ -186,8 +186,8 @@ hold-bare reads d page bare = record {
 -- if the places of every block of a listed page hold what they have to, all places do
 pub HoldAll-framed : (s : State) (n : Device) → AreSoundTables s → IsBooting s
     → ((j k : ℕ) → MayFrame j k s → Holds (reads s n) (cell_of s (framed_block j k s))) → HoldAll s n
-HoldAll-framed s n t boot frames b l = by_place (place_of page_key (page_of b) s.ptt) refl where
-  by_place : (o : Option ℕ) → place_of page_key (page_of b) s.ptt ≡ o → Holds (reads s n) (cell_of s b)
+HoldAll-framed s n t boot frames b l = by_place (index_of page_key (page_of b) s.ptt) refl where
+  by_place : (o : Option ℕ) → index_of page_key (page_of b) s.ptt ≡ o → Holds (reads s n) (cell_of s b)
   by_place None h = hold-bare (reads s n) (cell_of s b) (page_of b) (entry_for-none page_key no_page s.ptt (page_of b) h)
   by_place (Some j) h =
       let f = found_entry page_key no_page s.ptt (page_of b) j h in

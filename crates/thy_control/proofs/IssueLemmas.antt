@@ -10,7 +10,7 @@ use Rattle.thy_block.specs.Geometry.{memory_blocks}
 use Rattle.thy_block.specs.Store.{page_of}
 use Rattle.thy_table.specs.Devices.{Devices, devices_of}
 use Rattle.thy_table.proofs.MoveLemmas.{AreSized-written_at}
-use Rattle.thy_table.specs.Listing.{Listing, IsListing, entry_at, passes, place_of, with_entry}
+use Rattle.thy_table.specs.Listing.{Listing, IsListing, entry_at, passes, index_of, with_entry}
 use Rattle.thy_table.proofs.FirstLemmas.{first_from-first, none-first_from}
 use Rattle.thy_table.specs.declared.block_entry.Version.{Version}
 use Rattle.thy_table.specs.declared.block_entry.Version.TheVariants.{Out}
@@ -57,7 +57,7 @@ module _ (b : ℕ) (s : State) (busy : (cell_of s b).page.busy ≡ true) where
   has_page : (cell_of s b).page ≢ no_page (page_of b)
   has_page e = let no : (cell_of s b).page.busy ≡ false = ap (λ (x : PttEntry). x.busy) e in both_ways _ no busy
 
-  pub listed-busy : place_of page_key (page_of b) s.ptt ≡ Some (cell_of s b).j
+  pub listed-busy : index_of page_key (page_of b) s.ptt ≡ Some (cell_of s b).j
   listed-busy = listed-page b s has_page
 
   busy-same : (k : ℕ) → page_of k ≡ page_of b → (cell_of s k).page.busy ≡ true

@@ -11,7 +11,7 @@ use Rattle.thy_block.specs.Geometry.{memory_blocks}
 use Rattle.thy_table.specs.Places.{IsPlace, in_dram, number_of, first_home, IsApart}
 use Rattle.thy_table.specs.Devices.{AreSized, devices_of, read_at, written_at, Devices, NoMoreAt}
 use Rattle.thy_table.proofs.MoveLemmas.{read_at-written_same, read_at-written_other, numbers_apart, no_more-written_other, no_more-failed_other}
-use Rattle.thy_table.specs.Listing.{Listing, place_of, free_count}
+use Rattle.thy_table.specs.Listing.{Listing, index_of, free_count}
 use Rattle.thy_table.specs.declared.block_entry.BttEntry.{BttEntry}
 use Rattle.thy_table.specs.declared.page_entry.Site.{Site}
 use Rattle.thy_table.specs.declared.page_entry.Site.TheVariants.{AtHome, AtAlternate}
@@ -41,7 +41,7 @@ use Rattle.thy_block.specs.Store.{page_of}
 use Rattle.thy_table.specs.declared.page_entry.PttEntry.{PttEntry}
 use Rattle.thy_control.specs.Stays.{HoldAll}
 use Rattle.thy_block.specs.declared.parameters.Parameters.{Parameters}
-use Rattle.thy_block.proofs.DeviceLemmas.{no_more-written_to_other, MayLeave-elsewhere}
+use Rattle.thy_block.proofs.DeviceLemmas.{no_more-written_to_other, CrashAt-elsewhere}
 use Rattle.thy_table.proofs.PlaceLemmas.{between_slots}
 use Rattle.thy_dram.specs.Contents.{written}
 use Rattle.thy_table.specs.declared.block_entry.Version.{Version}
@@ -69,7 +69,7 @@ module _ (c : Cell) (k b : ℕ) (is_new : c.entry ≡ new_entry b) where
   work-new = subst (λ (e : BttEntry). work (record c { entry = e; i = k }) ≡ work (record c { entry = e })) (sym is_new)
       (ap (λ (x : Place). if is_framed c.page then Frame c.j (b % 64) else (if c.page.busy then Frame c.j (b % 64) else x)) (placed-out c.page.target c.j b k c.i))
 
-btt_with-listed : (r : StoreRule) (b i : ℕ) (t : Listing BttEntry) → place_of block_key b t ≡ Some i → btt_with r b t ≡ t
+btt_with-listed : (r : StoreRule) (b i : ℕ) (t : Listing BttEntry) → index_of block_key b t ≡ Some i → btt_with r b t ≡ t
 btt_with-listed ToFrame b i t h = refl
 btt_with-listed PendingFirst b i t h = refl
 btt_with-listed r b i t h = ap (λ o. with_found block_key new_entry o b t) h
@@ -78,8 +78,8 @@ btt_with-listed r b i t h = ap (λ o. with_found block_key new_entry o b t) h
 pub same_start : (f : Cell → Place) (r : StoreRule) (b : ℕ) (s : State)
     → ((k : ℕ) → (cell_of s b).entry ≡ new_entry b → f (record (cell_of s b) { i = k }) ≡ f (cell_of s b))
     → f (cell_of (with_block r b s) b) ≡ f (cell_of s b)
-same_start f r b s free = ap f (cell-with_block_same r b s) ∙ by_place (place_of block_key b s.btt) refl where
-  by_place : (o : Option ℕ) → place_of block_key b s.btt ≡ o
+same_start f r b s free = ap f (cell-with_block_same r b s) ∙ by_place (index_of block_key b s.btt) refl where
+  by_place : (o : Option ℕ) → index_of block_key b s.btt ≡ o
       → f (record (cell_of s b) { i = index_for block_key new_entry b (btt_with r b s.btt) }) ≡ f (cell_of s b)
   by_place None h = free (index_for block_key new_entry b (btt_with r b s.btt)) (entry_for-none block_key new_entry s.btt b h)
   by_place (Some i) h = ap (λ (t : Listing BttEntry). f (record (cell_of s b) { i = index_for block_key new_entry b t })) (btt_with-listed r b i s.btt h)
@@ -284,7 +284,7 @@ apart-written false at x block d other = record { no_more = λ b h. no_more-writ
 
 pub apart-failed : (at x : ℕ) (block : Block) (m n : Device) → x ≢ at → HasFailedToWrite at block m n → NoMoreAt x m n
 apart-failed at x block m n other failed = record {
-  no_more = λ b h. MayLeave-elsewhere m at block x b other (failed.no_more x b h);
+  no_more = λ b h. CrashAt-elsewhere m at block x b other (failed.no_more x b h);
 }
 
 -- a store was done, or it failed

@@ -1,6 +1,6 @@
 -- With no copy and no page block left every block is copied and written, and the other way round.
 use Rattle.std.proofs.Common.{◌≡◌, ℕ, ◌≤◌, Bool, true, false, ◌&&◌, nat_lt, refl, sym, ◌∙◌, ap, arith, Option, Some, None}
-use Rattle.thy_table.specs.Listing.{Listing, passes, next_from, place_of}
+use Rattle.thy_table.specs.Listing.{Listing, passes, next_from, index_of}
 use Rattle.thy_table.proofs.FirstLemmas.{none-first_from}
 use Rattle.thy_block.specs.Store.{page_of}
 use Rattle.thy_table.specs.declared.block_entry.Pending.{Pending}
@@ -20,8 +20,8 @@ use Rattle.thy_control.proofs.IssueLemmas.{IsDue, IsDue-entry}
 -- if no live entry passes a test, and no new one, the entry of no number does
 pub none-entry_for : {E : Type 0} (key : E → ℕ) (new : ℕ → E) (test : E → Bool) (t : Listing E) → next_from test 0 t ≡ None
     → ((n : ℕ) → test (new n) ≡ false) → (n : ℕ) → test (entry_for key new n t) ≡ false
-none-entry_for {E} key new test t none new_fails n = by_place (place_of key n t) refl where
-  by_place : (o : Option ℕ) → place_of key n t ≡ o → test (entry_for key new n t) ≡ false
+none-entry_for {E} key new test t none new_fails n = by_place (index_of key n t) refl where
+  by_place : (o : Option ℕ) → index_of key n t ≡ o → test (entry_for key new n t) ≡ false
   by_place None p = ap test (entry_for-none key new t n p) ∙ new_fails n
   by_place (Some i) p =
       let f = found_entry key new t n i p in

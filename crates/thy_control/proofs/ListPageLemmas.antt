@@ -6,7 +6,7 @@ use Rattle.std.proofs.lemmas.List.{map-id, append-nil, length-set, length-take, 
 use Rattle.std.proofs.Math.Seq.{map-set_same}
 use Rattle.std.proofs.lemmas.List.Elements.{All-filter}
 use Rattle.std.proofs.lemmas.List.FromFn.{filter_of_map_range_with_len_more, get_or-range_with_len, length-range_with_len}
-use Rattle.thy_table.specs.Listing.{Listing, IsListing, entry_at, place_of, free_place, with_entry}
+use Rattle.thy_table.specs.Listing.{Listing, IsListing, entry_at, index_of, free_index, with_entry}
 use Rattle.thy_table.proofs.ListingLaws.{IsListing-put}
 use Rattle.thy_table.specs.declared.page_entry.PttEntry.{PttEntry}
 use Rattle.thy_table.specs.PageEntry.{no_page, promoted_page, is_framed}
@@ -15,18 +15,18 @@ use Rattle.thy_control.specs.Find.{entry_for, with_entry_for}
 use Rattle.thy_control.specs.Keys.{page_key}
 use Rattle.thy_control.specs.CheckpointTables.{page_lists}
 use Rattle.thy_control.specs.Seal.{dense_below, with_pages, with_dense}
-use Rattle.thy_control.proofs.FindLemmas.{entry_for-some, place_of-new_same, place_of-new_other, at_put, entry_for-kept, entry_at-put, free_at, by_entry_for}
+use Rattle.thy_control.proofs.FindLemmas.{entry_for-some, index_of-new_same, index_of-new_other, at_put, entry_for-kept, entry_at-put, free_at, by_entry_for}
 use Rattle.thy_control.proofs.CommitLemmas.{AreLive}
 
 -- a page has the entry that it had, or was not listed and is to be promoted
 pub record Same (t u : Listing PttEntry) (n : ℕ) : Type 0 where
-  pub place : place_of page_key n u ≡ place_of page_key n t
+  pub place : index_of page_key n u ≡ index_of page_key n t
   pub entry : entry_for page_key no_page n u ≡ entry_for page_key no_page n t
 
 pub record Listed (t u : Listing PttEntry) (n : ℕ) : Type 0 where
-  pub unlisted : place_of page_key n t ≡ None
+  pub unlisted : index_of page_key n t ≡ None
   pub at : ℕ
-  pub place : place_of page_key n u ≡ Some at
+  pub place : index_of page_key n u ≡ Some at
   pub entry : entry_for page_key no_page n u ≡ promoted_page n
 
 -- what the committed checkpoint lists of it
@@ -62,7 +62,7 @@ lists_on t u v a b = record {
   each n (inr x) (inr y) = let both : Some x.at ≡ None = sym x.place ∙ y.unlisted in cc
 
 -- one page is put in the lowest free place
-module _ (t : Listing PttEntry) (m i : ℕ) (unlisted : place_of page_key m t ≡ None) (lowest : free_place t ≡ Some i) (room : m < t.numbers) where
+module _ (t : Listing PttEntry) (m i : ℕ) (unlisted : index_of page_key m t ≡ None) (lowest : free_index t ≡ Some i) (room : m < t.numbers) where
   free_there : (entry_at t i ≡ None) × (i < length t.entries)
   free_there = free_at t i lowest
 
@@ -71,7 +71,7 @@ module _ (t : Listing PttEntry) (m i : ℕ) (unlisted : place_of page_key m t �
 
   listed_here : Listed t u m
   listed_here =
-      let place : place_of page_key m u ≡ Some i = place_of-new_same page_key promoted_page (λ n. refl) t m i unlisted lowest in
+      let place : index_of page_key m u ≡ Some i = index_of-new_same page_key promoted_page (λ n. refl) t m i unlisted lowest in
       record {
         unlisted = unlisted;
         at = i;
@@ -81,7 +81,7 @@ module _ (t : Listing PttEntry) (m i : ℕ) (unlisted : place_of page_key m t �
 
   same_there : (n : ℕ) → n ≢ m → Same t u n
   same_there n other =
-      let place = place_of-new_other page_key promoted_page (λ k. refl) t m i unlisted lowest n
+      let place = index_of-new_other page_key promoted_page (λ k. refl) t m i unlisted lowest n
       other in
       record {
         place = place;

@@ -17,7 +17,7 @@ use Rattle.thy_control.specs.Find.{with_entry_for, index_for}
 use Rattle.thy_control.specs.Keys.{block_key}
 use Rattle.thy_control.specs.State.{IsUsed, AreUsed}
 use Rattle.thy_control.specs.StoredTables.{btt_with, btt_after}
-use Rattle.thy_control.proofs.FindLemmas.{at_set, at_put, by_entry_for, place_of-new_same}
+use Rattle.thy_control.proofs.FindLemmas.{at_set, at_put, by_entry_for, index_of-new_same}
 use Rattle.thy_table.proofs.ListingLaws.{entry_at-mapped}
 use Rattle.thy_block.proofs.BasicLemmas.{some_same}
 
@@ -73,7 +73,7 @@ others-found t b all j e =
     (λ other was. all j e was)
     (λ i h f other was.
     let at : index_for block_key new_entry b (with_entry i (Some (new_entry b)) t) ≡ i
-    = ap (λ o. unwrap_or o 0) (place_of-new_same block_key new_entry (λ n. refl) t b i h f) in
+    = ap (λ o. unwrap_or o 0) (index_of-new_same block_key new_entry (λ n. refl) t b i h f) in
     all j e (sym (get_or-set_other t.entries i j (Some (new_entry b)) None
     (λ same. other (same ∙ sym at))) ∙ was))
 

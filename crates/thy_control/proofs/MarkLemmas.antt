@@ -8,7 +8,7 @@ use Rattle.thy_block.specs.declared.parameters.Parameters.{Parameters}
 use Rattle.thy_block.specs.Device.{Device}
 use Rattle.thy_block.specs.Geometry.{IsInRange, memory_blocks}
 use Rattle.thy_block.specs.Store.{page_of}
-use Rattle.thy_table.specs.Listing.{Listing, entry_at, place_of, free_place, passes, with_entry, empty_table}
+use Rattle.thy_table.specs.Listing.{Listing, entry_at, index_of, free_index, passes, with_entry, empty_table}
 use Rattle.thy_table.proofs.IndexLemmas.{one_if, lists-key}
 use Rattle.thy_table.specs.declared.block_entry.BttEntry.{BttEntry}
 use Rattle.thy_table.specs.declared.block_entry.Working.{Working}
@@ -54,7 +54,7 @@ overlaid-with r b pages t =
     (sym (ap (passes (is_overlaid pages)) free.0)))
 
 -- another entry of a block that has one
-module _ (t : State) (b : ℕ) (e : BttEntry) (of_block : e.block ≡ b) (listed : place_of block_key b t.btt ≡ Some (cell_of t b).i) where
+module _ (t : State) (b : ℕ) (e : BttEntry) (of_block : e.block ≡ b) (listed : index_of block_key b t.btt ≡ Some (cell_of t b).i) where
   there : (entry_at t.btt (cell_of t b).i ≡ Some (cell_of t b).entry)
       × ((cell_of t b).i < length t.btt.entries)
   there = stands_at block_key new_entry t.btt b (cell_of t b).i listed
@@ -122,7 +122,7 @@ overlaid-cell PendingFirst b t is l =
     omega (arith, set)
 
 -- the counts of work are right after a store
-pub AreWorkCounts-after : (b : ℕ) (block : Block) (s : State) (n : Device) (m now : WorkCounts) → AreWorkCounts s.ptt s.btt m → (free_place s.btt ≡ None → ⊥)
+pub AreWorkCounts-after : (b : ℕ) (block : Block) (s : State) (n : Device) (m now : WorkCounts) → AreWorkCounts s.ptt s.btt m → (free_index s.btt ≡ None → ⊥)
     → now.overlaid ≡ m.overlaid + covers (rule_for b s) (cell_before b s) → now.promoted ≡ m.promoted
     → AreWorkCounts (state_after b block s n).ptt (state_after b block s n).btt now
 unfolding state_after cell_before
@@ -138,8 +138,8 @@ AreWorkCounts-after b block s n m now h some over promoting =
 
 -- if none is counted, no block has work over its frame
 pub IsBareState-none : (s : State) → overlaid s.ptt s.btt ≡ 0 → IsBareState s
-IsBareState-none s none = record { bare = λ b l. record { no_overlay = λ framed work. by_place b framed work (place_of block_key b s.btt) refl } } where
-  by_place : (b : ℕ) → is_framed (cell_of s b).page ≡ true → (cell_of s b).entry.work ≡ InBuffer → (o : Option ℕ) → place_of block_key b s.btt ≡ o → ⊥
+IsBareState-none s none = record { bare = λ b l. record { no_overlay = λ framed work. by_place b framed work (index_of block_key b s.btt) refl } } where
+  by_place : (b : ℕ) → is_framed (cell_of s b).page ≡ true → (cell_of s b).entry.work ≡ InBuffer → (o : Option ℕ) → index_of block_key b s.btt ≡ o → ⊥
   by_place b framed work None h =
       let idle : NoWork ≡ InBuffer = sym (ap (λ (e : BttEntry). e.work) (entry_for-none block_key new_entry s.btt b h)) ∙ work in cc
   by_place b framed work (Some i) h =
@@ -179,7 +179,7 @@ IsOverlaid-some s t some =
 
 -- if the count of pages in promotion is 0, every page is whole
 pub IsWholeState-none : (s : State) → promoted s.ptt ≡ 0 → IsWholeState s
-IsWholeState-none s none = record { whole = λ b l. whole_page s b none (place_of page_key (page_of b) s.ptt) refl }
+IsWholeState-none s none = record { whole = λ b l. whole_page s b none (index_of page_key (page_of b) s.ptt) refl }
 
 unframed_fresh : (framed fresh : Bool) → (not framed && fresh) ≡ true → (framed ≡ false) × (fresh ≡ true)
 unframed_fresh true fresh e = cc
@@ -198,7 +198,7 @@ IsPromoting-some s t some =
         let inside = t.ptt_once.inside j e.page listed in
         let b : ℕ = 64 * e.page in
         let of_page : page_of b ≡ e.page = omega arith in
-        let found : (cell_of s b).page ≡ e = entry_for-some page_key no_page s.ptt (page_of b) j e (ap (λ (n : ℕ). place_of page_key n s.ptt) of_page ∙ t.ptt_once.found j e.page listed) was in
+        let found : (cell_of s b).page ≡ e = entry_for-some page_key no_page s.ptt (page_of b) j e (ap (λ (n : ℕ). index_of page_key n s.ptt) of_page ∙ t.ptt_once.found j e.page listed) was in
         record {
           block = b;
           inside = omega (arith, inside, t.ptt_numbers);

@@ -19,7 +19,7 @@ use Rattle.thy_block.specs.Geometry.{memory_blocks}
 use Rattle.thy_table.specs.Places.{IsPlace, number_of}
 use Rattle.thy_block.specs.Store.{page_of}
 use Rattle.thy_dram.specs.Contents.{Contents, written}
-use Rattle.thy_table.specs.Listing.{Listing, IsListing, entry_at, passes, place_of, with_entry}
+use Rattle.thy_table.specs.Listing.{Listing, IsListing, entry_at, passes, index_of, with_entry}
 use Rattle.thy_table.proofs.FirstLemmas.{first_from-first, none-first_from}
 use Rattle.thy_table.specs.declared.block_entry.BttEntry.{BttEntry}
 use Rattle.thy_table.specs.declared.page_entry.PttEntry.{PttEntry}
@@ -39,7 +39,7 @@ use Rattle.thy_control.specs.Seal.{block_is_framed}
 use Rattle.thy_control.specs.Copies.{block_listed, block_in}
 use Rattle.thy_control.specs.Merges.{next_merge, overlays, dram_merged, merged_block, after_merge}
 use Rattle.thy_control.proofs.FindLemmas.{found_entry, stands_at, entry_for-there, by_number}
-use Rattle.thy_control.proofs.StateLemmas.{block-cell_of, IsWithin-cell_of, place_of-index}
+use Rattle.thy_control.proofs.StateLemmas.{block-cell_of, IsWithin-cell_of, index_of-index}
 use Rattle.thy_control.proofs.CountLemmas.{count-set_less}
 use Rattle.thy_control.proofs.KeepLemmas.{IsPlace-frame_of}
 use Rattle.thy_control.proofs.TablesLemmas.{owner, Owns-cell_of}
@@ -54,14 +54,14 @@ abbrev dirty : PttEntry → PttEntry
 dirty e = record e { dirty = true }
 
 module _ (b : ℕ) (s : State) (framed : is_framed (cell_of s b).page ≡ true) (over : (cell_of s b).entry.work ≡ InBuffer) where
-  pub listed-merge : place_of block_key b s.btt ≡ Some (cell_of s b).i
-  listed-merge = place_of-index block_key new_entry s.btt b (λ e. let no : (cell_of s b).entry.work ≡ NoWork = ap (λ (x : BttEntry). x.work) e in cc)
+  pub listed-merge : index_of block_key b s.btt ≡ Some (cell_of s b).i
+  listed-merge = index_of-index block_key new_entry s.btt b (λ e. let no : (cell_of s b).entry.work ≡ NoWork = ap (λ (x : BttEntry). x.work) e in cc)
 
   has_page : (cell_of s b).page ≢ no_page (page_of b)
   has_page e = let no : is_framed (cell_of s b).page ≡ false = ap is_framed e in cc
 
-  pub listed_page-merge : place_of page_key (page_of b) s.ptt ≡ Some (cell_of s b).j
-  listed_page-merge = place_of-index page_key no_page s.ptt (page_of b) has_page
+  pub listed_page-merge : index_of page_key (page_of b) s.ptt ≡ Some (cell_of s b).j
+  listed_page-merge = index_of-index page_key no_page s.ptt (page_of b) has_page
 
   module _ (once : IsListing block_key s.btt) where
     abbrev cleared : State

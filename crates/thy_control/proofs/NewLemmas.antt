@@ -6,7 +6,7 @@ use Rattle.thy_block.specs.Geometry.{IsInRange, memory_blocks}
 use Rattle.thy_block.specs.Places.{dram_blocks}
 use Rattle.thy_block.specs.Store.{page_of}
 use Rattle.thy_dram.specs.Contents.{Contents}
-use Rattle.thy_table.specs.Listing.{IsListing, entry_at, lists, place_of, empty_table}
+use Rattle.thy_table.specs.Listing.{IsListing, entry_at, lists, index_of, empty_table}
 use Rattle.thy_table.proofs.FirstLemmas.{position-none}
 use Rattle.thy_table.specs.declared.block_entry.BttEntry.{BttEntry}
 use Rattle.thy_table.specs.declared.page_entry.PttEntry.{PttEntry}
@@ -31,8 +31,8 @@ module _ {E : Type 0} (key : E → ℕ) (size numbers : ℕ) where
     inside = λ i n h. let none : false ≡ true = sym (ap (lists key n) (entry_at-empty i)) ∙ h in absurd cc;
   }
 
-  pub place_of-empty : (n : ℕ) → place_of key n (empty_table size numbers) ≡ None
-  place_of-empty n = position-none (lists key n) None (replicate size None) (λ k l. ap (lists key n) (entry_at-empty k))
+  pub index_of-empty : (n : ℕ) → index_of key n (empty_table size numbers) ≡ None
+  index_of-empty n = position-none (lists key n) None (replicate size None) (λ k l. ap (lists key n) (entry_at-empty k))
 
 pub AreSoundTables-new : NewCellsAreSound → (p : Parameters) (dram : Contents) → IsInRange p → length dram.blocks ≡ dram_blocks p → AreSoundTables (new_state p dram)
 AreSoundTables-new new_sound p dram range size = record {
@@ -49,8 +49,8 @@ AreSoundTables-new new_sound p dram range size = record {
   dram_size = size;
   cells = λ b l.
       let s = new_state p dram in
-      let entry : entry_for block_key new_entry b s.btt ≡ new_entry b = entry_for-none block_key new_entry s.btt b (place_of-empty block_key p.btt (memory_blocks p) b) in
-      let page : entry_for page_key no_page (page_of b) s.ptt ≡ no_page (page_of b) = entry_for-none page_key no_page s.ptt (page_of b) (place_of-empty page_key p.ptt p.pages (page_of b)) in
+      let entry : entry_for block_key new_entry b s.btt ≡ new_entry b = entry_for-none block_key new_entry s.btt b (index_of-empty block_key p.btt (memory_blocks p) b) in
+      let page : entry_for page_key no_page (page_of b) s.ptt ≡ no_page (page_of b) = entry_for-none page_key no_page s.ptt (page_of b) (index_of-empty page_key p.ptt p.pages (page_of b)) in
       let i : ℕ = index_for block_key new_entry b s.btt in
       let j : ℕ = index_for page_key no_page (page_of b) s.ptt in
       let one : cell_of s b ≡ record { i = i; entry = new_entry b; j = j; page = no_page (page_of b) }

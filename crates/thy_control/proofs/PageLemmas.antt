@@ -1,13 +1,13 @@
--- The cells after the entry of one page was changed, or that of one block cleared.
+-- The cells after the entry of one page was changed, or the entry of one block cleared.
 use Rattle.std.proofs.Common.{◌≡◌, ◌≢◌, ℕ, ◌<◌, Bool, true, false, List, [], ◌∷◌, length, refl, sym, ◌∙◌, ap, subst, inl, inr, arith, Option, Some, None, unwrap_or}
 use Rattle.std.specs.List.{count_by}
 use Rattle.std.proofs.lemmas.Bool.{cases_eq}
 use Rattle.std.proofs.lemmas.List.{get_or-set_other}
 use Rattle.std.proofs.lemmas.List.Sums.{sum_by-cons}
 use Rattle.thy_block.specs.Store.{page_of}
-use Rattle.thy_table.specs.Listing.{Listing, IsListing, entry_at, place_of, with_entry}
+use Rattle.thy_table.specs.Listing.{Listing, IsListing, entry_at, index_of, with_entry}
 use Rattle.thy_table.proofs.IndexLemmas.{one_if}
-use Rattle.thy_table.proofs.ListingLaws.{place_of-cleared, place_of-cleared_other}
+use Rattle.thy_table.proofs.ListingLaws.{index_of-cleared, index_of-cleared_other}
 use Rattle.thy_table.specs.declared.block_entry.BttEntry.{BttEntry}
 use Rattle.thy_table.specs.declared.page_entry.PttEntry.{PttEntry}
 use Rattle.thy_table.specs.BlockEntry.{new_entry}
@@ -26,7 +26,7 @@ count-same p q same (x ∷ xs) =
     omega (arith, sum_by-cons (λ y. one_if (p y)) x xs, sum_by-cons (λ y. one_if (q y)) x xs, ap one_if (same x), count-same p q same xs)
 
 -- one page's entry was changed: the blocks of that page
-module _ (f : PttEntry → PttEntry) (of_page : (e : PttEntry) → (f e).page ≡ e.page) (t : State) (b : ℕ) (listed : place_of page_key (page_of b) t.ptt ≡ Some (cell_of t b).j) where
+module _ (f : PttEntry → PttEntry) (of_page : (e : PttEntry) → (f e).page ≡ e.page) (t : State) (b : ℕ) (listed : index_of page_key (page_of b) t.ptt ≡ Some (cell_of t b).j) where
   abbrev pub page_set : State
   page_set = record t { ptt = with_entry (cell_of t b).j (Some (f (cell_of t b).page)) t.ptt }
 
@@ -61,18 +61,18 @@ live-set t i x inside fresh live =
     at_put t i (λ e. is_framed e ≡ false → e.fresh ≡ true) x inside fresh live
 
 -- the entry of one block was cleared
-module _ (t : State) (once : IsListing block_key t.btt) (b : ℕ) (listed : place_of block_key b t.btt ≡ Some (cell_of t b).i) where
+module _ (t : State) (once : IsListing block_key t.btt) (b : ℕ) (listed : index_of block_key b t.btt ≡ Some (cell_of t b).i) where
   abbrev pub block_cleared : State
   block_cleared = record t { btt = with_entry (cell_of t b).i None t.btt }
 
   there : (old : BttEntry) × (entry_at t.btt (cell_of t b).i ≡ Some old) × (old.block ≡ b) × ((cell_of t b).i < length t.btt.entries)
   there = found_entry block_key new_entry t.btt b (cell_of t b).i listed
 
-  place-here : place_of block_key b block_cleared.btt ≡ None
-  place-here = ap (λ (n : ℕ). place_of block_key n block_cleared.btt) (sym there.2) ∙ place_of-cleared block_key t.btt once (cell_of t b).i there.0 there.1
+  place-here : index_of block_key b block_cleared.btt ≡ None
+  place-here = ap (λ (n : ℕ). index_of block_key n block_cleared.btt) (sym there.2) ∙ index_of-cleared block_key t.btt once (cell_of t b).i there.0 there.1
 
-  place-other : (k : ℕ) → k ≢ b → place_of block_key k block_cleared.btt ≡ place_of block_key k t.btt
-  place-other k other = place_of-cleared_other block_key t.btt once (cell_of t b).i there.0 k there.1 (λ e. other (e ∙ there.2))
+  place-other : (k : ℕ) → k ≢ b → index_of block_key k block_cleared.btt ≡ index_of block_key k t.btt
+  place-other k other = index_of-cleared_other block_key t.btt once (cell_of t b).i there.0 k there.1 (λ e. other (e ∙ there.2))
 
   entry-other : (k : ℕ) → k ≢ b → entry_for block_key new_entry k block_cleared.btt ≡ entry_for block_key new_entry k t.btt
   entry-other k other =

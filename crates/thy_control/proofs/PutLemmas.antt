@@ -13,7 +13,7 @@ use Rattle.thy_block.proofs.RangeLemmas.{btt_least}
 use Rattle.thy_dram.specs.Contents.{Contents}
 use Rattle.thy_table.specs.Devices.{Devices, devices_of, written_at}
 use Rattle.thy_table.proofs.MoveLemmas.{AreSized-written_at}
-use Rattle.thy_table.specs.Listing.{Listing, IsListing, entry_at, lists, free_place, free_count}
+use Rattle.thy_table.specs.Listing.{Listing, IsListing, entry_at, lists, free_index, free_count}
 use Rattle.thy_table.proofs.IndexLemmas.{count-none}
 use Rattle.thy_table.specs.declared.block_entry.BttEntry.{BttEntry}
 use Rattle.thy_table.specs.declared.block_entry.Pending.TheVariants.{Settled, FromBuffer}
@@ -38,10 +38,10 @@ use Rattle.thy_control.proofs.FindLemmas.{index_for-inside}
 use Rattle.thy_control.proofs.StateLemmas.{block-cell_of, page-cell_of, IsWithin-cell_of, first_is_pending, IsListed, IsListed-with_block, cell-with_block_same, sound-with_block, sound-with_cell, rule-with_block, frame_is_framed, btt_with-by}
 use Rattle.thy_control.proofs.LiveLemmas.{used-stored}
 use Rattle.thy_control.proofs.PageLemmas.{live-set}
-use Rattle.thy_table.proofs.ListingLaws.{place_of-lists}
+use Rattle.thy_table.proofs.ListingLaws.{index_of-lists}
 
 -- if entries are free, a lowest one is
-pub has_free : (t : Listing BttEntry) → 0 < free_count t → free_place t ≡ None → ⊥
+pub has_free : (t : Listing BttEntry) → 0 < free_count t → free_index t ≡ None → ⊥
 has_free t room none = omega (arith, count-none t.entries none)
 
 -- the sizes of the block table with an entry more
@@ -109,7 +109,7 @@ pub block_listed : (s : State) (b : ℕ) → 0 < free_count s.btt → rule_for b
 unfolding cell_before
 block_listed s b room not_frame =
     let t : State = with_block (rule_for b s) b s in
-    place_of-lists block_key t.btt b (cell_of t b).i
+    index_of-lists block_key t.btt b (cell_of t b).i
     ((IsListed-with_block (rule_for b s) b s refl (has_free s.btt room)).block not_frame)
 
 pub page_listed : (s : State) (b : ℕ) → 0 < free_count s.btt → rule_for b s ≡ ToFrame
@@ -117,7 +117,7 @@ pub page_listed : (s : State) (b : ℕ) → 0 < free_count s.btt → rule_for b 
 unfolding cell_before
 page_listed s b room frame =
     let t : State = with_block (rule_for b s) b s in
-    place_of-lists page_key t.ptt (page_of b) (cell_of t b).j
+    index_of-lists page_key t.ptt (page_of b) (cell_of t b).j
     ((IsListed-with_block (rule_for b s) b s refl (has_free s.btt room)).page frame)
 
 -- the block that is put, by what both devices read as

@@ -6,7 +6,7 @@ use Rattle.thy_table.specs.declared.place.Place.{Place}
 use Rattle.thy_block.specs.Device.{Device}
 use Rattle.thy_block.specs.Geometry.{memory_blocks}
 use Rattle.thy_block.specs.Store.{page_of}
-use Rattle.thy_table.specs.Listing.{Listing, entry_at, lists, mapped, IsListing, place_of, free_count}
+use Rattle.thy_table.specs.Listing.{Listing, entry_at, lists, mapped, IsListing, index_of, free_count}
 use Rattle.thy_table.proofs.IndexLemmas.{lists-key, free_one}
 use Rattle.thy_table.proofs.ListingLaws.{IsListing-mapped, entry_at-mapped, free_count-mapped}
 use Rattle.thy_table.specs.declared.block_entry.BttEntry.{BttEntry}
@@ -232,7 +232,7 @@ sealed_parts e of_few of_btt of_ptt of_counts = cc
 
 -- ---- the tables of both checkpoints after a commit and after a seal
 
--- what is listed after a rule, if that of each live entry is known
+-- what is listed after a rule, if what is listed of each live entry is known
 module _ {E : Type 0} (rule : E → Option E) (f h : E → Option ℕ) (t : Listing E) (each : (i : ℕ) (e : E) → entry_at t i ≡ Some e → option_and_then f (rule e) ≡ h e) where
   by_entry : (i : ℕ) (o : Option E) → entry_at t i ≡ o → option_and_then f (option_and_then rule o) ≡ option_and_then h o
   by_entry i None was = refl
@@ -274,7 +274,7 @@ leaves_home s t j e was leaves =
     let inside = t.ptt_once.inside j e.page listed in
     let b : ℕ = 64 * e.page in
     let of_page : page_of b ≡ e.page = omega arith in
-    let found : (cell_of s b).page ≡ e = entry_for-some page_key no_page s.ptt (page_of b) j e (ap (λ (n : ℕ). place_of page_key n s.ptt) of_page ∙ t.ptt_once.found j e.page listed) was in
+    let found : (cell_of s b).page ≡ e = entry_for-some page_key no_page s.ptt (page_of b) j e (ap (λ (n : ℕ). index_of page_key n s.ptt) of_page ∙ t.ptt_once.found j e.page listed) was in
     let sound = t.cells b (omega (arith, inside, t.ptt_numbers)) in
     ap (λ (x : PttEntry). x.target) (sym found) ∙ sound.of_page.leaving_home (ap (λ (x : PttEntry). x.leaving) found ∙ leaves)
 

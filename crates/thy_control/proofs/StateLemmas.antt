@@ -24,9 +24,9 @@ use Rattle.thy_table.specs.Sound.{IsWithin, IsSoundCell, IsWhole}
 use Rattle.thy_table.specs.Rules.{store_place, store_rule, after_store}
 use Rattle.thy_control.specs.Keys.{block_key, page_key}
 use Rattle.thy_control.specs.State.{State, AreSoundTables, cell_of}
-use Rattle.thy_control.proofs.FindLemmas.{key-entry_for, index_for-inside, found_entry, entry_for-none, place_of-with_same, place_of-set, entry_for-set_same, entry_for-set_other, by_entry_for, entry_for-new, place_of-new_other, by_number}
+use Rattle.thy_control.proofs.FindLemmas.{key-entry_for, index_for-inside, found_entry, entry_for-none, index_of-with_same, index_of-set, entry_for-set_same, entry_for-set_other, by_entry_for, entry_for-new, index_of-new_other, by_number}
 use Rattle.std.proofs.lemmas.Bool.{cases_eq}
-use Rattle.thy_table.specs.Listing.{Listing, entry_at, place_of, free_place, with_entry}
+use Rattle.thy_table.specs.Listing.{Listing, entry_at, index_of, free_index, with_entry}
 use Rattle.thy_table.specs.declared.block_entry.BttEntry.{BttEntry}
 use Rattle.thy_table.specs.declared.page_entry.PttEntry.{PttEntry}
 use Rattle.thy_table.specs.Checkpoint.{with_dirty}
@@ -113,7 +113,7 @@ IsSoundCell-moved u c i s = search rules
 -- rule adds
 pub btt_with-by : (P : Listing BttEntry → Type 0) (r : StoreRule) (b : ℕ) (t : Listing BttEntry)
     → P t
-    → ((i : ℕ) → place_of block_key b t ≡ None → free_place t ≡ Some i
+    → ((i : ℕ) → index_of block_key b t ≡ None → free_index t ≡ Some i
     → P (with_entry i (Some (new_entry b)) t)) → P (btt_with r b t)
 btt_with-by P ToFrame b t same put = same
 btt_with-by P PendingFirst b t same put = same
@@ -128,10 +128,10 @@ entry-with_block rule b s m =
     (λ i h f. entry_for-new block_key new_entry (λ n. refl) s.btt b i h f m)
 
 place-with_block : (rule : StoreRule) (b : ℕ) (s : State) (m : ℕ) → m ≢ b
-    → place_of block_key m (btt_with rule b s.btt) ≡ place_of block_key m s.btt
+    → index_of block_key m (btt_with rule b s.btt) ≡ index_of block_key m s.btt
 place-with_block rule b s m other =
-    btt_with-by (λ t. place_of block_key m t ≡ place_of block_key m s.btt) rule b s.btt refl
-    (λ i h f. place_of-new_other block_key new_entry (λ n. refl) s.btt b i h f m other)
+    btt_with-by (λ t. index_of block_key m t ≡ index_of block_key m s.btt) rule b s.btt refl
+    (λ i h f. index_of-new_other block_key new_entry (λ n. refl) s.btt b i h f m other)
 
 -- an entry for a block leaves every other block its cell
 pub cell-with_block_other : (rule : StoreRule) (b : ℕ) (s : State) (m : ℕ) → m ≢ b → cell_of (with_block rule b s) m ≡ cell_of s m
@@ -163,14 +163,14 @@ rule-with_block rule b s = ap store_rule (cell-with_block_same rule b s)
 
 -- the entry that a rule changes is listed
 pub record IsListed (rule : StoreRule) (b : ℕ) (t : State) : Type 0 where
-  pub block : (rule ≢ ToFrame) → place_of block_key b t.btt ≡ Some (cell_of t b).i
-  pub page : (rule ≡ ToFrame) → place_of page_key (page_of b) t.ptt ≡ Some (cell_of t b).j
+  pub block : (rule ≢ ToFrame) → index_of block_key b t.btt ≡ Some (cell_of t b).i
+  pub page : (rule ≡ ToFrame) → index_of page_key (page_of b) t.ptt ≡ Some (cell_of t b).j
 
 -- a block whose entry is not a new one is listed
 module _ {E : Type 0} (key : E → ℕ) (new : ℕ → E) (t : Listing E) (n : ℕ) where
-  pub place_of-index : (entry_for key new n t ≡ new n → ⊥) → place_of key n t ≡ Some (index_for key new n t)
-  place_of-index not_new = by_place (place_of key n t) refl where
-    by_place : (o : Option ℕ) → place_of key n t ≡ o → place_of key n t ≡ Some (index_for key new n t)
+  pub index_of-index : (entry_for key new n t ≡ new n → ⊥) → index_of key n t ≡ Some (index_for key new n t)
+  index_of-index not_new = by_place (index_of key n t) refl where
+    by_place : (o : Option ℕ) → index_of key n t ≡ o → index_of key n t ≡ Some (index_for key new n t)
     by_place None h = absurd (not_new (entry_for-none key new t n h))
     by_place (Some i) h = h ∙ ap (λ o. Some (unwrap_or o 0)) (sym h)
 
@@ -181,26 +181,26 @@ frame_is_framed c e = grind arith
 pub first_is_pending : (c : Cell) → store_rule c ≡ PendingFirst → c.entry.pend ≡ FromBuffer
 first_is_pending c e = grind arith
 
-pub IsListed-with_block : (rule : StoreRule) (b : ℕ) (s : State) → rule_for b s ≡ rule → (free_place s.btt ≡ None → ⊥) → IsListed rule b (with_block rule b s)
+pub IsListed-with_block : (rule : StoreRule) (b : ℕ) (s : State) → rule_for b s ≡ rule → (free_index s.btt ≡ None → ⊥) → IsListed rule b (with_block rule b s)
 unfolding rule_for
 IsListed-with_block ToFrame b s is some = record {
   block = λ n. absurd (n refl);
-  page = λ _. place_of-index page_key no_page s.ptt (page_of b)
+  page = λ _. index_of-index page_key no_page s.ptt (page_of b)
       (λ e. let framed : is_framed (cell_of s b).page ≡ true = frame_is_framed (cell_of s b) is in
       let bare : is_framed (cell_of s b).page ≡ false = ap is_framed e in cc);
 }
 IsListed-with_block PendingFirst b s is some = record {
-  block = λ _. place_of-index block_key new_entry s.btt b
+  block = λ _. index_of-index block_key new_entry s.btt b
       (λ e. let pending : (cell_of s b).entry.pend ≡ FromBuffer = first_is_pending (cell_of s b) is in
       let settled : (cell_of s b).entry.pend ≡ Settled = ap (λ (x : BttEntry). x.pend) e in cc);
   page = λ e. cc;
 }
 IsListed-with_block rule b s is some =
-    let f = place_of-with_same block_key new_entry (λ n. refl) s.btt b some in
+    let f = index_of-with_same block_key new_entry (λ n. refl) s.btt b some in
     record { block = λ _. f.1 ∙ ap (λ o. Some (unwrap_or o 0)) (sym f.1); page = λ e. cc }
 
 -- the cells after an entry of the block table was changed
-module _ (t : State) (b : ℕ) (e : BttEntry) (of_block : e.block ≡ b) (listed : place_of block_key b t.btt ≡ Some (cell_of t b).i) where
+module _ (t : State) (b : ℕ) (e : BttEntry) (of_block : e.block ≡ b) (listed : index_of block_key b t.btt ≡ Some (cell_of t b).i) where
   there : (old : BttEntry) × (entry_at t.btt (cell_of t b).i ≡ Some old) × (old.block ≡ b) × ((cell_of t b).i < length t.btt.entries)
   there = found_entry block_key new_entry t.btt b (cell_of t b).i listed
 
@@ -210,19 +210,19 @@ module _ (t : State) (b : ℕ) (e : BttEntry) (of_block : e.block ≡ b) (listed
   pub cell-set_block_same : cell_of (record t { btt = with_entry (cell_of t b).i (Some e) t.btt }) b ≡ record (cell_of t b) { entry = e }
   cell-set_block_same =
       ap (λ (o : Option ℕ). record (cell_of (record t { btt = with_entry (cell_of t b).i (Some e) t.btt }) b) { i = unwrap_or o 0 })
-      (place_of-set block_key new_entry t.btt (cell_of t b).i there.0 e there.1 same_key there.3 b)
+      (index_of-set block_key new_entry t.btt (cell_of t b).i there.0 e there.1 same_key there.3 b)
       ∙ ap (λ (x : BttEntry). record (cell_of t b) { entry = x })
       (entry_for-set_same block_key new_entry t.btt (cell_of t b).i there.0 e there.1 same_key there.3 b listed)
 
   pub cell-set_block_other : (m : ℕ) → m ≢ b → cell_of (record t { btt = with_entry (cell_of t b).i (Some e) t.btt }) m ≡ cell_of t m
   cell-set_block_other m other =
       ap (λ (o : Option ℕ). record (cell_of (record t { btt = with_entry (cell_of t b).i (Some e) t.btt }) m) { i = unwrap_or o 0 })
-      (place_of-set block_key new_entry t.btt (cell_of t b).i there.0 e there.1 same_key there.3 m)
+      (index_of-set block_key new_entry t.btt (cell_of t b).i there.0 e there.1 same_key there.3 m)
       ∙ ap (λ (x : BttEntry). record (cell_of t m) { entry = x })
       (entry_for-set_other block_key new_entry t.btt (cell_of t b).i there.0 e there.1 same_key there.3 m (λ q. other (q ∙ there.2)))
 
 -- and after one of the page table was
-module _ (t : State) (b : ℕ) (e : PttEntry) (of_page : e.page ≡ page_of b) (listed : place_of page_key (page_of b) t.ptt ≡ Some (cell_of t b).j) where
+module _ (t : State) (b : ℕ) (e : PttEntry) (of_page : e.page ≡ page_of b) (listed : index_of page_key (page_of b) t.ptt ≡ Some (cell_of t b).j) where
   page_there : (old : PttEntry) × (entry_at t.ptt (cell_of t b).j ≡ Some old) × (old.page ≡ page_of b) × ((cell_of t b).j < length t.ptt.entries)
   page_there = found_entry page_key no_page t.ptt (page_of b) (cell_of t b).j listed
 
@@ -233,16 +233,16 @@ module _ (t : State) (b : ℕ) (e : PttEntry) (of_page : e.page ≡ page_of b) (
       → cell_of (record t { ptt = with_entry (cell_of t b).j (Some e) t.ptt }) m ≡ record (cell_of t m) { page = e }
   cell-set_page_same m q =
       ap (λ (o : Option ℕ). record (cell_of (record t { ptt = with_entry (cell_of t b).j (Some e) t.ptt }) m) { j = unwrap_or o 0 })
-      (place_of-set page_key no_page t.ptt (cell_of t b).j page_there.0 e page_there.1 same_page_key page_there.3 (page_of m))
+      (index_of-set page_key no_page t.ptt (cell_of t b).j page_there.0 e page_there.1 same_page_key page_there.3 (page_of m))
       ∙ ap (λ (x : PttEntry). record (cell_of t m) { page = x })
       (entry_for-set_same page_key no_page t.ptt (cell_of t b).j page_there.0 e page_there.1 same_page_key page_there.3 (page_of m)
-      (ap (λ (n : ℕ). place_of page_key n t.ptt) q ∙ listed))
+      (ap (λ (n : ℕ). index_of page_key n t.ptt) q ∙ listed))
 
   pub cell-set_page_other : (m : ℕ) → page_of m ≢ page_of b
       → cell_of (record t { ptt = with_entry (cell_of t b).j (Some e) t.ptt }) m ≡ cell_of t m
   cell-set_page_other m other =
       ap (λ (o : Option ℕ). record (cell_of (record t { ptt = with_entry (cell_of t b).j (Some e) t.ptt }) m) { j = unwrap_or o 0 })
-      (place_of-set page_key no_page t.ptt (cell_of t b).j page_there.0 e page_there.1 same_page_key page_there.3 (page_of m))
+      (index_of-set page_key no_page t.ptt (cell_of t b).j page_there.0 e page_there.1 same_page_key page_there.3 (page_of m))
       ∙ ap (λ (x : PttEntry). record (cell_of t m) { page = x })
       (entry_for-set_other page_key no_page t.ptt (cell_of t b).j page_there.0 e page_there.1 same_page_key page_there.3 (page_of m) (λ q. other (q ∙ page_there.2)))
 

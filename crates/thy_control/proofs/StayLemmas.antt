@@ -12,7 +12,7 @@ use Rattle.thy_table.specs.Places.{in_dram, number_of, IsPlace}
 use Rattle.thy_block.proofs.DeviceLemmas.{newest-written_to_other}
 use Rattle.thy_dram.specs.Contents.{written}
 use Rattle.thy_table.specs.Devices.{Devices, devices_of, written_at}
-use Rattle.thy_table.specs.Listing.{Listing, place_of, free_count, with_entry}
+use Rattle.thy_table.specs.Listing.{Listing, index_of, free_count, with_entry}
 use Rattle.thy_table.specs.declared.block_entry.BttEntry.{BttEntry}
 use Rattle.thy_table.specs.declared.page_entry.PttEntry.{PttEntry}
 use Rattle.thy_table.specs.BlockEntry.{new_entry}
@@ -65,14 +65,14 @@ module _ (f : BttEntry → Option ℕ) (new_none : (b : ℕ) → f (new_entry b)
       (new_none b ∙ sym (ap (option_and_then f) free.0)) free.1)
 
 -- an entry of the block table that is listed the same
-pub map-block : (f : BttEntry → Option ℕ) (t : State) (b : ℕ) (e : BttEntry) → place_of block_key b t.btt ≡ Some (cell_of t b).i → f e ≡ f (cell_of t b).entry
+pub map-block : (f : BttEntry → Option ℕ) (t : State) (b : ℕ) (e : BttEntry) → index_of block_key b t.btt ≡ Some (cell_of t b).i → f e ≡ f (cell_of t b).entry
     → map (option_and_then f) (with_entry (cell_of t b).i (Some e) t.btt).entries ≡ map (option_and_then f) t.btt.entries
 map-block f t b e listed same =
     let there = stands_at block_key new_entry t.btt b (cell_of t b).i listed in
     map-set_same (option_and_then f) t.btt.entries (cell_of t b).i (Some e) None
     (same ∙ sym (ap (option_and_then f) there.0)) there.1
 
-pub map-page : (f : PttEntry → Option ℕ) (t : State) (b : ℕ) (e : PttEntry) → place_of page_key (page_of b) t.ptt ≡ Some (cell_of t b).j → f e ≡ f (cell_of t b).page
+pub map-page : (f : PttEntry → Option ℕ) (t : State) (b : ℕ) (e : PttEntry) → index_of page_key (page_of b) t.ptt ≡ Some (cell_of t b).j → f e ≡ f (cell_of t b).page
     → map (option_and_then f) (with_entry (cell_of t b).j (Some e) t.ptt).entries ≡ map (option_and_then f) t.ptt.entries
 map-page f t b e listed same =
     let there = stands_at page_key no_page t.ptt (page_of b) (cell_of t b).j listed in

@@ -21,12 +21,12 @@ use Rattle.thy_table.specs.BetweenCheckpoints.{Keeps, ReadsSame}
 use Rattle.thy_control.specs.State.{State, AreSoundTables, IsSized, cell_of, reads}
 use Rattle.thy_control.specs.Stays.{HoldAll, CellStays}
 use Rattle.thy_control.specs.Versions.{KeepsCheckpoints, KeepsWork, KeepsAll}
-use Rattle.thy_control.proofs.StateLemmas.{IsPlace-penult, IsPlace-target, IsPlace-last, IsPlace-work, IsWithin-cell_of, block-cell_of, place_of-index}
+use Rattle.thy_control.proofs.StateLemmas.{IsPlace-penult, IsPlace-target, IsPlace-last, IsPlace-work, IsWithin-cell_of, block-cell_of, index_of-index}
 use Rattle.thy_control.proofs.KeepLemmas.{hold_same, IsPlace-frame_of}
 use Rattle.thy_control.proofs.TablesLemmas.{owner, Owns, Owns-cell_of, owned-penult, owned-target, owned-last, owned-work, owned-apart}
 use Rattle.thy_block.specs.Places.{dram_blocks}
 use Rattle.thy_dram.specs.Contents.{Contents}
-use Rattle.thy_table.specs.Listing.{IsListing, entry_at, place_of, with_entry}
+use Rattle.thy_table.specs.Listing.{IsListing, entry_at, index_of, with_entry}
 use Rattle.thy_control.specs.CheckpointTables.{tables0, tables1, page_lists}
 use Rattle.thy_control.specs.Find.{entry_for}
 use Rattle.thy_control.specs.Keys.{page_key}
@@ -150,8 +150,8 @@ two_in_page k b q ne e = ne (omega (arith, q, e))
 
 -- a page that has an entry
 module _ (b : ℕ) (s : State) (has_page : (cell_of s b).page ≢ no_page (page_of b)) where
-  pub listed-page : place_of page_key (page_of b) s.ptt ≡ Some (cell_of s b).j
-  listed-page = place_of-index page_key no_page s.ptt (page_of b) has_page
+  pub listed-page : index_of page_key (page_of b) s.ptt ≡ Some (cell_of s b).j
+  listed-page = index_of-index page_key no_page s.ptt (page_of b) has_page
 
   pub has_page-same : (k : ℕ) → page_of k ≡ page_of b → (cell_of s k).page ≢ no_page (page_of k)
   has_page-same k q e = has_page (sym (same_page s k b q) ∙ e ∙ ap no_page q)
@@ -182,7 +182,7 @@ pub record IsWalk (f : PttEntry → PttEntry) (u : Bool) (b : ℕ) (s : State) (
       → ReadsSame old new (cell_of s k) → Holds old (cell_of s k) → Keeps u old new (cell_of s k) (counted_on f (cell_of s k))
 
 module _ {f : PttEntry → PttEntry} {u : Bool} {b : ℕ} {s : State} {x y : Place} (w : IsWalk f u b s x y) where
-  listed : place_of page_key (page_of b) s.ptt ≡ Some (cell_of s b).j
+  listed : index_of page_key (page_of b) s.ptt ≡ Some (cell_of s b).j
   listed = listed-page b s w.has_page
 
   -- every block but the page's blocks is as it was

@@ -1,4 +1,4 @@
--- What a load and a store leave, seen as those of a store of blocks.
+-- What a load and a store leave, seen as a store of blocks.
 use Rattle.std.proofs.Common.{◌≡◌, ◌≢◌, ℕ, ◌+◌, ◌<◌, ◌≤◌, ◌==◌, ◌&&◌, Bool, true, false, not, if◌then◌else◌, length, get_or, slice_set, map, refl, sym, ◌∙◌, ap, subst, inl, inr, arith, Option, Some, None, Result, Ok, Err, IfOk, OnOk, OnErr}
 use Rattle.std.specs.List.{range_with_len}
 use Rattle.std.proofs.lemmas.Bool.{cases_eq, and_parts, eqb-true, not-true}
@@ -15,7 +15,7 @@ use Rattle.thy_table.specs.Places.{image_blocks}
 use Rattle.thy_block.specs.Store.{page_of, IsStored, HasStored}
 use Rattle.thy_dram.specs.Contents.{written}
 use Rattle.thy_table.specs.Devices.{Devices, devices_of}
-use Rattle.thy_table.specs.Listing.{free_count, passes, place_of}
+use Rattle.thy_table.specs.Listing.{free_count, passes, index_of}
 use Rattle.thy_table.specs.declared.page_entry.PttEntry.{PttEntry}
 use Rattle.thy_table.specs.declared.block_entry.Pending.TheVariants.{FromBuffer}
 use Rattle.thy_table.specs.PageEntry.{no_page, is_framed}
@@ -94,7 +94,7 @@ unpromoted : (framed fresh : Bool) → (not framed && fresh) ≡ false → frame
 unpromoted true fresh h e = cc
 unpromoted false fresh h e = h
 
-pub whole_page : (s : State) (b : ℕ) → promoted s.ptt ≡ 0 → (o : Option ℕ) → place_of page_key (page_of b) s.ptt ≡ o → IsWhole (cell_of s b).page
+pub whole_page : (s : State) (b : ℕ) → promoted s.ptt ≡ 0 → (o : Option ℕ) → index_of page_key (page_of b) s.ptt ≡ o → IsWhole (cell_of s b).page
 whole_page s b none None h =
     let is : (cell_of s b).page ≡ no_page (page_of b) = entry_for-none page_key no_page s.ptt (page_of b) h in
     record { framed = λ f. ap (λ (x : PttEntry). x.fresh) is }
@@ -107,7 +107,7 @@ whole_page s b none (Some i) h =
 pub ready-whole : (s : State) (m : Device) → (holding_of s m).ready ≡ true → IsWholeState s × (m.down ≡ false)
 ready-whole s m h =
     let both = and_parts (promoted s.ptt == 0) (not m.down) h in
-    (record { whole = λ b l. whole_page s b (eqb-true (promoted s.ptt) 0 both.0) (place_of page_key (page_of b) s.ptt) refl }, not-true m.down both.1)
+    (record { whole = λ b l. whole_page s b (eqb-true (promoted s.ptt) 0 both.0) (index_of page_key (page_of b) s.ptt) refl }, not-true m.down both.1)
 
 -- blocks by a function that gives the same but for one number
 blocks_set : (f g : ℕ → Block) (size b : ℕ) (block : Block) → g b ≡ block → ((k : ℕ) → k < size → k ≢ b → g k ≡ f k)

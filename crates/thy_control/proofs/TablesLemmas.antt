@@ -4,7 +4,7 @@ use Rattle.std.specs.Option.{option_map}
 use Rattle.thy_table.specs.declared.place.Place.{Place}
 use Rattle.thy_table.specs.declared.place.Place.TheVariants.{Home, AlternateBlock, AlternatePage, Buffer, Frame}
 use Rattle.thy_block.specs.Store.{page_of}
-use Rattle.thy_table.specs.Listing.{entry_at, place_of, Listing, IsListing, lists}
+use Rattle.thy_table.specs.Listing.{entry_at, index_of, Listing, IsListing, lists}
 use Rattle.thy_table.specs.declared.block_entry.BttEntry.{BttEntry}
 use Rattle.thy_table.specs.declared.block_entry.Version.{Version}
 use Rattle.thy_table.specs.declared.block_entry.Version.TheVariants.{Out, Alt}
@@ -25,7 +25,7 @@ use Rattle.thy_table.specs.Rules.{store_place}
 use Rattle.thy_control.specs.Keys.{block_key, page_key}
 use Rattle.thy_control.specs.State.{State, cell_of, AreSoundTables}
 use Rattle.thy_control.proofs.FindLemmas.{found_entry, entry_for-some, entry_for-none}
-use Rattle.thy_control.proofs.StateLemmas.{block-cell_of, IsListed, place_of-index}
+use Rattle.thy_control.proofs.StateLemmas.{block-cell_of, IsListed, index_of-index}
 use Rattle.std.proofs.lemmas.List.{length-map}
 use Rattle.std.proofs.Math.ListN.{get_or-map}
 use Rattle.thy_block.specs.Geometry.{memory_blocks}
@@ -53,10 +53,10 @@ pub record Owns (t : State) (m : ℕ) (c : Cell) : Type 0 where
   pub of_entry : c.entry ≢ new_entry m → owner t (alternate_at (seat_of c)) ≡ Some m
   pub of_page : c.page ≢ no_page (page_of m) → owner t (frame_at (seat_of c)) ≡ Some m
 
-pub owner-listed : (t : State) (m i : ℕ) → place_of block_key m t.btt ≡ Some i → option_map block_key (entry_at t.btt i) ≡ Some m
+pub owner-listed : (t : State) (m i : ℕ) → index_of block_key m t.btt ≡ Some i → option_map block_key (entry_at t.btt i) ≡ Some m
 owner-listed t m i h = let f = found_entry block_key new_entry t.btt m i h in ap (option_map block_key) f.1 ∙ ap Some f.2
 
-pub owner-page_listed : (t : State) (m j k : ℕ) → k ≡ m % 64 → place_of page_key (page_of m) t.ptt ≡ Some j → option_map (block_in_page k) (entry_at t.ptt j) ≡ Some m
+pub owner-page_listed : (t : State) (m j k : ℕ) → k ≡ m % 64 → index_of page_key (page_of m) t.ptt ≡ Some j → option_map (block_in_page k) (entry_at t.ptt j) ≡ Some m
 owner-page_listed t m j k e h =
     let f = found_entry page_key no_page t.ptt (page_of m) j h in
     let same : block_in_page k f.0 ≡ m = omega (arith, f.2, e) in
@@ -65,8 +65,8 @@ owner-page_listed t m j k e h =
 pub Owns-cell_of : (t : State) (m : ℕ) → Owns t m (cell_of t m)
 Owns-cell_of t m = record {
   of_block = block-cell_of t m;
-  of_entry = λ n. owner-listed t m (cell_of t m).i (place_of-index block_key new_entry t.btt m n);
-  of_page = λ n. owner-page_listed t m (cell_of t m).j ((cell_of t m).entry.block % 64) (ap (λ b. b % 64) (block-cell_of t m)) (place_of-index page_key no_page t.ptt (page_of m) n);
+  of_entry = λ n. owner-listed t m (cell_of t m).i (index_of-index block_key new_entry t.btt m n);
+  of_page = λ n. owner-page_listed t m (cell_of t m).j ((cell_of t m).entry.block % 64) (ap (λ b. b % 64) (block-cell_of t m)) (index_of-index page_key no_page t.ptt (page_of m) n);
 }
 
 owned-placed : (t : State) (m : ℕ) (c : Cell) → Owns t m c → (v : Version) (s : Site)
@@ -147,7 +147,7 @@ module _ {E : Type 0} (key : E → ℕ) (new : ℕ → E) (listed : E → Option
   lists_number i n l = let f = listed_entry i n l in lists-key key n (entry_at t i) f.0 f.1 (of_key f.0 n f.2)
 
   module _ (once : IsListing key t) where
-    found_at : (i n : ℕ) → Lists listed_in i n → place_of key n t ≡ Some i
+    found_at : (i n : ℕ) → Lists listed_in i n → index_of key n t ≡ Some i
     found_at i n l = once.found i n (lists_number i n l)
 
     listed_once : (i k n : ℕ) → Lists listed_in i n → Lists listed_in k n → i ≡ k
@@ -160,8 +160,8 @@ module _ {E : Type 0} (key : E → ℕ) (new : ℕ → E) (listed : E → Option
     -- a number is found exactly if the table's entry for it is listed
     entry_of-listed_in : ((n : ℕ) → listed (new n) ≡ None) → (n : ℕ)
         → entry_of listed_in n ≡ option_map (λ _. index_for key new n t) (listed (entry_for key new n t))
-    entry_of-listed_in new_none n = by_place (place_of key n t) refl where
-      by_listed : (i : ℕ) (e : E) → place_of key n t ≡ Some i → entry_at t i ≡ Some e → (o : Option ℕ) → listed e ≡ o
+    entry_of-listed_in new_none n = by_place (index_of key n t) refl where
+      by_listed : (i : ℕ) (e : E) → index_of key n t ≡ Some i → entry_at t i ≡ Some e → (o : Option ℕ) → listed e ≡ o
           → entry_of listed_in n ≡ option_map (λ _. i) o
       by_listed i e p s None h = entry_of-absent listed_in n (λ k l.
           let f = listed_entry k n l in
@@ -179,7 +179,7 @@ module _ {E : Type 0} (key : E → ℕ) (new : ℕ → E) (listed : E → Option
           let here : Lists listed_in i n = record { is = get_or-map (option_and_then listed) t.entries i None ∙ ap (option_and_then listed) s ∙ h ∙ ap Some number } in
           entry_of-listed listed_in n i here (λ k l. listed_once k i n l here)
 
-      by_place : (o : Option ℕ) → place_of key n t ≡ o → entry_of listed_in n ≡ option_map (λ _. index_for key new n t) (listed (entry_for key new n t))
+      by_place : (o : Option ℕ) → index_of key n t ≡ o → entry_of listed_in n ≡ option_map (λ _. index_for key new n t) (listed (entry_for key new n t))
       by_place None p =
           entry_of-absent listed_in n (λ i l. let no : Some i ≡ None = sym (found_at i n l) ∙ p in cc)
           ∙ sym (ap (option_map (λ _. index_for key new n t)) (ap listed (entry_for-none key new t n p) ∙ new_none n))

@@ -12,7 +12,7 @@ use Rattle.thy_block.specs.Store.{page_of}
 use Rattle.thy_dram.specs.Contents.{Contents, written}
 use Rattle.thy_layout.specs.Entries.{entry_at as table_entry}
 use Rattle.thy_record.specs.Tables.{Tables, IsTables}
-use Rattle.thy_table.specs.Listing.{entry_at, place_of, with_entry}
+use Rattle.thy_table.specs.Listing.{entry_at, index_of, with_entry}
 use Rattle.thy_table.specs.declared.block_entry.BttEntry.{BttEntry}
 use Rattle.thy_table.specs.declared.page_entry.PttEntry.{PttEntry}
 use Rattle.thy_table.specs.BlockEntry.{listed_entry}
@@ -37,16 +37,16 @@ pub record MayListBlock (i b : ℕ) (s : State) : Type 0 where
   pub inside : i < s.p.btt
   pub free : entry_at s.btt i ≡ None
   pub block : b < memory_blocks s.p
-  pub unlisted : place_of block_key b s.btt ≡ None
-  pub bare : place_of page_key (page_of b) s.ptt ≡ None
+  pub unlisted : index_of block_key b s.btt ≡ None
+  pub bare : index_of page_key (page_of b) s.ptt ≡ None
 
 -- a page may be listed at an entry of the page table: the entry is free, and neither the page nor a block of it is listed
 pub record MayListPage (j n : ℕ) (s : State) : Type 0 where
   pub inside : j < s.p.ptt
   pub free : entry_at s.ptt j ≡ None
   pub page : n < s.p.pages
-  pub unlisted : place_of page_key n s.ptt ≡ None
-  pub bare : (b : ℕ) → page_of b ≡ n → place_of block_key b s.btt ≡ None
+  pub unlisted : index_of page_key n s.ptt ≡ None
+  pub bare : (b : ℕ) → page_of b ≡ n → index_of block_key b s.btt ≡ None
 
 -- the controller with the block or the page listed there
 abbrev pub with_listed_block : ℕ → ℕ → State → State

@@ -51,10 +51,11 @@ abbrev pub ListsDense : Tally → (first end : ℕ) → (old new : Listing PttEn
 ListsDense c first end old new =
     (t : Listing PttEntry) → old ≡ with_pages (dense_below c first) t → new ≡ with_pages (dense_below c end) t
 
--- the page table: first its entries, then the pages to be promoted
+-- the page table: first its entries, step 2 of a seal in docs/CONTROLLER.md, then the pages to be promoted, step 3
 abbrev pub sealed_ptt : Tally → Listing PttEntry → Listing PttEntry
 sealed_ptt c t = with_pages (dense_below c (length c.counts)) (mapped (sealed_as_counted c) t)
 
+-- all of a seal: step 1 for the block table, steps 2 and 3 for the page table, step 4 for the counts, step 5 for the engine
 unfoldable pub sealed_state : State → State
 sealed_state s = record s {
   btt = mapped (sealed_in (is_few s) s.ptt) s.btt;

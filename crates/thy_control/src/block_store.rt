@@ -27,7 +27,7 @@ impl<N: Nvm> BlockStore<N> for Control {
 
     fn store(&mut self, b: u64, block: &Block, nvm: &mut N) -> Result<Stored, NvmError> {
         blocks_are_works();
-        self.tables();
+        self.recall_tables();
         Control::store(self, b, block, nvm)
     }
 

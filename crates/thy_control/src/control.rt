@@ -4,7 +4,7 @@ ghost use Rattle.thy_block.specs.Device.{HasFailed, IsFramed, CountsFault, block
 ghost use Rattle.thy_block.specs.Geometry.{memory_blocks};
 ghost use Rattle.thy_block.specs.Places.{dram_blocks};
 ghost use Rattle.thy_table.specs.Places.{in_dram, number_of, IsPlace};
-ghost use Rattle.thy_table.specs.Listing.{free_count, lists, entry_at, place_of};
+ghost use Rattle.thy_table.specs.Listing.{free_count, lists, entry_at, index_of};
 ghost use Rattle.thy_table.specs.BlockEntry.{new_entry};
 ghost use Rattle.thy_table.specs.PageEntry.{no_page};
 ghost use Rattle.thy_control.specs.Find.{index_for, entry_for, with_entry_for};
@@ -38,7 +38,7 @@ use thy_table::{
     a_store_leaves_what_has_to_stand, new_cells_are_sound, read_place, write_place,
 };
 
-/// The controller of a hybrid memory. Blocks are numbered from the start of memory; only `new` allocates.
+/// The controller of two memories. Blocks are numbered from the start of memory; only `new` allocates.
 #[derive(Drop)]
 pub struct Control {
     geometry: Geometry,
@@ -107,7 +107,7 @@ fn place_for_rule(btt: &Btt, b: u64, rule: StoreRule) -> usize
 /// The place that an entry of a block without one takes.
 fn place_to_add(btt: &Btt, b: u64) -> usize
     requires room { 0 < free_count btt.now }
-    requires unlisted { place_of block_key b btt.now ≡ None }
+    requires unlisted { index_of block_key b btt.now ≡ None }
     ensures { result ≡ index_for block_key new_entry b (with_entry_for block_key new_entry b btt.now) }
 {
     match btt.lowest_free() {
@@ -133,7 +133,7 @@ fn add_for_rule(btt: &mut Btt, b: u64, rule: StoreRule)
 /// Adds an entry of a block without one, if one is free.
 fn add_entry(btt: &mut Btt, b: u64)
     requires number { b < btt.old.numbers }
-    requires unlisted { place_of block_key b btt.old ≡ None }
+    requires unlisted { index_of block_key b btt.old ≡ None }
     ensures { btt.new ≡ with_entry_for block_key new_entry b btt.old }
 {
     let _place = btt.add(BttEntry::new(b));
@@ -234,7 +234,7 @@ impl Control {
     }
 
     /// The tables are sound, and the sizes fit.
-    pub fn tables(&self)
+    pub fn recall_tables(&self)
         ensures { AreSoundTables self.now }
     {
         let _under_way = &self.under_way;
@@ -311,7 +311,7 @@ impl Control {
         ensures same_writes { N.writes nvm.new ≡ N.writes nvm.old }
     {
         let cell = self.cell(b);
-        self.tables();
+        self.recall_tables();
         self.read(cell.penult(), nvm)
     }
 
@@ -330,7 +330,7 @@ impl Control {
         ensures same_writes { N.writes nvm.new ≡ N.writes nvm.old }
     {
         let cell = self.cell(b);
-        self.tables();
+        self.recall_tables();
         self.read(cell.work(), nvm)
     }
 
@@ -371,7 +371,7 @@ impl Control {
         a_store_goes_elsewhere();
         a_store_leaves_the_target();
         a_store_leaves_what_has_to_stand();
-        self.tables();
+        self.recall_tables();
         self.put(b, block, nvm)
     }
 
@@ -396,11 +396,15 @@ impl Control {
         a_seal_takes_the_work();
         a_seal_leaves_no_work();
         a_listing_keeps_versions();
-        self.tables();
+        self.recall_tables();
+        // the steps of a seal in docs/CONTROLLER.md: step 1
         let few = self.has_few();
         seal_blocks(&mut self.btt, &self.ptt, few);
+        // steps 2 and 3
         seal_pages(&mut self.ptt, &self.counts);
+        // step 4
         self.counts.reset();
+        // step 5
         self.under_way = true;
         self.marks = WorkCounts::of(&self.btt, &self.ptt);
         self.cursors = Cursors::start();
@@ -431,7 +435,7 @@ impl Control {
     {
         a_commit_keeps_entries_sound();
         a_commit_takes_the_last();
-        self.tables();
+        self.recall_tables();
         self.btt.map_entries(&CommitBlocks);
         self.ptt.map_entries(&CommitPages);
         self.under_way = false;
@@ -454,7 +458,7 @@ impl Control {
         ensures frame { IsFramed (N.device nvm.old) (N.device nvm.new) }
         ensures cause { CountsFault result (N.device nvm.old).faults (N.device nvm.new).faults }
     {
-        self.tables();
+        self.recall_tables();
         let found = self.cell(b);
         let rule = found.store_rule();
         let i = place_for_rule(&self.btt, b, rule);
@@ -469,8 +473,8 @@ impl Control {
         )?;
         add_for_rule(&mut self.btt, b, rule);
         set_cell(rule, &cell.after(rule), &mut self.btt, &mut self.ptt);
-        self.btt.lists_once();
-        self.ptt.lists_once();
+        self.btt.recall_lists_once();
+        self.ptt.recall_lists_once();
         count_store(rule, b / PAGE_BLOCKS, &mut self.counts);
         self.marks = self.marks.after(rule, &cell);
         self.cursors = self.cursors.lowered(rule, &cell);

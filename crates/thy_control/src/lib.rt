@@ -1,10 +1,10 @@
-//! The controller of a hybrid memory: it stores a block if the checkpoints leave room, and also keeps two checkpoints of
+//! The controller of two memories: it stores a block if the checkpoints leave room, and also keeps two checkpoints of
 //! all blocks. Each call of `Control` equals its specification in tables and devices; both tables are sound in every
 //! state; a store keeps both checkpoints. With the NVM below it, it is a store of blocks, by src/block_store.rt.
 //!
 //! Open specs/State.antt first, then specs/Stays.antt, and src/control.rt; docs/CONTROLLER.md has the rules. It depends
-//! on thy_record, thy_table, thy_dram and their dependencies; the scheme above it, thy_dual_parts and
-//! thy_dual, depends on it.
+//! on thy_record, thy_table, thy_dram and their dependencies; the scheme above it, thy_thynvm_parts and
+//! thy_thynvm, depends on it.
 #![tactic(auto)]
 
 mod block_store;

@@ -26,7 +26,8 @@ pub fn block_is_framed(ptt: &Ptt, b: u64) -> bool
     }
 }
 
-/// Seals every entry of the block table: by whether few of them are free, and by the page table.
+/// Step 1 of a seal in docs/CONTROLLER.md: seals every entry of the block table, by whether few of them are free, and by the
+/// page table.
 pub fn seal_blocks(btt: &mut Btt, ptt: &Ptt, few: bool)
     ensures { btt.new ≡ mapped (sealed_in few ptt.now) btt.old }
 {
@@ -55,7 +56,7 @@ pub fn seal_pages(ptt: &mut Ptt, counts: &Counts)
     list_dense(ptt, counts);
 }
 
-/// Seals every entry of the page table.
+/// Step 2 of a seal: seals every entry of the page table.
 fn seal_listed(ptt: &mut Ptt, counts: &Counts)
     requires { ptt.old.numbers ≡ length counts.now.counts }
     ensures { ptt.new ≡ mapped (sealed_as_counted counts.now) ptt.old }
@@ -72,7 +73,7 @@ fn seal_page(ptt: &mut Ptt, j: usize, counts: &Counts)
     ensures { ptt.new ≡ with_entry j (option_and_then (sealed_as_counted counts.now) (entry_at ptt.old j)) ptt.old }
 {
     if let Some(entry) = ptt.entry(j) {
-        ptt.lists_once();
+        ptt.recall_lists_once();
         match sealed_page(&entry, counts.is_low(entry.page)) {
             Some(next) => ptt.set(j, next),
             None => ptt.clear(j),
@@ -80,7 +81,8 @@ fn seal_page(ptt: &mut Ptt, j: usize, counts: &Counts)
     }
 }
 
-/// Lists each page that was stored to densely and is not yet listed, by rising number, while entries are free.
+/// Step 3 of a seal: lists each page that was stored to densely and is not yet listed, by rising number, while entries are
+/// free.
 fn list_dense(ptt: &mut Ptt, counts: &Counts)
     requires { ptt.old.numbers ≡ length counts.now.counts }
     ensures { ptt.new ≡ with_pages (dense_below counts.now (length counts.now.counts)) ptt.old }

@@ -14,14 +14,14 @@ use Rattle.thy_control.specs.State.{State, AreSoundTables}
 use Rattle.thy_control.specs.Stays.{Stays}
 use Rattle.thy_checkpoint.specs.Items.{Phase, Resting, Making, Made, Applying}
 use Rattle.thy_checkpoint.specs.Progress.{Progress, Fits, new_engine, begun, phase_of, action_next}
-use Rattle.thy_dual_parts.specs.Filling.{filling_dual}
+use Rattle.thy_thynvm_parts.specs.Filling.{filling_thynvm}
 use Rattle.thy_view.specs.Action.{after}
 use Rattle.thy_view.proofs.ActionLemmas.{down-after}
-use Rattle.thy_dual_parts.specs.Design.{is_promoting, items_dual}
-use Rattle.thy_dual_parts.specs.Fitting.{PromotesAtRest, IdleFits, SealFits}
-use Rattle.thy_dual_parts.proofs.DesignLemmas.{stands_drained}
-use Rattle.thy_dual_parts.proofs.MergeLemmas.{IsPromoted-next}
-use Rattle.thy_dual_parts.proofs.StoreLemmas.{work_same}
+use Rattle.thy_thynvm_parts.specs.Design.{is_promoting, items_thynvm}
+use Rattle.thy_thynvm_parts.specs.Fitting.{PromotesAtRest, IdleFits, SealFits}
+use Rattle.thy_thynvm_parts.proofs.DesignLemmas.{stands_drained}
+use Rattle.thy_thynvm_parts.proofs.MergeLemmas.{IsPromoted-next}
+use Rattle.thy_thynvm_parts.proofs.StoreLemmas.{work_same}
 use Rattle.thy_control_tests.specs.Driven.{Drives}
 use Rattle.thy_control_tests.specs.Memory.{MemoryParts, IsMemory, HasRoom}
 use Rattle.thy_control_tests.proofs.DrivenLemmas.{Drives-sealed, Drives-stays}
@@ -41,13 +41,13 @@ HasRoom-framed m n cuts room frame =
 pub whole-rests : (s : State) → is_promoting s ≡ false → PromotesAtRest s
 whole-rests s none = λ p. absurd (both_ways (is_promoting s) none p)
 
-work_none : (q : Phase) (s : State) → items_dual.stands q s → is_promoting s ≡ true → HasNoWork s
+work_none : (q : Phase) (s : State) → items_thynvm.stands q s → is_promoting s ≡ true → HasNoWork s
 work_none Resting s h p = h.promotes p
 work_none (Making from) s h p = h.promotes p
 work_none Made s h p = h.at.promotes p
 work_none (Applying from) s h p = absurd h
 
-pub promoted-rests : (e : Progress) (s t : State) (m : Device) → Fits filling_dual items_dual e s → is_promoting s ≡ true
+pub promoted-rests : (e : Progress) (s t : State) (m : Device) → Fits filling_thynvm items_thynvm e s → is_promoting s ≡ true
     → t ≡ after_promotion (next_promotion s) s m → PromotesAtRest t
 promoted-rests e s t m fits some is = λ p.
     work_same s t (ap (λ (x : State). x.btt) is ∙ (IsPromoted-next s m (next_promotion s)).blocks) (work_none (phase_of e.stage) s fits.stands some)
@@ -63,7 +63,7 @@ IsMemory-begun p s e n cuts same drives idle room begins tables none fit =
 
 -- what stays is a memory still, while the NVM is up
 pub IsMemory-stays : (p : Parameters) (e : Progress) (s t : State) (m n : Device) (cuts : ℕ)
-    → IsMemory (parts p s e m cuts) → Fits filling_dual items_dual e t → Stays s m t n → n.down ≡ m.down → IsFramed m n
+    → IsMemory (parts p s e m cuts) → Fits filling_thynvm items_thynvm e t → Stays s m t n → n.down ≡ m.down → IsFramed m n
     → IsMemory (parts p t e n cuts)
 IsMemory-stays p e s t m n cuts w fits stays same frame = record {
   same_p = stays.same_p ∙ w.same_p;
@@ -101,7 +101,7 @@ IsMemory-drained p e s t n cuts w is =
 
 -- what is a memory is one after an action of the engine
 pub IsMemory-item : (p : Parameters) (e f : Progress) (s t : State) (m n : Device) (cuts : ℕ)
-    → IsMemory (parts p s e m cuts) → Fits filling_dual items_dual f t → f.p ≡ e.p → n ≡ after (action_next filling_dual items_dual e s m) m → IsFramed m n
+    → IsMemory (parts p s e m cuts) → Fits filling_thynvm items_thynvm f t → f.p ≡ e.p → n ≡ after (action_next filling_thynvm items_thynvm e s m) m → IsFramed m n
     → IsMemory (parts p t f n cuts)
 IsMemory-item p e f s t m n cuts w fits same n_is frame =
     let t_p : t.p ≡ s.p = fits.same_p ∙ same ∙ sym w.fits.same_p in
@@ -110,7 +110,7 @@ IsMemory-item p e f s t m n cuts w fits same n_is frame =
       drives = record {
         blocks = ap memory_blocks t_p ∙ w.drives.blocks;
         sized = record { nvm = frame.blocks ∙ w.drives.sized.nvm ∙ sym (ap image_blocks t_p) };
-        up = ap (λ (d : Device). d.down) n_is ∙ down-after (action_next filling_dual items_dual e s m) m ∙ w.drives.up;
+        up = ap (λ (d : Device). d.down) n_is ∙ down-after (action_next filling_thynvm items_thynvm e s m) m ∙ w.drives.up;
       };
       fits = fits;
       room = HasRoom-framed m n cuts w.room frame;

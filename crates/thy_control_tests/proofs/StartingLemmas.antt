@@ -29,8 +29,8 @@ use Rattle.thy_checkpoint.proofs.ReadLemmas.{HasRead-new}
 use Rattle.thy_isa.specs.declared.state.Status.{Status}
 use Rattle.thy_layout.specs.Cpu.{status_tag, status_value, is_status, IsOtherRecordable}
 use Rattle.thy_checkpoint.specs.Start.{CanStart}
-use Rattle.thy_dual_parts.specs.Filling.{filling_dual}
-use Rattle.thy_dual_parts.proofs.LiveLemmas.{IsFresh-new}
+use Rattle.thy_thynvm_parts.specs.Filling.{filling_thynvm}
+use Rattle.thy_thynvm_parts.proofs.LiveLemmas.{IsFresh-new}
 use Rattle.thy_control_tests.specs.Beside.{all}
 use Rattle.thy_control_tests.specs.Boots.{Boots, IsLeastStart}
 use Rattle.thy_control_tests.specs.Memory.{HasRoom}
@@ -41,37 +41,37 @@ use Rattle.thy_view.proofs.ActionLemmas.{down-after}
 
 -- unless it refused, a boot that reads has a controller with no checkpoint under way
 idle-at : (stage : Stage) (n : Device) (b : Booting) (c : State)
-    → is_refused (answer_at filling_dual stage b) ≡ false → HasReadAt filling_dual stage n b c → c.under_way ≡ false
-idle-at (Reads Unread) n b c told read = read.fresh.booting.idle
-idle-at (Reads Header) n b c told read = read.0.fresh.booting.idle
-idle-at (Reads (Slot next)) n b c told read = read.0.fresh.booting.idle
-idle-at (Reads (Fills k)) n b c told read = read.0.lists.booting.idle
-idle-at (Reads (Refusing bad)) n b c told read = cc
-idle-at (Loads r) n b c told read = read.0.fresh.booting.idle
-idle-at (Migrates r) n b c told read = read.restored.listed.lists.booting.idle
-idle-at (Over Restored) n b c told read = read.restored.listed.lists.booting.idle
-idle-at (Over Loaded) n b c told read = absurd read
+    → is_refused (answer_at filling_thynvm stage b) ≡ false → HasReadAt filling_thynvm stage n b c → c.under_way ≡ false
+idle-at (Reads Unread) n b c reported read = read.fresh.booting.idle
+idle-at (Reads Header) n b c reported read = read.0.fresh.booting.idle
+idle-at (Reads (Slot next)) n b c reported read = read.0.fresh.booting.idle
+idle-at (Reads (Fills k)) n b c reported read = read.0.lists.booting.idle
+idle-at (Reads (Refusing bad)) n b c reported read = cc
+idle-at (Loads r) n b c reported read = read.0.fresh.booting.idle
+idle-at (Migrates r) n b c reported read = read.restored.listed.lists.booting.idle
+idle-at (Over Restored) n b c reported read = read.restored.listed.lists.booting.idle
+idle-at (Over Loaded) n b c reported read = absurd read
 
 -- a step leaves the NVM up or down as it was, and the geometry
 pub down-step : (s : Plain) (n : Device) (b : Booting) (c : State) (m : Device) (d : Booting) (e : State)
-    → Steps filling_dual s n b c m d e → m.down ≡ n.down
+    → Steps filling_thynvm s n b c m d e → m.down ≡ n.down
 down-step s n b c m d e steps = by_stage b.stage steps where
-  by_stage : (q : Stage) → StepsAt filling_dual q s n b c m d e → m.down ≡ n.down
+  by_stage : (q : Stage) → StepsAt filling_thynvm q s n b c m d e → m.down ≡ n.down
   by_stage (Reads r) on = ap (λ (x : Device). x.down) on.device
-  by_stage (Loads r) on = ap (λ (x : Device). x.down) on.device ∙ down-after (round_action (first_writes (first_by filling_dual b.p s)) r) n
-  by_stage (Migrates r) on = ap (λ (x : Device). x.down) on.device ∙ down-after (round_action (renewing filling_dual b) r) n
+  by_stage (Loads r) on = ap (λ (x : Device). x.down) on.device ∙ down-after (round_action (first_writes (first_by filling_thynvm b.p s)) r) n
+  by_stage (Migrates r) on = ap (λ (x : Device). x.down) on.device ∙ down-after (round_action (renewing filling_thynvm b) r) n
   by_stage (Over end) on = absurd on
 
-same-migrated : (r : Round) (b : Booting) → (migrated_by filling_dual r b).p ≡ b.p
+same-migrated : (r : Round) (b : Booting) → (migrated_by filling_thynvm r b).p ≡ b.p
 same-migrated (Write k) b = refl
 same-migrated Settle b = refl
 same-migrated Commit b = refl
 same-migrated Confirm b = refl
 
 pub same-step : (s : Plain) (n : Device) (b : Booting) (c : State) (m : Device) (d : Booting) (e : State)
-    → Steps filling_dual s n b c m d e → d.p ≡ b.p
+    → Steps filling_thynvm s n b c m d e → d.p ≡ b.p
 same-step s n b c m d e steps = by_stage b.stage steps where
-  by_stage : (q : Stage) → StepsAt filling_dual q s n b c m d e → d.p ≡ b.p
+  by_stage : (q : Stage) → StepsAt filling_thynvm q s n b c m d e → d.p ≡ b.p
   by_stage (Reads r) on = on.same_p
   by_stage (Loads r) on = ap (λ (x : Booting). x.p) on.boot
   by_stage (Migrates r) on = ap (λ (x : Booting). x.p) on.boot ∙ same-migrated r b
@@ -84,24 +84,24 @@ off p dram n cuts = record { p = p; dram = dram; nvm = n; cuts = cuts }
 
 -- a machine whose power comes on boots
 pub Boots-new : (p : Parameters) (s : Plain) (dram : Contents) (n : Device) → CanStart p s → AreSoundTables (new_state p dram)
-    → length n.image ≡ image_blocks p → n.queue ≡ [] → n.down ≡ false → Boots s n (new_boot filling_dual p) (new_state p dram)
+    → length n.image ≡ image_blocks p → n.queue ≡ [] → n.down ≡ false → Boots s n (new_boot filling_thynvm p) (new_state p dram)
 Boots-new p s dram n start tables sized settled up = record {
   start = start;
   up = up;
   same_p = refl;
   fits = record { room = length-replicate (64 * slot_blocks p) 0; there = tt };
-  may = HasRead-new filling_dual p n (new_state p dram) (record { tables = tables; fresh = IsFresh-new p dram }) refl sized settled;
+  may = HasRead-new filling_thynvm p n (new_state p dram) (record { tables = tables; fresh = IsFresh-new p dram }) refl sized settled;
 }
 
-pub Boots-of : (p : Parameters) (s : Plain) (dram : Contents) (n : Device) (b : Booting) (c : State) → CanStart p s → b ≡ new_boot filling_dual p
+pub Boots-of : (p : Parameters) (s : Plain) (dram : Contents) (n : Device) (b : Booting) (c : State) → CanStart p s → b ≡ new_boot filling_thynvm p
     → c ≡ new_state p dram → AreSoundTables c → length n.image ≡ image_blocks p → n.queue ≡ [] → n.down ≡ false → Boots s n b c
 Boots-of p s dram n b c start b_is c_is tables sized settled up =
     subst (λ (x : Booting). Boots s n x c) (sym b_is)
-    (subst (λ (x : State). Boots s n (new_boot filling_dual p) x) (sym c_is)
+    (subst (λ (x : State). Boots s n (new_boot filling_thynvm p) x) (sym c_is)
     (Boots-new p s dram n start (subst (λ (x : State). AreSoundTables x) c_is tables) sized settled up))
 
 pub IsStarting-new : (p : Parameters) (s : Plain) (dram : Contents) (n : Device) (b : Booting) (c : State) (cuts : ℕ)
-    → IsOff (off p dram n cuts) → CanStart p s → b ≡ new_boot filling_dual p → c ≡ new_state p dram → AreSoundTables c
+    → IsOff (off p dram n cuts) → CanStart p s → b ≡ new_boot filling_thynvm p → c ≡ new_state p dram → AreSoundTables c
     → IsStarting (starting p s b c n cuts)
 IsStarting-new p s dram n b c cuts w start b_is c_is tables = record {
   boots = Boots-of p s dram n b c start b_is c_is tables w.sized w.settled w.up;

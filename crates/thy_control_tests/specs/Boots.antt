@@ -11,15 +11,15 @@ use Rattle.thy_checkpoint.specs.Boot.{Booting, IsBoot}
 use Rattle.thy_checkpoint.specs.Steps.{CanStep}
 use Rattle.thy_isa.specs.declared.state.Status.TheVariants.{Running}
 use Rattle.thy_checkpoint.specs.Start.{CanStart}
-use Rattle.thy_dual_parts.specs.Filling.{filling_dual}
+use Rattle.thy_thynvm_parts.specs.Filling.{filling_thynvm}
 
 -- a boot may take a step, with this start
 pub record Boots (s : Plain) (n : Device) (b : Booting) (c : State) : Type 0 where
   pub start : CanStart b.p s
   pub up : n.down ≡ false
   pub same_p : c.p ≡ b.p
-  pub fits : IsBoot filling_dual b
-  pub may : CanStep filling_dual s n b c
+  pub fits : IsBoot filling_thynvm b
+  pub may : CanStep filling_thynvm s n b c
 
 -- a start of the least memory, whose registers are zero
 pub record IsLeastStart (s : Plain) : Type 0 where
@@ -37,7 +37,7 @@ pub record IsLeastStart (s : Plain) : Type 0 where
 -- the boot continues
 abbrev pub goes_on : BootStep → Bool
 goes_on GoesOn = true
-goes_on told = false
+goes_on reported = false
 
 -- a controller is a new one of a geometry
 pub record IsNew (p : Parameters) (c : State) : Type 0 where

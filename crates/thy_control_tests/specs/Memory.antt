@@ -3,9 +3,9 @@ use Rattle.std.specs.Prelude.{◌≡◌, ℕ, ◌+◌, ◌≤◌, length}
 use Rattle.thy_block.specs.declared.parameters.Parameters.{Parameters}
 use Rattle.thy_block.specs.Device.{Device}
 use Rattle.thy_control.specs.State.{State}
-use Rattle.thy_dual_parts.specs.Design.{items_dual}
+use Rattle.thy_thynvm_parts.specs.Design.{items_thynvm}
 use Rattle.thy_checkpoint.specs.Progress.{Progress, Fits}
-use Rattle.thy_dual_parts.specs.Filling.{filling_dual}
+use Rattle.thy_thynvm_parts.specs.Filling.{filling_thynvm}
 use Rattle.thy_control_tests.specs.Driven.{Drives}
 
 pub record MemoryParts : Type 0 where
@@ -24,5 +24,5 @@ HasRoom n cuts = length n.left + cuts ≤ n.left_room
 pub record IsMemory (m : MemoryParts) : Type 0 where
   pub same_p : m.control.p ≡ m.p
   pub drives : Drives m.control m.nvm
-  pub fits : Fits filling_dual items_dual m.engine m.control
+  pub fits : Fits filling_thynvm items_thynvm m.engine m.control
   pub room : HasRoom m.nvm m.cuts

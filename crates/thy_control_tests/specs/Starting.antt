@@ -54,4 +54,4 @@ pub record IsStarting (m : Starting) : Type 0 where
 -- what was returned is a refusal
 abbrev pub is_refused : BootStep → Bool
 is_refused (Refused bad) = true
-is_refused told = false
+is_refused reported = false

@@ -13,10 +13,10 @@ use thy_base::{Block, Bytes, Geometry, Nvm, Parameters, SchemeName, Shape};
 use thy_checkpoint::{Boot, End, Stage, a_boot_may_go_on};
 use thy_control::Control;
 use thy_dram::Dram;
-use thy_dual::DualTables;
 use thy_isa::{CpuState, MachState, Regs, Status};
 use thy_layout::Start;
 use thy_nvm::MemNvm;
+use thy_thynvm::ThynvmTables;
 use thy_view::{BootStep, Round};
 
 /// The least memory: seven pages of the program and one of the console.
@@ -93,8 +93,8 @@ fn step<N: Nvm>(
     ensures up { (N.device nvm.new).down ≡ false }
     ensures frame { IsFramed (N.device nvm.old) (N.device nvm.new) }
 {
-    a_boot_may_go_on::<DualTables>();
-    boot.step::<DualTables, N>(control, start, nvm)
+    a_boot_may_go_on::<ThynvmTables>();
+    boot.step::<ThynvmTables, N>(control, start, nvm)
         .expect(rt, "a step")
 }
 
@@ -115,11 +115,11 @@ fn steps<N: Nvm>(
     ensures frame { IsFramed (N.device nvm.old) (N.device nvm.new) }
 {
     for taken in 1..most {
-        let told = step(rt, boot, control, start, nvm);
-        match told {
+        let reported = step(rt, boot, control, start, nvm);
+        match reported {
             BootStep::GoesOn => {}
             BootStep::Loaded | BootStep::Restarted(_, _) | BootStep::Refused(_) => {
-                return (taken, told);
+                return (taken, reported);
             }
         }
     }
@@ -138,11 +138,11 @@ fn boot<N: Nvm>(rt: &impl Abort, alloc: Global, nvm: &mut N, most: u64) -> Boote
     has_least_memory(rt, &geometry);
     let mut boot = new_boot(rt, alloc, &geometry);
     let mut control = controller(rt, alloc, &geometry);
-    control.tables();
-    let (taken, told) = steps(rt, &mut boot, &mut control, &start, nvm, most);
+    control.recall_tables();
+    let (taken, reported) = steps(rt, &mut boot, &mut control, &start, nvm, most);
     Booted {
         taken,
-        told,
+        reported,
         stage: boot.stage(),
         first: control.load(0, nvm).expect(rt, "a load"),
         console: control.load(448, nvm).expect(rt, "a load"),
@@ -154,7 +154,7 @@ fn boot<N: Nvm>(rt: &impl Abort, alloc: Global, nvm: &mut N, most: u64) -> Boote
 #[derive(Clone, Copy, Debug, PartialEq, Eq)]
 struct Booted {
     taken: u64,
-    told: BootStep,
+    reported: BootStep,
     stage: Stage,
     first: Block,
     console: Block,
@@ -162,12 +162,12 @@ struct Booted {
 }
 
 /// The result of a boot once it is over, and memory is the start's.
-fn with_start(taken: u64, told: BootStep, end: End) -> Booted {
+fn with_start(taken: u64, reported: BootStep, end: End) -> Booted {
     let mut behind = Block::ZERO;
     behind.put(0, &[33; 6]);
     Booted {
         taken,
-        told,
+        reported,
         stage: Stage::Over(end),
         first: Block([7; 64]),
         console: Block([33; 64]),
@@ -204,7 +204,7 @@ fn a_start_is_loaded_and_found_again(rt: HostRuntime) {
     nvm.fit(alloc, &shape, Vec::new(alloc))
         .expect(&rt, "a device");
     let loading = boot(&rt, alloc, &mut nvm, 524);
-    expect(&rt, loading.told, BootStep::GoesOn);
+    expect(&rt, loading.reported, BootStep::GoesOn);
     expect(&rt, loading.stage, Stage::Loads(Round::Confirm));
     nvm.cut(7);
     let loaded = boot(&rt, alloc, &mut nvm, 1000);

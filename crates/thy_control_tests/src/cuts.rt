@@ -251,8 +251,8 @@ fn boots(rt: &impl Abort, starting: Starting, beside: &mut Beside) -> Machine {
             }
             Machine::Boots(starting)
         }
-        Taken::Over(memory, told) => {
-            expect(rt, told, BootStep::Loaded);
+        Taken::Over(memory, reported) => {
+            expect(rt, reported, BootStep::Loaded);
             beside.commit(0);
             Machine::Runs(memory)
         }
@@ -366,7 +366,7 @@ fn booted(rt: &impl Abort, starting: Starting) -> (Memory, BootStep) {
     for _ in 0..2000 {
         match going.step(rt) {
             Taken::Going(starting) => going = starting,
-            Taken::Over(memory, told) => return (memory, told),
+            Taken::Over(memory, reported) => return (memory, reported),
         }
     }
     panic!(rt; "no end")
@@ -374,16 +374,16 @@ fn booted(rt: &impl Abort, starting: Starting) -> (Memory, BootStep) {
 
 /// The epoch whose checkpoint was found: the committed one, or the one in doubt. Nothing was committed if the start was
 /// loaded again.
-fn found(rt: &impl Abort, told: BootStep, beside: &Beside, at: u64) -> u64 {
-    match told {
+fn found(rt: &impl Abort, reported: BootStep, beside: &Beside, at: u64) -> u64 {
+    match reported {
         BootStep::Restarted(cpu, epoch) => {
             let is_due = beside.committed == Some(epoch) || beside.in_doubt == Some(epoch);
             expect_at(rt, is_due, true, at);
             expect_at(rt, cpu.count, count_of(epoch), at);
             epoch
         }
-        told => {
-            expect_at(rt, told, BootStep::Loaded, at);
+        reported => {
+            expect_at(rt, reported, BootStep::Loaded, at);
             expect_at(rt, beside.committed, None, at);
             0
         }
@@ -401,8 +401,8 @@ fn cut(rt: &impl Abort, alloc: Global, ticks: u64, pick: u64) -> bool {
         Machine::Boots(starting) => starting.cut(rt, pick),
         Machine::Runs(memory) => memory.cut(rt, pick),
     };
-    let (mut memory, told) = booted(rt, off.boot(rt, alloc, start_of(rt, alloc)));
-    let epoch = found(rt, told, &beside, ticks);
+    let (mut memory, reported) = booted(rt, off.boot(rt, alloc, start_of(rt, alloc)));
+    let epoch = found(rt, reported, &beside, ticks);
     for b in 0..512 {
         expect_at(rt, memory.load(rt, b), beside.sealed(rt, epoch, b), ticks);
     }

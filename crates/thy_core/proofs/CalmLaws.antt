@@ -20,19 +20,19 @@ use Rattle.thy_view.specs.declared.did.Stall.{Stall}
 use Rattle.thy_view.specs.declared.did.Stall.TheVariants.{Sealing, Waiting as IsWaiting}
 use Rattle.thy_view.specs.declared.view.Phase.{Phase}
 use Rattle.thy_view.specs.declared.view.Phase.TheVariants.{Boot, Run, Halt}
-use Rattle.thy_view.specs.Turn.{Nvm, Dram, Checkpoint, Advances, advancing}
+use Rattle.thy_view.specs.NextActor.{Nvm, Dram, Checkpoint, Advances, advancing}
 use Rattle.thy_view.specs.Views.{is_halt}
 use Rattle.thy_scheme.specs.declared.scheme_store.SchemeStore.{SchemeStore}
 use Rattle.thy_scheme.specs.SchemeStore.{held_by_scheme}
 use Rattle.thy_scheme.specs.Scheme.{SchemeOf}
 use Rattle.thy_core.specs.declared.parts.MachineParts.{MachineParts}
 use Rattle.thy_core.specs.MachineParts.{machine_of}
-use Rattle.thy_core.specs.Turns.{stopped_now, waits_now, stall_now, hart_of, hart_now, engine_now, turn_now}
+use Rattle.thy_core.specs.Turns.{stopped_now, waits_now, stall_now, hart_of, hart_now, engine_now, actor_now}
 use Rattle.thy_core.specs.Calm.{is_calm, KnowsCalm, is_over}
 use Rattle.thy_core.specs.Cycles.{noted}
 use Rattle.thy_scheme.specs.Machine.{Machine, moment_of, shortage_of}
 use Rattle.thy_scheme.specs.MachineCalls.{ends_by, begun_by_hart, after_hart}
-use Rattle.thy_scheme.proofs.ToldLemmas.{Told, told}
+use Rattle.thy_scheme.proofs.StatedLemmas.{Stated, stated}
 use Rattle.thy_core.proofs.CycleLaws.{CalledOnce}
 
 -- ---- what is known of a calm machine
@@ -103,7 +103,7 @@ module _ {S : Type 0} (K : SchemeOf S) (m : Machine S) (calm : is_calm K m ≡ t
   calm_engine Run = ap (λ (way : Bool). if way then Checkpoint else hart_now K Engine m) (calm_parts K m calm).idle ∙ calm_hart Engine
 
   -- while no write is queued in the NVM, a hart advances at every pick
-  pub calm_turn : (pick : Pick) (nvm : ℕ) → nvm ≡ 0 → turn_now K pick nvm m ≡ Advances (hart_of K pick m)
+  pub calm_turn : (pick : Pick) (nvm : ℕ) → nvm ≡ 0 → actor_now K pick nvm m ≡ Advances (hart_of K pick m)
   calm_turn Hart nvm empty = calm_hart Hart
   calm_turn Second nvm empty = calm_hart Second
   calm_turn Engine nvm empty = calm_engine m.phase
@@ -129,7 +129,7 @@ calm_on K m next calm scheme phase none =
     (and_from (K.queued next.scheme == 0) (is_none (stall_now K next.phase next)) (ap (λ (queued : ℕ). queued == 0) settled) (ap (λ (stall : Option Stall). is_none stall) free))
 
 -- a step that does not end the epoch leaves it going on; it waits only for a checkpoint that is under way
-still : (step : HartStep) (b : Bool) (g : Given) (dirty : ℕ) (old new : HartState) → Told step b g dirty old new → is_over step ≡ false
+still : (step : HartStep) (b : Bool) (g : Given) (dirty : ℕ) (old new : HartState) → Stated step b g dirty old new → is_over step ≡ false
     → g.under_way ≡ false → old.epoch.over ≡ None → new.epoch.over ≡ None
 still Moved b g dirty old new t e idle none = ap (λ (x : Epoch). x.over) t.epoch ∙ none
 still Retired b g dirty old new t e idle none = t.over_is
@@ -139,10 +139,10 @@ still (Over cause) b g dirty old new t e idle none = absurd (cc)
 pub goes_after : (g : Given) (old new : Moment) (step : HartStep) → IsStep g old new step → is_over step ≡ false → g.under_way ≡ false → old.hart.epoch.over ≡ None
     → new.hart.epoch.over ≡ None
 goes_after g old new step s goes idle none =
-    let told_by : Told step (brings_line old) g (dirty_count old.cache) old.hart new.hart =
-    subst (λ (x : HartStep). Told x (brings_line old) g (dirty_count old.cache) old.hart new.hart) (sym s.says)
-    (subst (Told (answer_to g old) (brings_line old) g (dirty_count old.cache) old.hart) (sym s.hart) (told g old)) in
-    still step (brings_line old) g (dirty_count old.cache) old.hart new.hart told_by goes idle none
+    let stated_by : Stated step (brings_line old) g (dirty_count old.cache) old.hart new.hart =
+    subst (λ (x : HartStep). Stated x (brings_line old) g (dirty_count old.cache) old.hart new.hart) (sym s.says)
+    (subst (Stated (answer_to g old) (brings_line old) g (dirty_count old.cache) old.hart) (sym s.hart) (stated g old)) in
+    still step (brings_line old) g (dirty_count old.cache) old.hart new.hart stated_by goes idle none
 
 -- a store that is still marked as calm was not asked for anything
 once_kept : {S N : Type 0} (K : SchemeOf S) (device : N → Device) (a b : SchemeStore S) (x y : N) → CalledOnce K device a x b y → b.calm ≡ true → b ≡ a

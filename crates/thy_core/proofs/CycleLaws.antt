@@ -31,8 +31,8 @@ use Rattle.thy_view.specs.declared.view.View.{View}
 use Rattle.thy_view.specs.Action.{Action, Rest, ReadAt, WriteAt, Barrier as ActBarrier, Drain, after}
 use Rattle.thy_view.specs.Booting.{boot_did}
 use Rattle.thy_view.specs.Origin.{Origin}
-use Rattle.thy_view.specs.Told.{IsThere}
-use Rattle.thy_view.specs.Turn.{Actor, front_of, Nvm, Dram, Checkpoint, Advances, Stalled, Pressure, IsHanded, HandsOn, Does, Prepares}
+use Rattle.thy_view.specs.WithTurns.{IsThere}
+use Rattle.thy_view.specs.NextActor.{Actor, front_of, Nvm, Dram, Checkpoint, Advances, Stalled, Pressure, IsHanded, HandsOn, Does, Prepares}
 use Rattle.thy_scheme.specs.declared.scheme_store.SchemeStore.{SchemeStore}
 use Rattle.thy_scheme.specs.SchemeStore.{held_by_scheme, IsOneCall}
 use Rattle.thy_scheme.specs.CheckpointMarks.{CheckpointMarks}
@@ -47,7 +47,7 @@ use Rattle.thy_scheme.specs.Sound.{Sound}
 use Rattle.thy_scheme.specs.MachineCalls.{IsAsked, HartCall, FlushCall, retires_by, begun_by_hart, hart_did, after_hart, after_flush, after_call, after_drain, after_seal, after_engine, after_boot}
 use Rattle.thy_scheme.specs.MachineExact.{IsOutcome, sealed_for, MakesFirst, LeavesBelow}
 use Rattle.thy_scheme.specs.Rows.{IsMoment, At, HartAdvances, IsSealing, SimulatesCycle}
-use Rattle.thy_core.specs.Cycles.{IsEngineDue, IsTurnOf, IsAnyRun, IsCycle, HasFailedAs, HasTaken, did_by, stepped_by, reported}
+use Rattle.thy_core.specs.Cycles.{IsEngineDue, IsActorOf, IsAnyRun, IsCycle, HasFailedAs, HasTaken, did_by, stepped_by, reported}
 use Rattle.thy_scheme.proofs.Facts.{view-run, sound-run, holds-run, is-going}
 use Rattle.thy_scheme.proofs.KeepsLaws.{stands, runs_behind}
 use Rattle.thy_scheme.proofs.BegunLaws.{begun-processor, IsBegun, is-begun}
@@ -268,7 +268,7 @@ module _ {S : Type 0} (K : SchemeOf S) (o : Origin) (cycles : ℕ) (m : Machine 
 
   -- ---- before a seal
 
-  -- the first that is left, by what tells which that is
+  -- the first that is left, by what decides which that is
   first_by : (promotes clean overlaid : Bool) (did : Did) (next : Machine S) (new : Device) → K.promoting m.scheme ≡ promotes
       → (dirty_count m.cache == 0) ≡ clean → K.overlaid m.scheme ≡ overlaid → MakesFirst K promotes clean overlaid m n did next new
       → MakesFirst K (K.promoting m.scheme) (dirty_count m.cache == 0) (K.overlaid m.scheme) m n did next new
@@ -617,7 +617,7 @@ hart_call K device o p b x y h c step input free way i f w s once stays untouche
 
 -- a cycle whose call failed, by what the exit of the call returns
 pub taken_err : {S : Type 0} (K : SchemeOf S) (P : Origin → Type 0) (actor : Actor) (m next : Machine S) (n new : Device) (r : Result Did NvmError) → IsErr r
-    → ((o : Origin) (cycles : ℕ) → P o → IsMoment K o cycles m n → IsTurnOf K o m n actor → HasFailedAs K o actor m next n new)
+    → ((o : Origin) (cycles : ℕ) → P o → IsMoment K o cycles m n → IsActorOf K o m n actor → HasFailedAs K o actor m next n new)
     → IsFramed n new → Rose n.faults new.faults → HasTaken K P actor m n next new r
 taken_err K P actor m next n new (Ok did) is fails frame rose = absurd (true≢false (sym is))
 taken_err K P actor m next n new (Err e) is fails frame rose = record { simulates = λ o cycles q at turn. tt; fails = fails; frame = frame; cause = rose }
@@ -638,10 +638,10 @@ pub taken_is : {S : Type 0} (K : SchemeOf S) (P Q : Origin → Type 0) (a b : Ac
 taken_is K P Q a b m next n new r e kind taken = record {
   simulates = λ o cycles q at turn.
       subst (λ x. IfOk r (λ did. IsCycle K o cycles x did m n next new)) (sym e)
-      (taken.simulates o cycles (kind o q) at (subst (IsTurnOf K o m n) e turn));
+      (taken.simulates o cycles (kind o q) at (subst (IsActorOf K o m n) e turn));
   fails = λ o cycles q at turn.
       subst (λ x. OnErr r (HasFailedAs K o x m next n new)) (sym e)
-      (taken.fails o cycles (kind o q) at (subst (IsTurnOf K o m n) e turn));
+      (taken.fails o cycles (kind o q) at (subst (IsActorOf K o m n) e turn));
   frame = taken.frame;
   cause = taken.cause;
 }

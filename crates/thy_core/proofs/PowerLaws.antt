@@ -23,9 +23,9 @@ geometry_is K l o k m n s = geometry_in K l o m n m.phase s.up s.moment
 pub loading_boot : {S : Type 0} (K : SchemeOf S) (o : Origin) (k : ℕ) (m : Machine S) (n : Device) (loading : Bool) → m.phase ≡ Boot → Sound K o k m n
     → ((p : Origin) (v : Device) → K.boots p m.scheme v → loading ≡ (K.has_read m.scheme && loads (K.boot_view p m.scheme v)))
     → loading ≡ (has_read_of K m && loads (view_of K o m n))
-loading_boot K o k m n loading e s tells =
+loading_boot K o k m n loading e s shown_loading =
     let boots = subst (λ phase. SoundIn K o phase m n) e s.moment in
-    tells o n boots.boots ∙ ap (λ phase. has_read_in K phase m && loads (view_in K o phase m n)) (sym e)
+    shown_loading o n boots.boots ∙ ap (λ phase. has_read_in K phase m && loads (view_in K o phase m n)) (sym e)
 
 loading_at : {S : Type 0} (K : SchemeOf S) (o : Origin) (m : Machine S) (n : Device) (phase : Phase) → m.phase ≡ phase
     → has_read_in K phase m ≡ true → (view_in K o phase m n) ≡ run_view m → is_boot phase ≡ false → false ≡ (has_read_of K m && loads (view_of K o m n))

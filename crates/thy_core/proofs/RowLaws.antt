@@ -22,7 +22,7 @@ use Rattle.thy_view.specs.declared.did.Did.{Did}
 use Rattle.thy_view.specs.Advances.{did_of, stepped_of, SimulatesRow}
 use Rattle.thy_view.specs.Kind.{Simulates}
 use Rattle.thy_view.specs.Origin.{Origin}
-use Rattle.thy_view.specs.Turn.{Advances, begins}
+use Rattle.thy_view.specs.NextActor.{Advances, begins}
 use Rattle.thy_scheme.specs.Laws.{IsLawful}
 use Rattle.thy_scheme.specs.Scheme.{SchemeOf}
 use Rattle.thy_scheme.specs.SchemeStore.{held_by_scheme}

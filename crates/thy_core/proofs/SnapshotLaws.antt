@@ -26,7 +26,7 @@ use Rattle.thy_view.specs.declared.view.Phase.TheVariants.{Boot, Run, Halt}
 use Rattle.thy_view.specs.declared.view.View.{View}
 use Rattle.thy_view.specs.Kind.{CanRead, CanSnapshot, IsSnapshot, Snapshots, without_memory, IsProcessor}
 use Rattle.thy_view.specs.Origin.{Origin, at}
-use Rattle.thy_view.specs.Turn.{front_of}
+use Rattle.thy_view.specs.NextActor.{front_of}
 use Rattle.thy_view.specs.Views.{is_boot, is_halt, is_between}
 use Rattle.thy_scheme.specs.Scheme.{SchemeOf, CanRun}
 use Rattle.thy_scheme.specs.Laws.{IsLawful, IsCommitted}

@@ -12,12 +12,12 @@ use Rattle.thy_view.specs.declared.did.Stall.TheVariants.{Booting, Sealing, Wait
 use Rattle.thy_view.specs.declared.view.Phase.{Phase}
 use Rattle.thy_view.specs.declared.view.Phase.TheVariants.{Boot, Run, Halt}
 use Rattle.thy_view.specs.Origin.{Origin, runs_at}
-use Rattle.thy_view.specs.Turn.{Nvm, Dram, Checkpoint, has_stopped, stall_in, rested, begins, hart_at, advancing, hart_turn, engine_turn, turn_of}
+use Rattle.thy_view.specs.NextActor.{Nvm, Dram, Checkpoint, has_stopped, stall_in, rested, begins, hart_at, advancing, hart_actor, engine_actor, actor_of}
 use Rattle.thy_scheme.specs.Scheme.{SchemeOf}
 use Rattle.thy_scheme.specs.Machine.{Machine, view_in, view_of, shortage_of, pressure_of}
 use Rattle.thy_scheme.specs.Rows.{IsMoment, HartAdvances}
-use Rattle.thy_core.specs.Turns.{stopped_now, waits_now, stall_now, hart_of, hart_now, engine_now, turn_now}
-use Rattle.thy_core.specs.Cycles.{IsTurnOf}
+use Rattle.thy_core.specs.Turns.{stopped_now, waits_now, stall_now, hart_of, hart_now, engine_now, actor_now}
+use Rattle.thy_core.specs.Cycles.{IsActorOf}
 use Rattle.thy_scheme.proofs.Facts.{view-run, sound-run}
 use Rattle.thy_scheme.proofs.BootingLaws.{view-boot, holds-boot, uncounted}
 
@@ -95,24 +95,24 @@ module _ {S : Type 0} (K : SchemeOf S) (o : Origin) (cycles : ℕ) (m : Machine 
   hart_of_is : (pick : Pick) → hart_of K pick m ≡ hart_at o.geometry.harts pick (pressure_of K m)
   hart_of_is pick = ap (λ (p : Parameters). hart_at p.harts pick (pressure_of K m)) at.sound.geometry
 
-  hart_is : (pick : Pick) → hart_now K pick m ≡ hart_turn o pick (view_of K o m n) (pressure_of K m)
+  hart_is : (pick : Pick) → hart_now K pick m ≡ hart_actor o pick (view_of K o m n) (pressure_of K m)
   hart_is pick =
       ap (λ stall. advancing stall (hart_of K pick m)) (stall_is m.phase refl)
       ∙ ap (λ phase. advancing (stall_in o phase (view_of K o m n) (pressure_of K m)) (hart_of K pick m)) (sym (phase_is m.phase refl))
       ∙ ap (advancing (stall_in o (view_of K o m n).phase (view_of K o m n) (pressure_of K m))) (hart_of_is pick)
 
-  engine_is : (pick : Pick) (phase : Phase) → m.phase ≡ phase → engine_now K pick phase m ≡ engine_turn o pick phase (view_of K o m n) (pressure_of K m)
+  engine_is : (pick : Pick) (phase : Phase) → m.phase ≡ phase → engine_now K pick phase m ≡ engine_actor o pick phase (view_of K o m n) (pressure_of K m)
   engine_is pick Boot e = hart_is pick
   engine_is pick Halt e = hart_is pick
   engine_is pick Run e =
       ap (λ h. if K.under_way m.scheme then Checkpoint else h) (hart_is pick)
 
-  pub turn_is : (pick : Pick) (nvm : ℕ) → turn_now K pick nvm m ≡ turn_of o pick nvm (view_of K o m n) (pressure_of K m)
+  pub turn_is : (pick : Pick) (nvm : ℕ) → actor_now K pick nvm m ≡ actor_of o pick nvm (view_of K o m n) (pressure_of K m)
   turn_is Hart nvm = hart_is Hart
   turn_is Second nvm = hart_is Second
   turn_is Engine nvm =
       engine_is Engine m.phase refl
-      ∙ ap (λ phase. engine_turn o Engine phase (view_of K o m n) (pressure_of K m)) (sym (phase_is m.phase refl))
+      ∙ ap (λ phase. engine_actor o Engine phase (view_of K o m n) (pressure_of K m)) (sym (phase_is m.phase refl))
   turn_is NvmDrain nvm = ap (λ h. if nvm == 0 then h else Nvm) (hart_is NvmDrain)
   turn_is DramDrain nvm = ap (λ h. if K.queued m.scheme == 0 then h else Dram) (hart_is DramDrain)
 
@@ -144,7 +144,7 @@ module _ {S : Type 0} (K : SchemeOf S) (o : Origin) (cycles : ℕ) (m : Machine 
       record { goes = record { phase = e; free = free }; there = one.there; own = one.own }
 
   harts_turn : (pick : Pick) (stall : Option Stall) (phase : Phase) → m.phase ≡ phase → stall_now K phase m ≡ stall
-      → IsTurnOf K o m n (advancing stall (hart_of K pick m))
+      → IsActorOf K o m n (advancing stall (hart_of K pick m))
   harts_turn pick None Run e is = advances pick e (sym (stall_run e) ∙ is)
   harts_turn pick (Some Sealing) Run e is = record { phase = e; stalled = sym (stall_run e) ∙ is }
   harts_turn pick (Some Waiting) Run e is =
@@ -164,27 +164,27 @@ module _ {S : Type 0} (K : SchemeOf S) (o : Origin) (cycles : ℕ) (m : Machine 
   harts_turn pick (Some Booting) Run e is = absurd (no_other (waits_now K m) (is_some m.hart.epoch.over || K.promoting m.scheme) Booting (λ w. cc w) (λ w. cc w) is)
   harts_turn pick (Some Halted) Run e is = absurd (no_other (waits_now K m) (is_some m.hart.epoch.over || K.promoting m.scheme) Halted (λ w. cc w) (λ w. cc w) is)
 
-  at_hart : (pick : Pick) → IsTurnOf K o m n (hart_now K pick m)
+  at_hart : (pick : Pick) → IsActorOf K o m n (hart_now K pick m)
   at_hart pick = harts_turn pick (stall_now K m.phase m) m.phase refl refl
 
-  by_engine : (pick : Pick) (way : Bool) → m.phase ≡ Run → K.under_way m.scheme ≡ way → IsTurnOf K o m n (if way then Checkpoint else hart_now K pick m)
+  by_engine : (pick : Pick) (way : Bool) → m.phase ≡ Run → K.under_way m.scheme ≡ way → IsActorOf K o m n (if way then Checkpoint else hart_now K pick m)
   by_engine pick false e way = at_hart pick
   by_engine pick true e way = (e, way)
 
-  at_engine : (pick : Pick) (phase : Phase) → m.phase ≡ phase → IsTurnOf K o m n (engine_now K pick phase m)
+  at_engine : (pick : Pick) (phase : Phase) → m.phase ≡ phase → IsActorOf K o m n (engine_now K pick phase m)
   at_engine pick Boot e = at_hart pick
   at_engine pick Halt e = at_hart pick
   at_engine pick Run e = by_engine pick (K.under_way m.scheme) e refl
 
-  by_nvm : (nvm : ℕ) → nvm ≡ length n.queue → IsTurnOf K o m n (if nvm == 0 then hart_now K NvmDrain m else Nvm)
+  by_nvm : (nvm : ℕ) → nvm ≡ length n.queue → IsActorOf K o m n (if nvm == 0 then hart_now K NvmDrain m else Nvm)
   by_nvm zero e = at_hart NvmDrain
-  by_nvm (suc k) e = subst (λ b. IsTurnOf K o m n (if b then hart_now K NvmDrain m else Nvm)) (sym (ne_eqb (suc k) 0 (λ z. omega (arith, z)))) (omega (arith, e))
+  by_nvm (suc k) e = subst (λ b. IsActorOf K o m n (if b then hart_now K NvmDrain m else Nvm)) (sym (ne_eqb (suc k) 0 (λ z. omega (arith, z)))) (omega (arith, e))
 
-  by_dram : (queued : ℕ) → K.queued m.scheme ≡ queued → IsTurnOf K o m n (if queued == 0 then hart_now K DramDrain m else Dram)
+  by_dram : (queued : ℕ) → K.queued m.scheme ≡ queued → IsActorOf K o m n (if queued == 0 then hart_now K DramDrain m else Dram)
   by_dram zero e = at_hart DramDrain
-  by_dram (suc k) e = subst (λ b. IsTurnOf K o m n (if b then hart_now K DramDrain m else Dram)) (sym (ne_eqb (suc k) 0 (λ z. omega (arith, z)))) (omega (arith, e))
+  by_dram (suc k) e = subst (λ b. IsActorOf K o m n (if b then hart_now K DramDrain m else Dram)) (sym (ne_eqb (suc k) 0 (λ z. omega (arith, z)))) (omega (arith, e))
 
-  pub at_turn : (pick : Pick) (nvm : ℕ) → nvm ≡ length n.queue → IsTurnOf K o m n (turn_now K pick nvm m)
+  pub at_turn : (pick : Pick) (nvm : ℕ) → nvm ≡ length n.queue → IsActorOf K o m n (actor_now K pick nvm m)
   at_turn Hart nvm e = at_hart Hart
   at_turn Second nvm e = at_hart Second
   at_turn Engine nvm e = at_engine Engine m.phase refl

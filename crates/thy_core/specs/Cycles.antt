@@ -11,8 +11,8 @@ use Rattle.thy_view.specs.declared.did.Stall.TheVariants.{Booting, Sealing, Wait
 use Rattle.thy_view.specs.declared.view.Phase.TheVariants.{Boot, Run, Halt}
 use Rattle.thy_view.specs.Advances.{did_of, stepped_of}
 use Rattle.thy_view.specs.Origin.{Origin, Begins}
-use Rattle.thy_view.specs.Told.{IsThere, HasTurn}
-use Rattle.thy_view.specs.Turn.{Actor, Nvm, Dram, Checkpoint, Advances, Stalled, HandsOn, Does, Prepares, told_at}
+use Rattle.thy_view.specs.WithTurns.{IsThere, HasTurn}
+use Rattle.thy_view.specs.NextActor.{Actor, Nvm, Dram, Checkpoint, Advances, Stalled, HandsOn, Does, Prepares, stall_at}
 use Rattle.thy_view.specs.Views.{is_halt}
 use Rattle.thy_scheme.specs.Scheme.{SchemeOf}
 use Rattle.thy_scheme.specs.MachineExact.{MakesCycle}
@@ -32,12 +32,12 @@ IsStalledBy K o m n Waiting = IsEngineDue K m
 IsStalledBy K o m n Halted = m.phase ≡ Halt
 
 -- what holds at the turn of each actor
-abbrev pub IsTurnOf : {S : Type 0} → SchemeOf S → Origin → Machine S → Device → Actor → Type 0
-IsTurnOf K o m n Nvm = 0 < length n.queue
-IsTurnOf K o m n Dram = 0 < K.queued m.scheme
-IsTurnOf K o m n Checkpoint = IsEngineDue K m
-IsTurnOf K o m n (Advances hart) = HartAdvances K o m n hart
-IsTurnOf K o m n (Stalled stall) = IsStalledBy K o m n stall
+abbrev pub IsActorOf : {S : Type 0} → SchemeOf S → Origin → Machine S → Device → Actor → Type 0
+IsActorOf K o m n Nvm = 0 < length n.queue
+IsActorOf K o m n Dram = 0 < K.queued m.scheme
+IsActorOf K o m n Checkpoint = IsEngineDue K m
+IsActorOf K o m n (Advances hart) = HartAdvances K o m n hart
+IsActorOf K o m n (Stalled stall) = IsStalledBy K o m n stall
 
 -- runs of every kind, those with this start, and those with this input
 abbrev pub IsAnyRun : Origin → Type 0
@@ -55,7 +55,7 @@ pub record CanTake {S : Type 0} (K : SchemeOf S) (P : Origin → Type 0) (actor 
   pub cycles : ℕ
   pub of_kind : P o
   pub at_moment : At K o cycles m n
-  pub turn : IsTurnOf K o m n actor
+  pub turn : IsActorOf K o m n actor
 
 -- a cycle that did this was the actor's, which made exactly this, and is a step of the run if an instruction that it retired
 -- has its turn
@@ -78,12 +78,12 @@ pub record HasFailedAs {S : Type 0} (K : SchemeOf S) (o : Origin) (actor : Actor
 -- in every run of this kind, a cycle that succeeded is the actor's
 abbrev pub SimulatesAs : {S : Type 0} → SchemeOf S → (Origin → Type 0) → Actor → Machine S → Device → Machine S → Device → Result Did NvmError → Type 0
 SimulatesAs K P actor m n next new result =
-    (o : Origin) (cycles : ℕ) → P o → At K o cycles m n → IsTurnOf K o m n actor
+    (o : Origin) (cycles : ℕ) → P o → At K o cycles m n → IsActorOf K o m n actor
     → IfOk result (λ did. IsCycle K o cycles actor did m n next new)
 
 abbrev pub FailsAs : {S : Type 0} → SchemeOf S → (Origin → Type 0) → Actor → Machine S → Device → Machine S → Device → Result Did NvmError → Type 0
 FailsAs K P actor m n next new result =
-    (o : Origin) (cycles : ℕ) → P o → IsMoment K o cycles m n → IsTurnOf K o m n actor → OnErr result (HasFailedAs K o actor m next n new)
+    (o : Origin) (cycles : ℕ) → P o → IsMoment K o cycles m n → IsActorOf K o m n actor → OnErr result (HasFailedAs K o actor m next n new)
 
 -- the cycle was the actor's, or failed as one of the actor's; the NVM's frame stays, and a failure is counted
 pub record HasTaken {S : Type 0} (K : SchemeOf S) (P : Origin → Type 0) (actor : Actor) (m : Machine S) (n : Device) (next : Machine S) (new : Device) (result : Result Did NvmError) : Type 0 where
@@ -119,4 +119,4 @@ pub record HasReported {S : Type 0} (K : SchemeOf S) (P : Origin → Type 0) (ac
   pub behind : Machine S
   pub taken : HasTaken K P actor m n behind new cycle
   pub next_is : next ≡ noted cycle behind
-  pub result_is : result ≡ reported (told_at actor) (not (is_halt m.phase) && is_halt behind.phase) cycle
+  pub result_is : result ≡ reported (stall_at actor) (not (is_halt m.phase) && is_halt behind.phase) cycle

@@ -2,15 +2,15 @@
 use Rattle.std.specs.Prelude.{ℕ, ◌<◌}
 use Rattle.thy_view.specs.declared.boot_step.BootStep.{BootStep}
 use Rattle.thy_view.specs.declared.boot_step.BootStep.TheVariants.{GoesOn, Loaded, Restarted, Refused}
-use Rattle.thy_view.specs.Turn.{Actor, Nvm, Dram, Checkpoint, Advances, Stalled}
+use Rattle.thy_view.specs.NextActor.{Actor, Nvm, Dram, Checkpoint, Advances, Stalled}
 use Rattle.thy_scheme.specs.CheckpointMarks.{CheckpointMarks}
 use Rattle.thy_core.specs.declared.parts.Checkpoints.{Checkpoints}
 use Rattle.thy_core.specs.declared.parts.Consoles.{Consoles}
 use Rattle.thy_core.specs.declared.parts.MachineParts.{MachineParts}
 use Rattle.thy_core.specs.declared.turn.Actor.{Actor as ActorHere}
 use Rattle.thy_core.specs.declared.turn.Actor.TheVariants as here
-use Rattle.thy_core.specs.declared.turn.Turn.{Turn}
-use Rattle.thy_core.specs.declared.turn.Turn.TheVariants as turns
+use Rattle.thy_core.specs.declared.turn.NextActor.{NextActor}
+use Rattle.thy_core.specs.declared.turn.NextActor.TheVariants as turns
 use Rattle.thy_scheme.specs.Machine.{Machine, Lengths}
 
 abbrev pub marks_of : Checkpoints → CheckpointMarks
@@ -44,9 +44,9 @@ actor_seen here.Engine = Checkpoint
 actor_seen (here.Stalled stall) = Stalled stall
 
 -- whose turn it is, as the view has it
-abbrev pub turn_seen : Turn → Actor
-turn_seen (turns.Advances hart) = Advances hart
-turn_seen (turns.Other actor) = actor_seen actor
+abbrev pub next_actor_seen : NextActor → Actor
+next_actor_seen (turns.Advances hart) = Advances hart
+next_actor_seen (turns.Other actor) = actor_seen actor
 
 -- what a step of the boot restored is of an epoch below this
 abbrev pub IsRestartBelow : ℕ → BootStep → Type 0

@@ -6,11 +6,11 @@ use Rattle.thy_view.specs.declared.did.Stall.{Stall}
 use Rattle.thy_view.specs.declared.did.Stall.TheVariants.{Booting, Sealing, Waiting, Halted}
 use Rattle.thy_view.specs.declared.view.Phase.{Phase}
 use Rattle.thy_view.specs.declared.view.Phase.TheVariants.{Boot, Run, Halt}
-use Rattle.thy_view.specs.Turn.{Actor, Nvm, Dram, Checkpoint, advancing, hart_at}
+use Rattle.thy_view.specs.NextActor.{Actor, Nvm, Dram, Checkpoint, advancing, hart_at}
 use Rattle.thy_scheme.specs.Scheme.{SchemeOf}
 use Rattle.thy_scheme.specs.Machine.{Machine, shortage_of, pressure_of}
 
--- fewer entries are free than the dirty lines and the blocks need that room is to be reserved for
+-- fewer entries are free than the dirty lines and the blocks need that room is to be secured for
 abbrev pub lacks : ℕ → ℕ → Option ℕ → Bool
 lacks free dirty None = false
 lacks free dirty (Some need) = nat_lt free (dirty + need)
@@ -46,9 +46,9 @@ engine_now K pick Halt m = hart_now K pick m
 engine_now K pick Run m = if K.under_way m.scheme then Checkpoint else hart_now K pick m
 
 -- whose turn a pick is
-abbrev pub turn_now : {S : Type 0} → SchemeOf S → Pick → ℕ → Machine S → Actor
-turn_now K Hart nvm m = hart_now K Hart m
-turn_now K Second nvm m = hart_now K Second m
-turn_now K Engine nvm m = engine_now K Engine m.phase m
-turn_now K NvmDrain nvm m = if nvm == 0 then hart_now K NvmDrain m else Nvm
-turn_now K DramDrain nvm m = if K.queued m.scheme == 0 then hart_now K DramDrain m else Dram
+abbrev pub actor_now : {S : Type 0} → SchemeOf S → Pick → ℕ → Machine S → Actor
+actor_now K Hart nvm m = hart_now K Hart m
+actor_now K Second nvm m = hart_now K Second m
+actor_now K Engine nvm m = engine_now K Engine m.phase m
+actor_now K NvmDrain nvm m = if nvm == 0 then hart_now K NvmDrain m else Nvm
+actor_now K DramDrain nvm m = if K.queued m.scheme == 0 then hart_now K DramDrain m else Dram

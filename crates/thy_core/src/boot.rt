@@ -4,7 +4,7 @@ ghost use Rattle.thy_isa.specs.Step.{state_of, cpu_of, is_running};
 ghost use Rattle.thy_view.specs.declared.did.Stall.TheVariants.{Booting};
 ghost use Rattle.thy_view.specs.Booting.{boot_did};
 ghost use Rattle.thy_view.specs.Origin.{Origin, Begins};
-ghost use Rattle.thy_view.specs.Turn.{Stalled};
+ghost use Rattle.thy_view.specs.NextActor.{Stalled};
 ghost use Rattle.thy_scheme.specs.Restart.{WritesNothing};
 ghost use Rattle.thy_scheme.specs.MachineCalls.{running_from, after_boot};
 ghost use Rattle.thy_core.specs.Cycles.{HasStart, CanTake, HasTaken};

@@ -2,7 +2,7 @@
 ghost use Rattle.std.specs.Prelude.{◌≡◌, ◌&&◌, not, false, Ok};
 ghost use Rattle.thy_view.specs.declared.did.Stall.TheVariants.{Waiting, Halted};
 ghost use Rattle.thy_view.specs.declared.view.Phase.TheVariants.{Boot};
-ghost use Rattle.thy_view.specs.Turn.{Nvm, Advances, Stalled, told_at};
+ghost use Rattle.thy_view.specs.NextActor.{Nvm, Advances, Stalled, stall_at};
 ghost use Rattle.thy_view.specs.Views.{is_halt};
 ghost use Rattle.thy_scheme.specs.Restart.{WritesNothing};
 ghost use Rattle.thy_core.specs.Calm.{KnowsCalm};
@@ -71,7 +71,7 @@ pub(crate) fn take_other<N: Nvm, S: Scheme>(
     let taken = cycle(m, actor, start, nvm);
     m.store.calm = false;
     let ended = has_halted(before, m.phase);
-    report(m, taken, told_stall(actor), ended)
+    report(m, taken, stall_reported(actor), ended)
 }
 
 /// What a cycle of this result is reported as, with this stall, and as the one that halts or not. Notes whether it failed.
@@ -96,8 +96,8 @@ fn report<S>(
 }
 
 /// The stall that is reported at an actor's turn.
-fn told_stall(actor: Actor) -> Option<Stall>
-    ensures { result ≡ told_at (actor_seen actor) }
+fn stall_reported(actor: Actor) -> Option<Stall>
+    ensures { result ≡ stall_at (actor_seen actor) }
 {
     match actor {
         Actor::Nvm | Actor::Dram | Actor::Engine => None,

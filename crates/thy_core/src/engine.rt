@@ -1,6 +1,6 @@
 //! The checkpoint engine's turn, and that of the DRAM's queue.
 ghost use Rattle.std.specs.Prelude.{◌≡◌, ◌+◌, ◌<◌, ◌^◌, if◌then◌else◌, Ok};
-ghost use Rattle.thy_view.specs.Turn.{Dram, Checkpoint};
+ghost use Rattle.thy_view.specs.NextActor.{Dram, Checkpoint};
 ghost use Rattle.thy_scheme.specs.Calls.{engine_did};
 ghost use Rattle.thy_scheme.specs.MachineCalls.{after_engine};
 ghost use Rattle.thy_core.specs.Cycles.{IsAnyRun, CanTake, HasTaken};

@@ -1,7 +1,7 @@
 //! A hart's turn while nothing keeps it.
 ghost use Rattle.std.specs.Prelude.{◌≡◌, ℕ, None, Some, true, ◌+◌, ◌<◌, ◌≤◌, ◌^◌, ◌&&◌, not, length};
 ghost use Rattle.thy_view.specs.Advances.{did_of, SimulatesRow, row_of};
-ghost use Rattle.thy_view.specs.Turn.{Advances};
+ghost use Rattle.thy_view.specs.NextActor.{Advances};
 ghost use Rattle.thy_hart.specs.declared.hand.Hand.TheVariants.{Nothing};
 ghost use Rattle.thy_scheme.specs.MachineCalls.{retires_over, retires_by, ends_by, begun_by_hart, hart_did, after_hart};
 ghost use Rattle.thy_scheme.specs.Machine.{cpu_fronted};

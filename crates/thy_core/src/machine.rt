@@ -3,8 +3,8 @@ ghost use Rattle.std.specs.Prelude.{◌≡◌, ◌≤◌, ℕ, Ok, None, IfOk, I
 ghost use Rattle.thy_block.specs.Device.{Device, IsFramed, CountsFault};
 ghost use Rattle.thy_dram.specs.Contents.{lost};
 ghost use Rattle.thy_view.specs.declared.view.View.{View};
-ghost use Rattle.thy_view.specs.Advances.{IfAdvanced, IsOthersTurn, SimulatesRow, row_of};
-ghost use Rattle.thy_view.specs.Kind.{CanStep, CanRead, CanSnapshot, Simulates, FailsSafe, IsDramOf, SnapshotsStopped, ShowsConsole, LeavesAlonePast, TellsLoading, HasFailedToRead};
+ghost use Rattle.thy_view.specs.Advances.{IfAdvanced, IsOthersCycle, SimulatesRow, row_of};
+ghost use Rattle.thy_view.specs.Kind.{CanStep, CanRead, CanSnapshot, Simulates, FailsSafe, IsDramOf, SnapshotsStopped, ShowsConsole, LeavesAlonePast, ShowsLoading, HasFailedToRead};
 ghost use Rattle.thy_view.specs.Origin.{Origin};
 ghost use Rattle.thy_view.specs.Restart.{RestartsUnwritten};
 ghost use Rattle.thy_isa.specs.Step.{zero_cpu};
@@ -80,7 +80,7 @@ impl<S: Scheme> Machine<S> {
 
     /// Whether the boot is not over and has found no checkpoint.
     pub fn loading(&self) -> bool
-        ensures { TellsLoading (kind_over S.scheme) self.now result }
+        ensures { ShowsLoading (kind_over S.scheme) self.now result }
     {
         power::is_loading(&self.parts)
     }
@@ -113,7 +113,7 @@ impl<S: Scheme> Machine<S> {
         ensures no_writes { let kind = kind_over S.scheme in
             RestartsUnwritten kind self.old (N.device nvm.old) (N.writes nvm.old) (N.writes nvm.new) }
         ensures left { result ≡ Ok None → (self.new ≡ self.old) × (nvm.new ≡ nvm.old) }
-        ensures others { result ≡ Ok None → IsOthersTurn (kind_over S.scheme) pick self.old (N.device nvm.old) }
+        ensures others { result ≡ Ok None → IsOthersCycle (kind_over S.scheme) pick self.old (N.device nvm.old) }
         ensures failed { self.new.failed ≡ is_err result }
     {
         mark_calm(&mut self.parts);
@@ -143,7 +143,7 @@ impl<S: Scheme> Machine<S> {
         nvm: &mut N,
     ) -> Result<Stepped, NvmError>
         requires can { CanStep (kind_over S.scheme) start.now self.old (N.device nvm.old) }
-        requires others { IsOthersTurn (kind_over S.scheme) pick self.old (N.device nvm.old) }
+        requires others { IsOthersCycle (kind_over S.scheme) pick self.old (N.device nvm.old) }
         ensures steps { Simulates (kind_over S.scheme) start.now pick self.old self.new (N.device nvm.old) (N.device nvm.new) result }
         ensures safe { FailsSafe (kind_over S.scheme) start.now pick self.old self.new (N.device nvm.old) (N.device nvm.new) result }
         ensures frame { IsFramed (N.device nvm.old) (N.device nvm.new) }

@@ -3,7 +3,7 @@ ghost use Rattle.std.specs.Prelude.{◌≡◌, ℕ, ◌<◌, false, IfOk, length
 ghost use Rattle.thy_block.specs.Device.{Device};
 ghost use Rattle.thy_dram.specs.Contents.{lost};
 ghost use Rattle.thy_view.specs.declared.view.View.{View};
-ghost use Rattle.thy_view.specs.Kind.{IsDramOf, TellsLoading};
+ghost use Rattle.thy_view.specs.Kind.{IsDramOf, ShowsLoading};
 ghost use Rattle.thy_view.specs.Origin.{Origin};
 ghost use Rattle.thy_isa.specs.Step.{zero_cpu};
 ghost use Rattle.thy_scheme.specs.Kind.{kind_over};
@@ -61,7 +61,7 @@ pub(crate) fn power_on<S: Scheme>(
 
 /// Whether the boot is not over and has found no checkpoint.
 pub(crate) fn is_loading<S: Scheme>(m: &MachineParts<S>) -> bool
-    ensures { TellsLoading (kind_over S.scheme) (machine_of m.now) result }
+    ensures { ShowsLoading (kind_over S.scheme) (machine_of m.now) result }
 {
     match m.phase {
         Phase::Boot => m.store.scheme.loading(),

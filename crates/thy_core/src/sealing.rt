@@ -2,7 +2,7 @@
 ghost use Rattle.std.specs.Prelude.{◌≡◌, ◌≢◌, Ok, None, Some, true, false, ◌+◌, ◌<◌, ◌^◌};
 ghost use Rattle.thy_cache.specs.Contents.{dirty_count};
 ghost use Rattle.thy_view.specs.declared.did.Stall.TheVariants.{Sealing};
-ghost use Rattle.thy_view.specs.Turn.{Stalled};
+ghost use Rattle.thy_view.specs.NextActor.{Stalled};
 ghost use Rattle.thy_scheme.specs.MachineCalls.{after_seal};
 ghost use Rattle.thy_core.specs.Cycles.{IsAnyRun, CanTake, HasTaken};
 ghost use Rattle.thy_core.specs.MachineParts.{machine_of};
@@ -13,7 +13,8 @@ use thy_isa::is_running;
 use thy_scheme::Scheme;
 use thy_view::Did;
 
-/// Promotes a block of a page, or stores a dirty line, or merges a block into its page, or else seals the epoch.
+/// Promotes a block of a page, or stores a dirty line, or merges a block into its page, or else seals the epoch: steps 5, 2, 3
+/// and 4 of an epoch's end in docs/CONTROLLER.md.
 #[inline(never)]
 pub(crate) fn prepare<N: Nvm, S: Scheme>(
     m: &mut MachineParts<S>,

@@ -1,7 +1,7 @@
 //! One cycle of a pick: a hart's that advances its instruction, or another actor's.
 ghost use Rattle.std.specs.Prelude.{◌≡◌, ◌≤◌, Ok, None, is_err};
 ghost use Rattle.thy_block.specs.Device.{IsFramed, CountsFault};
-ghost use Rattle.thy_view.specs.Advances.{IfAdvanced, IsOthersTurn, SimulatesRow, row_of};
+ghost use Rattle.thy_view.specs.Advances.{IfAdvanced, IsOthersCycle, SimulatesRow, row_of};
 ghost use Rattle.thy_view.specs.Kind.{CanStep, Simulates, FailsSafe};
 ghost use Rattle.thy_view.specs.Restart.{RestartsUnwritten};
 ghost use Rattle.thy_scheme.specs.Kind.{kind_over};
@@ -11,7 +11,7 @@ ghost use Rattle.thy_core.specs.MachineParts.{machine_of};
 use crate::cycle::{take_hart, take_other};
 use crate::hart::execute_row;
 use crate::parts::MachineParts;
-use crate::turn::{Turn, only_harts, turn_now, turn_of};
+use crate::turn::{NextActor, actor_now, actor_of, only_harts};
 use thy_block::{Nvm, NvmError, Pick};
 use thy_layout::Start;
 use thy_scheme::Scheme;
@@ -36,16 +36,16 @@ pub(crate) fn step_hart<N: Nvm, S: Scheme>(
     ensures no_writes { let kind = kind_over S.scheme in
         RestartsUnwritten kind (machine_of m.old) (N.device nvm.old) (N.writes nvm.old) (N.writes nvm.new) }
     ensures left { result ≡ Ok None → (m.new ≡ m.old) × (nvm.new ≡ nvm.old) }
-    ensures others { result ≡ Ok None → IsOthersTurn (kind_over S.scheme) pick (machine_of m.old) (N.device nvm.old) }
+    ensures others { result ≡ Ok None → IsOthersCycle (kind_over S.scheme) pick (machine_of m.old) (N.device nvm.old) }
     ensures failed { m.new.failed ≡ is_err result }
     ensures known { KnowsCalm S.scheme m.new }
 {
-    match turn_now(m, pick, nvm) {
-        Turn::Advances(hart) => match take_hart(m, hart, start, nvm) {
+    match actor_now(m, pick, nvm) {
+        NextActor::Advances(hart) => match take_hart(m, hart, start, nvm) {
             Ok(advance) => Ok(Some(advance)),
             Err(error) => Err(error),
         },
-        Turn::Other(_) => Ok(None),
+        NextActor::Other(_) => Ok(None),
     }
 }
 
@@ -83,7 +83,7 @@ pub(crate) fn step_other<N: Nvm, S: Scheme>(
     nvm: &mut N,
 ) -> Result<Stepped, NvmError>
     requires can { CanStep (kind_over S.scheme) start.now (machine_of m.old) (N.device nvm.old) }
-    requires others { IsOthersTurn (kind_over S.scheme) pick (machine_of m.old) (N.device nvm.old) }
+    requires others { IsOthersCycle (kind_over S.scheme) pick (machine_of m.old) (N.device nvm.old) }
     ensures steps { Simulates (kind_over S.scheme) start.now pick
         (machine_of m.old) (machine_of m.new) (N.device nvm.old) (N.device nvm.new) result }
     ensures safe { FailsSafe (kind_over S.scheme) start.now pick
@@ -95,8 +95,8 @@ pub(crate) fn step_other<N: Nvm, S: Scheme>(
     ensures failed { m.new.failed ≡ is_err result }
     ensures known { KnowsCalm S.scheme m.new }
 {
-    match turn_of(m, pick, nvm.queued()) {
-        Turn::Advances(_) => unreachable!(),
-        Turn::Other(actor) => take_other(m, actor, start, nvm),
+    match actor_of(m, pick, nvm.queued()) {
+        NextActor::Advances(_) => unreachable!(),
+        NextActor::Other(actor) => take_other(m, actor, start, nvm),
     }
 }

@@ -2,10 +2,10 @@
 ghost use Rattle.std.specs.Prelude.{◌≡◌, ◌&&◌, ◌==◌, false, is_some, length};
 ghost use Rattle.thy_core.specs.Calm.{is_calm, KnowsCalm};
 ghost use Rattle.thy_scheme.specs.Machine.{shortage_of};
-ghost use Rattle.thy_core.specs.MachineParts.{machine_of, turn_seen};
-ghost use Rattle.thy_core.specs.Turns.{lacks, stopped_now, waits_now, stall_now, hart_of, hart_now, engine_now, turn_now};
+ghost use Rattle.thy_core.specs.MachineParts.{machine_of, next_actor_seen};
+ghost use Rattle.thy_core.specs.Turns.{lacks, stopped_now, waits_now, stall_now, hart_of, hart_now, engine_now, actor_now};
 ghost use Rattle.thy_block.specs.declared.mix.Pick.TheVariants.{Engine as EnginePick};
-ghost use Rattle.thy_view.specs.Turn.{rested, begins};
+ghost use Rattle.thy_view.specs.NextActor.{rested, begins};
 
 use crate::parts::MachineParts;
 use thy_block::{Nvm, Pick};
@@ -14,7 +14,7 @@ use thy_view::{Phase, Stall};
 
 /// Who takes a cycle.
 #[derive(Clone, Copy, Debug, PartialEq, Eq)]
-pub(crate) enum Turn {
+pub(crate) enum NextActor {
     /// This hart, 0 or 1, which advances its instruction.
     Advances(u8),
     /// Another actor, and no instruction advances.
@@ -34,7 +34,7 @@ pub(crate) enum Actor {
     Stalled(Stall),
 }
 
-/// Whether fewer entries are free than the dirty lines and the blocks need that an instruction reserves room for.
+/// Whether fewer entries are free than the dirty lines and the blocks need that an instruction secures room for.
 fn lacks(free: u64, dirty: u64, need: Option<u64>) -> bool
     ensures { result ≡ lacks free dirty need }
 {
@@ -44,11 +44,11 @@ fn lacks(free: u64, dirty: u64, need: Option<u64>) -> bool
     }
 }
 
-/// Whether too few entries are free for the room that the hart is to reserve.
+/// Whether too few entries are free for the room that the hart is to secure.
 fn is_short<S: Scheme>(m: &MachineParts<S>) -> bool
     ensures { result ≡ is_some (shortage_of S.scheme (machine_of m.now)) }
 {
-    lacks(m.store.scheme.free(), m.cache.dirty(), m.hart.to_reserve())
+    lacks(m.store.scheme.free(), m.cache.dirty(), m.hart.to_secure())
 }
 
 /// Whether the sealed state has ended, and nothing is left to be promoted.
@@ -71,8 +71,11 @@ fn hart_stall<S: Scheme>(m: &MachineParts<S>) -> Option<Stall>
     ensures { result ≡ stall_now S.scheme m.now.phase (machine_of m.now) }
 {
     match m.phase {
+        // the rules of a hart's turn in docs/CONTROLLER.md: rule 1
         Phase::Boot => Some(Stall::Booting),
+        // rule 2
         Phase::Halt => Some(Stall::Halted),
+        // rules 3 to 5
         Phase::Run => run_stall(m),
     }
 }
@@ -82,10 +85,13 @@ fn run_stall<S: Scheme>(m: &MachineParts<S>) -> Option<Stall>
     ensures { result ≡ stall_now S.scheme Phase.Run (machine_of m.now) }
 {
     if waits(m) {
+        // rule 3
         Some(Stall::Waiting)
     } else if m.hart.epoch().over().is_some() || m.store.scheme.promoting() {
+        // rule 4
         Some(Stall::Sealing)
     } else {
+        // rule 5
         None
     }
 }
@@ -127,12 +133,12 @@ pub(crate) fn hart_of<S: Scheme>(m: &MachineParts<S>, pick: Pick) -> u8
 
 /// The turn of the hart that a pick comes to, unless there is a stall.
 #[inline(always)]
-fn hart_turn<S: Scheme>(m: &MachineParts<S>, pick: Pick) -> Turn
-    ensures { turn_seen result ≡ hart_now S.scheme pick (machine_of m.now) }
+fn hart_actor<S: Scheme>(m: &MachineParts<S>, pick: Pick) -> NextActor
+    ensures { next_actor_seen result ≡ hart_now S.scheme pick (machine_of m.now) }
 {
     match hart_stall(m) {
-        None => Turn::Advances(hart_of(m, pick)),
-        Some(stall) => Turn::Other(Actor::Stalled(stall)),
+        None => NextActor::Advances(hart_of(m, pick)),
+        Some(stall) => NextActor::Other(Actor::Stalled(stall)),
     }
 }
 
@@ -159,15 +165,15 @@ pub(crate) fn mark_calm<S: Scheme>(m: &mut MachineParts<S>)
 
 /// Whose turn a pick is: a hart's if the pick's actor has nothing to do. If only the harts have, no other is asked.
 #[inline(always)]
-pub(crate) fn turn_now<N: Nvm, S: Scheme>(m: &MachineParts<S>, pick: Pick, nvm: &N) -> Turn
+pub(crate) fn actor_now<N: Nvm, S: Scheme>(m: &MachineParts<S>, pick: Pick, nvm: &N) -> NextActor
     requires known { KnowsCalm S.scheme m.now }
     requires up { (N.device nvm.now).down ≡ false }
-    ensures { turn_seen result ≡ turn_now S.scheme pick (length (N.device nvm.now).queue) (machine_of m.now) }
+    ensures { next_actor_seen result ≡ actor_now S.scheme pick (length (N.device nvm.now).queue) (machine_of m.now) }
 {
     if only_harts(m, nvm) {
-        return Turn::Advances(hart_of(m, pick));
+        return NextActor::Advances(hart_of(m, pick));
     }
-    turn_of(m, pick, nvm.queued())
+    actor_of(m, pick, nvm.queued())
 }
 
 /// Whether a machine is marked as calm, and no write is queued in the NVM.
@@ -181,34 +187,34 @@ pub(crate) fn only_harts<N: Nvm, S>(m: &MachineParts<S>, nvm: &N) -> bool
 
 /// Whose turn a pick is, by what each actor has to do, with `nvm` writes queued in the NVM.
 #[inline(always)]
-pub(crate) fn turn_of<S: Scheme>(m: &MachineParts<S>, pick: Pick, nvm: u64) -> Turn
-    ensures { turn_seen result ≡ turn_now S.scheme pick nvm (machine_of m.now) }
+pub(crate) fn actor_of<S: Scheme>(m: &MachineParts<S>, pick: Pick, nvm: u64) -> NextActor
+    ensures { next_actor_seen result ≡ actor_now S.scheme pick nvm (machine_of m.now) }
 {
-    let hart = hart_turn(m, pick);
+    let hart = hart_actor(m, pick);
     match pick {
         Pick::Hart | Pick::Second => hart,
-        Pick::Engine => engine_turn(m, hart),
+        Pick::Engine => engine_actor(m, hart),
         Pick::NvmDrain => if nvm == 0 {
             hart
         } else {
-            Turn::Other(Actor::Nvm)
+            NextActor::Other(Actor::Nvm)
         },
         Pick::DramDrain => if m.store.scheme.queued() == 0 {
             hart
         } else {
-            Turn::Other(Actor::Dram)
+            NextActor::Other(Actor::Dram)
         },
     }
 }
 
 /// The engine's turn, if a checkpoint is under way, or else a hart's.
-fn engine_turn<S: Scheme>(m: &MachineParts<S>, hart: Turn) -> Turn
-    requires { turn_seen hart ≡ hart_now S.scheme EnginePick (machine_of m.now) }
-    ensures { turn_seen result ≡ engine_now S.scheme EnginePick m.now.phase (machine_of m.now) }
+fn engine_actor<S: Scheme>(m: &MachineParts<S>, hart: NextActor) -> NextActor
+    requires { next_actor_seen hart ≡ hart_now S.scheme EnginePick (machine_of m.now) }
+    ensures { next_actor_seen result ≡ engine_now S.scheme EnginePick m.now.phase (machine_of m.now) }
 {
     match m.phase {
         Phase::Run => if m.store.scheme.under_way() {
-            Turn::Other(Actor::Engine)
+            NextActor::Other(Actor::Engine)
         } else {
             hart
         },

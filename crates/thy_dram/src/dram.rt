@@ -8,7 +8,7 @@ use crate::jumps::{Jump, block_powers};
 use std::alloc::{AllocError, Global};
 use std::marker::Model;
 use thy_block::Block;
-use thy_ring::Ring;
+use thy_write_queue::Ring;
 
 /// A volatile memory whose writes are queued before they land. Only `new` allocates, and no other
 /// call can fail. A loss of power takes no draws: a block that is read before it was written again takes its own then.

@@ -34,7 +34,7 @@ use Rattle.thy_execute.specs.Planning.{HasStayed, RunOverSeen}
 use Rattle.thy_answer.specs.Kept.{answer_of}
 use Rattle.thy_answer.specs.Saving.{IsPut, SavesUnder, saves, save_pick}
 use Rattle.thy_answer.specs.Sources.{ProgramSource, IsProgram, origin_for}
-use Rattle.thy_words.specs.Settings.{Job}
+use Rattle.thy_arguments.specs.Settings.{Job}
 use Rattle.thy_run.specs.Watching.{Taken}
 use Rattle.thy_answer.specs.Watching.{HasSeenOf}
 

@@ -14,7 +14,7 @@ use Rattle.thy_block.specs.Bytes.{bytes_of}
 use Rattle.thy_answer.specs.Meaning.{decode_of, blocks_of_image}
 use Rattle.thy_isa.specs.Step.{state_of}
 use Rattle.thy_layout.specs.declared.start.Start.{Start}
-use Rattle.thy_words.specs.Settings.{Job}
+use Rattle.thy_arguments.specs.Settings.{Job}
 use Rattle.thy_view.specs.Booting.{found_first}
 use Rattle.thy_view.specs.Kind.{KindOf, IsLawful, IsFittedFor}
 use Rattle.thy_block.specs.declared.mark.Mark.{Mark}
@@ -123,33 +123,33 @@ safe_saved K o events None true c n m old new why h safe = subst (IsSafeFor K o 
 safe_saved K o events None false c n m old new why h safe = subst (IsSafeFor K o events) (sym h.0) safe
 
 -- a run that was begun keeps its promise
-pub IsRunOf-ran : {M O : Type 0} (K : KindOf M) (laws : IsLawful K) (has_seen : O → List Taken → Type 0) → (source : ProgramSource) (job : Job) (save : Option (List ℕ)) (before after : Outside) (plan : Plan) (blocks : List Block) (d stood : Device) (e : Ending) (r : Ran) (told : Stream) (why : Option PutError) (observer : O)
+pub IsRunOf-ran : {M O : Type 0} (K : KindOf M) (laws : IsLawful K) (has_seen : O → List Taken → Type 0) → (source : ProgramSource) (job : Job) (save : Option (List ℕ)) (before after : Outside) (plan : Plan) (blocks : List Block) (d stood : Device) (e : Ending) (r : Ran) (reported : Stream) (why : Option PutError) (observer : O)
     → IsPlanned plan → (p : IsPlanOf source job before.shelf plan blocks) → job.save ≡ save
     → d ≡ fitted (shape_for K job.config) blocks before.device
-    → RunEndsSeen K has_seen plan d stood e before.terminal after.terminal before.report told observer
+    → RunEndsSeen K has_seen plan d stood e before.terminal after.terminal before.report reported observer
     → SavesUnder save (saves e.stop) plan.config stood after.device before.shelf after.shelf why
-    → ClosesAs source plan.geometry.limit save e why r.status told after.report
+    → ClosesAs source plan.geometry.limit save e why r.status reported after.report
     → r.stop ≡ e.stop → r.events ≡ e.events → r.cycles ≡ e.cycles
     → (h : IsRunOf K source job before p.program after (answer_of r)) × (h.ending.stop ≡ r.stop) × HasSeenOf K has_seen source job before p.program after (answer_of r) h observer
-IsRunOf-ran K laws has_seen source job save before after plan blocks d stood e r told why observer planned p names fit ends saved closes stops events cycles =
+IsRunOf-ran K laws has_seen source job save before after plan blocks d stood e r reported why observer planned p names fit ends saved closes stops events cycles =
     let a : Answer = answer_of r in
     let o : Origin = origin_for job p.program.begins p.program.input in
     let given : Given = given_for K job p.program.begins before.device in
-    let promise = planned_promise K laws plan d stood e before.terminal after.terminal before.report told planned ends.0 in
+    let promise = planned_promise K laws plan d stood e before.terminal after.terminal before.report reported planned ends.0 in
     let put : SavesUnder job.save (saves e.stop) job.config stood after.device before.shelf after.shelf why =
     subst (λ c. SavesUnder job.save (saves e.stop) c stood after.device before.shelf after.shelf why) p.config
     (subst (λ n. SavesUnder n (saves e.stop) plan.config stood after.device before.shelf after.shelf why) (sym names) saved) in
     let run : IsRunFrom K (origin_of plan) (given_of plan d) source job before after a = record {
       ending = e;
       stood = stood;
-      told = told;
+      reported = reported;
       ran = ends.0;
       why = why;
       saved = put;
       closes =
-          subst (λ l. ClosesAs source l job.save e why r.status told after.report)
+          subst (λ l. ClosesAs source l job.save e why r.status reported after.report)
           (ap (λ (x : Parameters). x.limit) (planned_numbers source job before.shelf plan blocks p))
-          (subst (λ n. ClosesAs source plan.geometry.limit n e why r.status told after.report) (sym names) closes);
+          (subst (λ n. ClosesAs source plan.geometry.limit n e why r.status reported after.report) (sym names) closes);
       events = ap of_run events;
       cycles = cycles;
       promise =

@@ -11,7 +11,7 @@ use Rattle.thy_run.specs.declared.plan.Plan.{Plan}
 use Rattle.thy_run.specs.Watching.{Taken}
 use Rattle.thy_text.specs.Event.{Event}
 use Rattle.thy_view.specs.Kind.{KindOf}
-use Rattle.thy_words.specs.Settings.{Job}
+use Rattle.thy_arguments.specs.Settings.{Job}
 use Rattle.thy_answer.specs.declared.answer.Ran.{Ran}
 use Rattle.thy_answer.specs.Answering.{Outside, with_device, shape_for, IsRunOf, IsRunOverOf}
 use Rattle.thy_answer.specs.Watching.{HasSeenOf, HasSeenOver}

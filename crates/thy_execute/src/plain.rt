@@ -6,7 +6,7 @@ ghost use Rattle.thy_block.specs.Device.{Device as DeviceValue};
 ghost use Rattle.thy_block.specs.Geometry.{IsInRange, program_size};
 ghost use Rattle.thy_block.specs.Outside.{HasNotFailed};
 ghost use Rattle.thy_text.specs.Lines.{ended_lines};
-ghost use Rattle.thy_words.specs.Settings.{Job as JobValue, job_of};
+ghost use Rattle.thy_arguments.specs.Settings.{Job as JobValue, job_of};
 ghost use Rattle.thy_answer.specs.Answering.{outside, plain_stop};
 ghost use Rattle.thy_files.specs.Beginnings.{IsJobOf, IsPlannedFor, IsProgramOf};
 ghost use Rattle.thy_answer.specs.Sources.{ProgramDue, file};
@@ -15,13 +15,13 @@ ghost use Rattle.thy_run.specs.Sending.{Sent};
 
 use std::alloc::Global;
 use thy_answer::{Answer, ProgramSource, Refusal, refuse, stopped};
+use thy_arguments::Job;
 use thy_base::{Config, Geometry, Shelf, Sink};
 use thy_files::{Program, fetch_both, program_of};
 use thy_isa::{MachState, Status};
 use thy_plain::Plain;
 use thy_run::{Ending, Observer, Stop, write_bytes};
 use thy_text::{Events, write_ended};
-use thy_words::Job;
 
 /// Writes how the program has ended, if it has, and returns whether the report failed.
 fn write_end<R: Sink>(state: &MachState, digest: bool, report: &mut R) -> bool

@@ -2,7 +2,7 @@
 ghost use Rattle.std.specs.Prelude.{◌≡◌, ◌<◌, [], None, IfOk, IfErr, OnErr, option_map};
 ghost use Rattle.thy_base.specs.Config.{fault_of as range_fault, parameters_of};
 ghost use Rattle.thy_block.specs.declared.parameters.Parameters.{Parameters as Numbers};
-ghost use Rattle.thy_words.specs.Settings.{job_of};
+ghost use Rattle.thy_arguments.specs.Settings.{job_of};
 ghost use Rattle.thy_answer.specs.Answering.{outside};
 ghost use Rattle.thy_answer.specs.Watching.{RunSeen};
 ghost use Rattle.thy_answer.specs.Machines.{by_scheme};
@@ -15,12 +15,12 @@ ghost use Rattle.thy_run.specs.Rounds.{IsFitted};
 
 use std::alloc::Global;
 use thy_answer::{Answer, ProgramSource, Ran, Refusal, refuse, stopped};
+use thy_arguments::Job;
 use thy_base::{Block, FitError, Geometry, Nvm, PutError, SchemeName, Shape, Shelf, Sink};
 use thy_files::{Beginning, cuts_in, is_saved, prepare, save, save_pick};
 use thy_gap::Gap;
 use thy_run::{Ending, Observer, Plan, run};
 use thy_view::Computer;
-use thy_words::Job;
 
 /// Saves a run that stopped, if it is to be saved; and returns why it was not, if it was to be and was not.
 fn save_run<H: Shelf, N: Nvm>(
@@ -176,7 +176,7 @@ fn run_levelled<M: Computer, H: Shelf, T: Sink, R: Sink, N: Nvm, O: Observer>(
             let ran = run_fitted::<M, H, T, R, Gap<&mut N>, O>(
                 alloc, source, save, plan, shelf, terminal, report, &mut lines, observer,
             );
-            lines.means_what_is_seen();
+            lines.recall_meaning();
             let _loan = lines.into_inner();
             Ok(ran)
         }

@@ -26,19 +26,19 @@ fn ran(rt: &impl Abort, alloc: Global, line: &str) -> Given {
 fn on_plain(rt: &impl Abort, alloc: Global, program: &str) -> Given {
     let line = format!(in alloc; "thynvm plain {program} --pages 8 --digest").expect(rt, "memory");
     let plain = ran(rt, alloc, line.as_str());
-    let is_told = has(&plain.report, "\nmemory ");
-    check(rt, plain.status == 0 && is_told, line.as_str());
+    let is_reported = has(&plain.report, "\nmemory ");
+    check(rt, plain.status == 0 && is_reported, line.as_str());
     plain
 }
 
 /// Compares a run with the plain machine's: what was printed, the end, and the digest of memory; and its report has
 /// these lines.
 fn compare(rt: &impl Abort, line: &str, given: &Given, plain: &Given, lines: &str) {
-    let is_told = has(&given.report, lines);
+    let is_reported = has(&given.report, lines);
     let ends_so = given.status == 0
         && given.printed == plain.printed
         && given.report.as_slice().ends_with(plain.report.as_slice());
-    check(rt, is_told && ends_so, line);
+    check(rt, is_reported && ends_so, line);
 }
 
 /// A boot after a cut of power.
@@ -51,7 +51,7 @@ struct Boot {
     /// How many actions the boot has. A boot takes at least that many cycles.
     actions: u64,
     /// What is reported with the last action.
-    told: &'static str,
+    reported: &'static str,
 }
 
 /// With the first checkpoint of the README's run, whose three lines were printed.
@@ -60,7 +60,7 @@ static OF_GREET: Boot = Boot {
     options: " --epoch 240",
     tear: 0,
     actions: 80,
-    told: "restart 1 at 240",
+    reported: "restart 1 at 240",
 };
 
 /// The commit block of the checkpoint of epoch 1 was queued: it did not land, or it did.
@@ -69,7 +69,7 @@ static OF_THE_START: Boot = Boot {
     options: " --btt 8 --ptt 8",
     tear: 0,
     actions: 10,
-    told: "restart 0 at 0",
+    reported: "restart 0 at 0",
 };
 
 static OF_THE_END: Boot = Boot {
@@ -77,7 +77,7 @@ static OF_THE_END: Boot = Boot {
     options: " --btt 8 --ptt 8",
     tear: 1,
     actions: 10,
-    told: "restart 1 at 3",
+    reported: "restart 1 at 3",
 };
 
 /// With the first checkpoint that has a page in its alternate page: 64 of the actions copy that into the DRAM.
@@ -86,7 +86,7 @@ static OF_A_PAGE: Boot = Boot {
     options: " --btt 8 --ptt 8 --sets 1 --ways 1 --high 0 --low 0",
     tear: 0,
     actions: 74,
-    told: "restart 2 at 8",
+    reported: "restart 2 at 8",
 };
 
 /// The line of a run without its cuts.
@@ -108,13 +108,13 @@ fn cut_boot(
     cut: u64,
     again: u64,
 ) {
-    let (tear, told) = (boot.tear, boot.told);
+    let (tear, reported) = (boot.tear, boot.reported);
     let line = format!(in alloc; "{run} --cuts {cut},{again} --tears {tear},1").expect(
         rt, "memory",
     );
-    let lines = format!(in alloc; "cut 1 at cycle {cut}\ncut 2 at cycle {again}\n{told}\n").expect(
-        rt, "memory",
-    );
+    let lines = format!(in alloc;
+        "cut 1 at cycle {cut}\ncut 2 at cycle {again}\n{reported}\n"
+    ).expect(rt, "memory");
     let given = ran(rt, alloc, line.as_str());
     compare(rt, line.as_str(), &given, plain, lines.as_str());
 }
@@ -159,11 +159,11 @@ fn a_recovery_that_is_cut_copies_a_page_again(rt: HostRuntime) {
 }
 
 /// Cuts after 300 cycles of loading and after this one.
-fn cut_loading(rt: &impl Abort, alloc: Global, plain: &Given, cycle: u64, told: &str) {
+fn cut_loading(rt: &impl Abort, alloc: Global, plain: &Given, cycle: u64, reported: &str) {
     let line = format!(in alloc;
         "thynvm run F --pages 8 --btt 8 --ptt 8 --digest --cuts 300,{cycle} --tears 7,7"
     ).expect(rt, "memory");
-    let lines = format!(in alloc; "\ncut 2 at cycle {cycle}\n{told}\n").expect(rt, "memory");
+    let lines = format!(in alloc; "\ncut 2 at cycle {cycle}\n{reported}\n").expect(rt, "memory");
     let given = ran(rt, alloc, line.as_str());
     compare(rt, line.as_str(), &given, plain, lines.as_str());
 }

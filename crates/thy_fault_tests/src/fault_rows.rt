@@ -43,7 +43,7 @@ pub(crate) struct Calls {
 /// 698, and a drain lets it land. After the barrier come calls 701 to 715. They are the read of the block that has the
 /// program, the five blocks of the processor's record, one of each table and one of the counts, with three drains in
 /// between. A barrier, the commit block of epoch 1 and its barrier follow.
-static BY_BOTH_TABLES: Calls = Calls {
+static BY_THYNVM: Calls = Calls {
     scheme: "thynvm",
     started: Commit {
         call: 698,
@@ -122,7 +122,7 @@ impl Fault {
     }
 
     /// What the run that fails reports. The call after loading reads the block that has the program.
-    fn told(self, calls: &Calls) -> &'static str {
+    fn reported(self, calls: &Calls) -> &'static str {
         if self.call <= calls.loaded {
             LOADING
         } else if self.call == calls.loaded.saturating_add(1) {
@@ -153,7 +153,7 @@ fn fail(
     let line = line_of(rt, alloc, RUN, calls.scheme, save);
     let mut nvm = failing_at(rt, alloc, fault.call, fault.is_late);
     let given = called_over(rt, alloc, line.as_str(), shelf, &mut nvm);
-    compare(rt, at, &given, 7, "", fault.told(calls));
+    compare(rt, at, &given, 7, "", fault.reported(calls));
 }
 
 /// Resumes it, and compares status and report.
@@ -219,7 +219,7 @@ pub(crate) fn fail_by_row(rt: &impl Abort, alloc: Global, calls: &Calls, row: &R
 #[test]
 fn the_last_commit_block_and_its_barrier_may_fail(rt: HostRuntime) {
     for row in &ROWS {
-        fail_by_row(&rt, rt.alloc(), &BY_BOTH_TABLES, row);
+        fail_by_row(&rt, rt.alloc(), &BY_THYNVM, row);
     }
 }
 
@@ -249,22 +249,22 @@ pub(crate) fn fail_anywhere(
 
 #[test]
 fn any_call_may_fail_and_no_write_lands(rt: HostRuntime) {
-    fail_anywhere(&rt, rt.alloc(), &BY_BOTH_TABLES, false, false);
+    fail_anywhere(&rt, rt.alloc(), &BY_THYNVM, false, false);
 }
 
 #[test]
 fn any_call_may_fail_and_every_write_lands(rt: HostRuntime) {
-    fail_anywhere(&rt, rt.alloc(), &BY_BOTH_TABLES, false, true);
+    fail_anywhere(&rt, rt.alloc(), &BY_THYNVM, false, true);
 }
 
 #[test]
 fn any_call_may_fail_late_and_no_write_lands(rt: HostRuntime) {
-    fail_anywhere(&rt, rt.alloc(), &BY_BOTH_TABLES, true, false);
+    fail_anywhere(&rt, rt.alloc(), &BY_THYNVM, true, false);
 }
 
 #[test]
 fn any_call_may_fail_late_and_every_write_lands(rt: HostRuntime) {
-    fail_anywhere(&rt, rt.alloc(), &BY_BOTH_TABLES, true, true);
+    fail_anywhere(&rt, rt.alloc(), &BY_THYNVM, true, true);
 }
 
 /// A put that fails after the last barrier did is reported in place of the device.
@@ -279,5 +279,5 @@ pub(crate) fn fail_to_save(rt: &impl Abort, alloc: Global, calls: &Calls) {
 
 #[test]
 fn a_save_behind_a_fault_may_fail_too(rt: HostRuntime) {
-    fail_to_save(&rt, rt.alloc(), &BY_BOTH_TABLES);
+    fail_to_save(&rt, rt.alloc(), &BY_THYNVM);
 }

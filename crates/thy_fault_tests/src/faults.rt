@@ -71,15 +71,15 @@ static KEEPS_A_PAGE: Case = Case {
 };
 
 /// What a report has before it says that the NVM failed, if it ends so.
-fn told_before(report: &[u8]) -> Option<&str> {
+fn reported_before(report: &[u8]) -> Option<&str> {
     let text = std::str::from_utf8(report).ok()?;
     text.strip_suffix("nvm failed\n")
 }
 
 /// How many commits lines report.
-fn commits_in(told: &str) -> u64 {
+fn commits_in(reported: &str) -> u64 {
     let mut commits: u64 = 0;
-    for line in told.lines() {
+    for line in reported.lines() {
         if line.starts_with("commit ") {
             commits = commits.saturating_add(1);
         }
@@ -111,13 +111,13 @@ fn goes_on(rt: &impl Abort, alloc: Global, resumed: &Given, plain: &Given, commi
 /// Stops the test unless a run failed, and reported and showed a first part of what the case does. Returns how many
 /// commits it reported.
 fn commits_before(rt: &impl Abort, case: &Case, plain: &Given, given: &Given, at: &str) -> u64 {
-    let Some(told) = told_before(given.report.as_slice()) else {
+    let Some(reported) = reported_before(given.report.as_slice()) else {
         panic!(rt; "{at}: no fault");
     };
     let shown = given.printed.as_slice();
-    let is_first = case.report.starts_with(told) && plain.printed.as_slice().starts_with(shown);
+    let is_first = case.report.starts_with(reported) && plain.printed.as_slice().starts_with(shown);
     check(rt, given.status == 7 && is_first, at);
-    commits_in(told)
+    commits_in(reported)
 }
 
 /// Resumes what a run saved that reported `commits` commits, and compares its end.

@@ -232,7 +232,7 @@ static COUNTS: [(usize, u8, u8, &str); 5] = [
 ];
 
 #[test]
-fn a_count_that_no_page_has_is_told_by_its_place(rt: HostRuntime) {
+fn a_count_that_no_page_has_is_refused_by_its_place(rt: HostRuntime) {
     let alloc = rt.alloc();
     let image = image(&rt, alloc);
     for (place, count, status, report) in &COUNTS {
@@ -249,7 +249,7 @@ static TOO_LONG: [&str; 4] = [
 ];
 
 #[test]
-fn a_file_that_is_too_long_is_told_by_its_name(rt: HostRuntime) {
+fn a_file_that_is_too_long_is_refused_by_its_name(rt: HostRuntime) {
     let alloc = rt.alloc();
     let mut files = files(&rt, alloc);
     let long = Vec::from_elem(alloc, 0u8, 67_108_865).expect(&rt, "memory");

@@ -59,7 +59,7 @@ fn expect_failing(
 }
 
 #[test]
-fn a_shelf_that_fails_is_told_with_the_name(rt: HostRuntime) {
+fn a_shelf_that_fails_is_reported_with_the_name(rt: HostRuntime) {
     let alloc = rt.alloc();
     for (line, failing, status, report) in &FAILURES {
         expect_failing(&rt, alloc, line, *failing, *status, report);

@@ -113,8 +113,8 @@ fn an_image_of_version_1_is_resumed_and_migrated(rt: HostRuntime) {
 fn cut_after(rt: &impl Abort, alloc: Global, cycle: u64, tears: u64) {
     let more = format!(in alloc; " --cuts {cycle} --tears {tears}").expect(rt, "memory");
     let given = resumed(rt, alloc, BYTES_ONE, more.as_str());
-    let told = format!(in alloc; "cut 1 at cycle {cycle}\n{RESTORED}").expect(rt, "memory");
-    compare(rt, more.as_str(), &given, 0, "", told.as_str());
+    let reported = format!(in alloc; "cut 1 at cycle {cycle}\n{RESTORED}").expect(rt, "memory");
+    compare(rt, more.as_str(), &given, 0, "", reported.as_str());
 }
 
 #[test]
@@ -201,10 +201,10 @@ fn stops_after(rt: &impl Abort, alloc: Global, limit: u64, pick: u64, has_landed
     let line = format!(in alloc; "{RESUMES} --limit {limit} --save T --tears {pick}").expect(
         rt, "memory",
     );
-    let told = format!(in alloc; "limit {limit}\n").expect(rt, "memory");
+    let reported = format!(in alloc; "limit {limit}\n").expect(rt, "memory");
     let mut shelf = shelf(rt, alloc, BYTES_ONE);
     let given = called(rt, alloc, line.as_str(), &mut shelf);
-    compare(rt, line.as_str(), &given, 8, "", told.as_str());
+    compare(rt, line.as_str(), &given, 8, "", reported.as_str());
     let cycles = restores(rt, alloc, &mut shelf, line.as_str());
     check(
         rt,

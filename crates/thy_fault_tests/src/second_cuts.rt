@@ -18,7 +18,7 @@ pub(crate) struct Boots {
 
 /// A boot that finds the checkpoint of epoch 0 has ten actions: the reads of the commit block, of the header and of the
 /// slot's eight blocks.
-static BY_BOTH_TABLES: Boots = Boots {
+static BY_THYNVM: Boots = Boots {
     scheme: "thynvm",
     cut: 721,
     restarted: 731,
@@ -60,7 +60,7 @@ pub(crate) fn cut_recoveries(rt: &impl Abort, alloc: Global, boots: &Boots) {
 
 #[test]
 fn a_recovery_is_cut_at_each_of_its_cycles(rt: HostRuntime) {
-    cut_recoveries(&rt, rt.alloc(), &BY_BOTH_TABLES);
+    cut_recoveries(&rt, rt.alloc(), &BY_THYNVM);
 }
 
 /// Cuts after the first cycle and after this one.
@@ -91,5 +91,5 @@ pub(crate) fn cut_loadings(rt: &impl Abort, alloc: Global, boots: &Boots) {
 
 #[test]
 fn a_loading_is_cut_at_each_of_its_cycles(rt: HostRuntime) {
-    cut_loadings(&rt, rt.alloc(), &BY_BOTH_TABLES);
+    cut_loadings(&rt, rt.alloc(), &BY_THYNVM);
 }

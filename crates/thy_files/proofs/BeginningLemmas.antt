@@ -24,7 +24,7 @@ use Rattle.thy_elf.specs.declared.error.ElfError.{ElfError}
 use Rattle.thy_elf.specs.declared.image.Image.{Image}
 use Rattle.thy_elf.specs.Image.{Contents, contents_of, read_of}
 use Rattle.thy_plain.specs.Start.{second_hart, start_other, start_state}
-use Rattle.thy_words.specs.Settings.{Job}
+use Rattle.thy_arguments.specs.Settings.{Job}
 use Rattle.thy_block.specs.declared.mark.Mark.{Mark}
 use Rattle.thy_view.specs.Origin.{Origin, IsOrigin, StartsFrom, setting_of}
 use Rattle.thy_view.specs.Safe.{ceiling}

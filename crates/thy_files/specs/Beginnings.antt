@@ -14,7 +14,7 @@ use Rattle.thy_layout.specs.declared.start.Start.{Start}
 use Rattle.thy_answer.specs.Saved.{AreOfCheckpoint}
 use Rattle.thy_view.specs.Origin.{IsOrigin}
 use Rattle.thy_view.specs.Safe.{ceiling}
-use Rattle.thy_words.specs.Settings.{Job}
+use Rattle.thy_arguments.specs.Settings.{Job}
 use Rattle.thy_answer.specs.declared.refusal.Refusal.{Refusal}
 use Rattle.thy_answer.specs.declared.refusal.Refusal.TheVariants.{Fetch}
 use Rattle.thy_files.specs.declared.restoring.Beginning.{Beginning as BeginningValue}

@@ -2,7 +2,7 @@
 ghost use Rattle.std.specs.Prelude.{◌≡◌, List, ℕ, IfOk, IfErr, OnOk, option_map};
 ghost use Rattle.thy_block.specs.Geometry.{IsInRange};
 ghost use Rattle.thy_block.specs.Outside.{HasNotFailed};
-ghost use Rattle.thy_words.specs.Settings.{Job as JobValue};
+ghost use Rattle.thy_arguments.specs.Settings.{Job as JobValue};
 ghost use Rattle.thy_answer.specs.Kept.{named};
 ghost use Rattle.thy_answer.specs.Sources.{ProgramDue, ProgramSource as SourceValue, image};
 ghost use Rattle.thy_files.specs.Beginnings.{Begins, BeginsAs, IsElf, IsPlannedFor, RefusesAs};

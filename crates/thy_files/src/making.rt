@@ -3,7 +3,7 @@ ghost use Rattle.std.specs.Prelude.{◌≡◌, length, IfOk};
 ghost use Rattle.thy_block.specs.Device.{Device};
 ghost use Rattle.thy_block.specs.Outside.{Stream};
 ghost use Rattle.thy_make.specs.File.{made_file};
-ghost use Rattle.thy_answer.specs.Answering.{outside, TellsMade, MakeAnswered};
+ghost use Rattle.thy_answer.specs.Answering.{outside, ReportsMade, MakeAnswered};
 ghost use Rattle.thy_answer.specs.Kept.{err_of};
 ghost use Rattle.thy_answer.specs.Saving.{IsPut};
 
@@ -34,9 +34,9 @@ fn put_made<H: Shelf>(
 
 /// Reports that a program file of this length was put, or why it was not; and returns the exit status. If the report
 /// refuses the line of a file that was put, the status says so; if it refuses a closing line, the status stays.
-fn tell<R: Sink>(number: u64, name: &str, put: Result<u64, PutError>, report: &mut R) -> u8
+fn write_report<R: Sink>(number: u64, name: &str, put: Result<u64, PutError>, report: &mut R) -> u8
     requires { IfOk put (λ l. l ≡ length (made_file number)) }
-    ensures { TellsMade number name.now (err_of put) result
+    ensures { ReportsMade number name.now (err_of put) result
         (R.stream report.old) (R.stream report.new) }
 {
     match put {
@@ -69,7 +69,7 @@ pub fn make<H: Shelf, R: Sink>(
         MakeAnswered number name.now before after result }
 {
     let put = put_made(alloc, number, name, shelf);
-    let status = tell(number, name, put, report);
+    let status = write_report(number, name, put, report);
     Answer {
         status,
         events: History::of(alloc, Events::new(alloc)),

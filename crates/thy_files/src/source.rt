@@ -3,7 +3,7 @@ ghost use Rattle.std.specs.Prelude.{◌≡◌, ℕ, List, length, IfOk, IfErr, O
 ghost use Rattle.thy_block.specs.Bytes.{bytes_of};
 ghost use Rattle.thy_block.specs.Geometry.{IsInRange, program_size};
 ghost use Rattle.thy_block.specs.Outside.{HasNotFailed};
-ghost use Rattle.thy_words.specs.Settings.{Job};
+ghost use Rattle.thy_arguments.specs.Settings.{Job};
 ghost use Rattle.thy_answer.specs.Sources.{AreBytesOf, AreFetched, IsHeld, IsInput, ProgramDue, ProgramSource as SourceValue};
 ghost use Rattle.thy_files.specs.Beginnings.{IsFetchRefusal, ReadsProgram, RefusesProgram};
 ghost use Rattle.thy_answer.specs.Kept.{named};
@@ -12,7 +12,7 @@ use std::alloc::Global;
 use thy_answer::{ProgramSource, Refusal};
 use thy_base::{Bytes, Geometry, Shelf};
 use thy_elf::{Image, read};
-use thy_plain::are_bytes;
+use thy_plain::recall_are_bytes;
 
 /// The most bytes that a program file or an input may have.
 const MOST_BYTES: u64 = 67_108_864;
@@ -118,8 +118,8 @@ pub fn fetch_both<'a, H: Shelf>(
         Ok(input) => input,
         Err(refusal) => return Err(refusal),
     };
-    are_bytes(bytes.as_slice());
-    are_bytes(input.as_slice());
+    recall_are_bytes(bytes.as_slice());
+    recall_are_bytes(input.as_slice());
     Ok(FetchedBytes { bytes, input })
 }
 

@@ -6,24 +6,24 @@ use thy_base::{Bytes, EndCause, Field, SchemeName, Sink, SinkError};
 use thy_isa::{MachState, Regs, Status};
 use thy_layout::BadImage;
 use thy_text::{
-    Closing, Event, Events, FetchFault, History, Telling, digest, write_closing, write_ended,
+    Closing, Event, Events, FetchFault, History, Reporting, digest, write_closing, write_ended,
     write_event, write_made, write_scheme, write_summary,
 };
 
 /// How events of one hart are reported, without digests.
-const ALONE: Telling = Telling {
+const ALONE: Reporting = Reporting {
     digest: false,
     harts: 1,
 };
 
 /// How events of one hart are reported, with digests.
-const DIGESTING: Telling = Telling {
+const DIGESTING: Reporting = Reporting {
     digest: true,
     harts: 1,
 };
 
 /// How events of two harts are reported.
-const PAIR: Telling = Telling {
+const PAIR: Reporting = Reporting {
     digest: false,
     harts: 2,
 };
@@ -99,7 +99,7 @@ fn events_have_their_lines(rt: HostRuntime) {
 }
 
 #[test]
-fn an_epoch_of_two_harts_tells_how_many_instructions_each_retired(rt: HostRuntime) {
+fn an_epoch_of_two_harts_reports_how_many_instructions_each_retired(rt: HostRuntime) {
     let exhausted = EndCause::Exhausted {
         free: 8,
         dirty: 9,

@@ -5,13 +5,13 @@ use Rattle.std.proofs.lemmas.Bool.{cases_eq, cases_lt, ne_eqb}
 use Rattle.std.proofs.lemmas.List.{map-append}
 use Rattle.std.proofs.lemmas.List.Elements.{All-push}
 use Rattle.thy_block.specs.declared.block.Block.{Block}
-use Rattle.thy_block.specs.Device.{Device, IsLeftOf, MayLeave, Crash, IsCut, block_at, cut_to}
+use Rattle.thy_block.specs.Device.{Device, IsCrashOf, CrashAt, Crash, IsCut, block_at, cut_to}
 use Rattle.thy_gap.specs.declared.registers.Registers.{Registers}
 use Rattle.thy_gap.specs.Lines.{IsWhole, place, source, moved, registers_block, registers_of, registers_in}
 use Rattle.thy_gap.specs.Seen.{unmap, unmapped, seen}
-use Rattle.thy_gap.specs.Levelled.{IsCopied, IsQuiet, IsLeft, IsLevelled}
+use Rattle.thy_gap.specs.Levelled.{IsCopied, IsQuiet, HasRegisters, IsLevelled}
 use Rattle.thy_gap.proofs.LineLemmas.{whole-moved, place-moved_line, place-other_line}
-use Rattle.thy_gap.proofs.RegisterLemmas.{registers_of-block, Tells-in_hand, Tells-cases}
+use Rattle.thy_gap.proofs.RegisterLemmas.{registers_of-block, IsOfRegisters-in_hand, IsOfRegisters-cases}
 use Rattle.thy_gap.proofs.SeenLemmas.{length-unmap, block_at-unmap, block_at-unmap_past, unmap-is, possible-seen, zero_left}
 use Rattle.thy_gap.proofs.MovingLemmas.{rest-quiet}
 
@@ -23,7 +23,7 @@ registers-left r cuts n g i c =
     let lines : length g - 2 ≡ r.lines = omega (arith, c.same_length, i.blocks) in
     let b : Block = block_at g (r.lines + 1) in
     let are : registers_in g ≡ registers_of r.lines b = ap (λ n. registers_of n (block_at g (n + 1))) lines in
-    elim (Tells-cases r n b (i.registers b (c.each (r.lines + 1)))) as (λ _. (registers_in g ≡ r) ⊎ ((registers_in g ≡ moved r) × IsCopied r n)) [
+    elim (IsOfRegisters-cases r n b (i.registers b (c.each (r.lines + 1)))) as (λ _. (registers_in g ≡ r) ⊎ ((registers_in g ≡ moved r) × IsCopied r n)) [
       | inl e ↦ inl (are ∙ ap (registers_of r.lines) e ∙ registers_of-block r r.lines i.whole refl)
       | inr t ↦ inr (are ∙ ap (registers_of r.lines) t.0 ∙ registers_of-block (moved r) r.lines (whole-moved r i.whole) refl, t.1)
     ]
@@ -36,7 +36,7 @@ block-left r cuts n g i c =
     let b : Block = block_at g (r.lines + 1) in
     let are : registers_in g ≡ registers_of r.lines b = ap (λ n. registers_of n (block_at g (n + 1))) lines in
     let there : block_at g (length g - 2 + 1) ≡ b = ap (λ n. block_at g (n + 1)) lines in
-    elim (Tells-cases r n b (i.registers b (c.each (r.lines + 1)))) as (λ _. block_at g ((registers_in g).lines + 1) ≡ registers_block (registers_in g)) [
+    elim (IsOfRegisters-cases r n b (i.registers b (c.each (r.lines + 1)))) as (λ _. block_at g ((registers_in g).lines + 1) ≡ registers_block (registers_in g)) [
       | inl e ↦
           there ∙ e ∙ ap registers_block (sym (are ∙ ap (registers_of r.lines) e ∙ registers_of-block r r.lines i.whole refl))
       | inr t ↦
@@ -74,12 +74,12 @@ Crash-seen r cuts n g i c =
     record {
       same_length = ap length e ∙ length-unmap r g ∙ sym (length-unmap r n.image);
       each = λ x.
-          subst (λ (h : List Block). MayLeave (seen r n) x (block_at h x)) (sym e)
-          (elim (cases_lt x r.lines) as (λ _. MayLeave (seen r n) x (block_at (unmap r g) x)) [
+          subst (λ (h : List Block). CrashAt (seen r n) x (block_at h x)) (sym e)
+          (elim (cases_lt x r.lines) as (λ _. CrashAt (seen r n) x (block_at (unmap r g) x)) [
             | inl l ↦
-                subst (λ (q : List Block). IsLeftOf n.whole q (block_at (unmap r g) x)) (sym (possible-seen r n x i.whole l))
-                (subst (λ (b : Block). MayLeave n (place r x) b) (sym (block_at-unmap r g x l)) (c.each (place r x)))
-            | inr l ↦ subst (MayLeave (seen r n) x) (sym (block_at-unmap_past r g x l)) (zero_left r n x i.whole l)
+                subst (λ (q : List Block). IsCrashOf n.whole q (block_at (unmap r g) x)) (sym (possible-seen r n x i.whole l))
+                (subst (λ (b : Block). CrashAt n (place r x) b) (sym (block_at-unmap r g x l)) (c.each (place r x)))
+            | inr l ↦ subst (CrashAt (seen r n) x) (sym (block_at-unmap_past r g x l)) (zero_left r n x i.whole l)
           ]);
     }
 
@@ -96,9 +96,9 @@ IsLevelled-cut r cuts pick old g i c =
     record {
       whole = w;
       blocks = len;
-      registers = λ b h. Tells-in_hand s n b w (q.in_hand b h);
+      registers = λ b h. IsOfRegisters-in_hand s n b w (q.in_hand b h);
       quiet = λ _. q;
-      left = All-push (IsLeft s.lines) old.left g (subst (λ m. All (IsLeft m) old.left) lines i.left) (record { blocks = len; whole = w });
+      left = All-push (HasRegisters s.lines) old.left g (subst (λ m. All (HasRegisters m) old.left) lines i.left) (record { blocks = len; whole = w });
       cuts_are = length-append old.left (g ∷ []) ∙ ap (λ m. m + 1) i.cuts_are;
       room = i.room;
     }

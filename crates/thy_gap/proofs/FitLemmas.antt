@@ -9,9 +9,9 @@ use Rattle.thy_block.specs.Device.{Device, zero_block, block_at, fitted}
 use Rattle.thy_gap.specs.declared.registers.Registers.{Registers}
 use Rattle.thy_gap.specs.Lines.{IsWhole, place, unmoved, registers_block}
 use Rattle.thy_gap.specs.Seen.{unmap, seen}
-use Rattle.thy_gap.specs.Levelled.{IsQuiet, IsLeft, IsLevelled, inner_shape, first_image}
+use Rattle.thy_gap.specs.Levelled.{IsQuiet, HasRegisters, IsLevelled, inner_shape, first_image}
 use Rattle.thy_gap.proofs.LineLemmas.{wrapped-cases, stepped-cases}
-use Rattle.thy_gap.proofs.RegisterLemmas.{Tells-in_hand}
+use Rattle.thy_gap.proofs.RegisterLemmas.{IsOfRegisters-in_hand}
 use Rattle.thy_gap.proofs.SeenLemmas.{unmap-is}
 use Rattle.thy_gap.proofs.MovingLemmas.{rest-quiet}
 
@@ -83,9 +83,9 @@ module _ (shape : Shape) (start : List Block) (n : Device) (some : 0 < shape.blo
       record {
         whole = w;
         blocks = ap length image-fitted ∙ length-first_image shape.blocks start most;
-        registers = λ b h. Tells-in_hand r f b w (q.in_hand b h);
+        registers = λ b h. IsOfRegisters-in_hand r f b w (q.in_hand b h);
         quiet = λ _. q;
-        left = All-nil (IsLeft shape.blocks);
+        left = All-nil (HasRegisters shape.blocks);
         cuts_are = refl;
         room = omega (arith, cuts);
       }

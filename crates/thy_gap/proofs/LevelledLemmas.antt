@@ -5,14 +5,14 @@ use Rattle.std.proofs.lemmas.Bool.{true≢false}
 use Rattle.std.proofs.lemmas.List.Elements.{All-drop, All-push, All-nil}
 use Rattle.thy_block.specs.declared.block.Block.{Block}
 use Rattle.thy_block.specs.declared.nvm.Write.{Write}
-use Rattle.thy_block.specs.Device.{Device, IsFramed, HasFailed, HasFailedToWrite, HoldsNoMore, MayLeave, write_of, landed, settled, surplus, with_queued, written_to}
-use Rattle.thy_block.proofs.DeviceLemmas.{no_more-landed, no_more-settled, no_more-written_to_other, MayLeave-elsewhere}
+use Rattle.thy_block.specs.Device.{Device, IsFramed, HasFailed, HasFailedToWrite, HoldsNoMore, CrashAt, write_of, landed, settled, surplus, with_queued, written_to}
+use Rattle.thy_block.proofs.DeviceLemmas.{no_more-landed, no_more-settled, no_more-written_to_other, CrashAt-elsewhere}
 use Rattle.thy_gap.specs.declared.registers.Registers.{Registers}
 use Rattle.thy_gap.specs.Lines.{IsWhole, place, line_at, source}
 use Rattle.thy_gap.specs.Seen.{unmapped, seen}
-use Rattle.thy_gap.specs.Levelled.{Tells, IsQuiet, IsLeft, IsLevelled}
+use Rattle.thy_gap.specs.Levelled.{IsOfRegisters, IsQuiet, HasRegisters, IsLevelled}
 use Rattle.thy_gap.proofs.LineLemmas.{place-within, line_at-place}
-use Rattle.thy_gap.proofs.RegisterLemmas.{Tells-in_hand, IsCopied-no_more}
+use Rattle.thy_gap.proofs.RegisterLemmas.{IsOfRegisters-in_hand, IsCopied-no_more}
 use Rattle.thy_gap.proofs.SeenLemmas.{length-unmap, no_more-seen, seen-with_queued}
 
 -- ---- while the device is up
@@ -42,17 +42,17 @@ pub IsLevelled-quiet : (r : Registers) (cuts : ℕ) (old new : Device) → IsLev
 IsLevelled-quiet r cuts old new i f q = record {
   whole = i.whole;
   blocks = f.blocks ∙ i.blocks;
-  registers = λ b h. Tells-in_hand r new b i.whole (q.in_hand b h);
+  registers = λ b h. IsOfRegisters-in_hand r new b i.whole (q.in_hand b h);
   quiet = λ _. q;
-  left = subst (λ (l : List (List Block)). All (IsLeft r.lines) l) (sym f.left) i.left;
+  left = subst (λ (l : List (List Block)). All (HasRegisters r.lines) l) (sym f.left) i.left;
   cuts_are = ap length f.left ∙ i.cuts_are;
   room = omega (arith, i.room, f.left_room);
 }
 
 -- ---- where a call failed
 
-pub Tells-no_more : (r : Registers) (old new : Device) (b : Block) → Tells r old b → HoldsNoMore old new → Tells r new b
-Tells-no_more r old new b t no_more = record {
+pub IsOfRegisters-no_more : (r : Registers) (old new : Device) (b : Block) → IsOfRegisters r old b → HoldsNoMore old new → IsOfRegisters r new b
+IsOfRegisters-no_more r old new b t no_more = record {
   in_hand = t.in_hand;
   moved_on = t.moved_on;
   copied = λ ne. IsCopied-no_more r old new (t.copied ne) (no_more r.gap) (no_more (source r));
@@ -60,32 +60,32 @@ Tells-no_more r old new b t no_more = record {
 
 -- a device that is down stays levelled if its registers say the same
 pub IsLevelled-parts : (r : Registers) (cuts : ℕ) (old new : Device) → IsLevelled r cuts old → length new.image ≡ length old.image → new.left ≡ old.left → new.left_room ≡ old.left_room
-    → new.down ≡ true → ((b : Block) → MayLeave new (r.lines + 1) b → Tells r new b) → IsLevelled r cuts new
-IsLevelled-parts r cuts old new i blocks left room down tells = record {
+    → new.down ≡ true → ((b : Block) → CrashAt new (r.lines + 1) b → IsOfRegisters r new b) → IsLevelled r cuts new
+IsLevelled-parts r cuts old new i blocks left room down of_registers = record {
   whole = i.whole;
   blocks = blocks ∙ i.blocks;
-  registers = tells;
+  registers = of_registers;
   quiet = λ up. absurd (true≢false (sym down ∙ up));
-  left = subst (λ (l : List (List Block)). All (IsLeft r.lines) l) (sym left) i.left;
+  left = subst (λ (l : List (List Block)). All (HasRegisters r.lines) l) (sym left) i.left;
   cuts_are = ap length left ∙ i.cuts_are;
   room = omega (arith, i.room, room);
 }
 
 pub IsLevelled-down : (r : Registers) (cuts : ℕ) (old new : Device) → IsLevelled r cuts old → IsFramed old new → new.down ≡ true
-    → ((b : Block) → MayLeave new (r.lines + 1) b → Tells r new b) → IsLevelled r cuts new
-IsLevelled-down r cuts old new i f down tells = IsLevelled-parts r cuts old new i f.blocks f.left f.left_room down tells
+    → ((b : Block) → CrashAt new (r.lines + 1) b → IsOfRegisters r new b) → IsLevelled r cuts new
+IsLevelled-down r cuts old new i f down of_registers = IsLevelled-parts r cuts old new i f.blocks f.left f.left_room down of_registers
 
 -- a device whose fit failed stays levelled, whatever its count of fits
 pub IsLevelled-failed_to_fit : (r : Registers) (cuts k : ℕ) (old new : Device) → IsLevelled r cuts old → IsFramed (record old { fits = k }) new → HasFailed old new → IsLevelled r cuts new
 IsLevelled-failed_to_fit r cuts k old new i f failed =
     IsLevelled-parts r cuts old new i f.blocks f.left f.left_room failed.down
-    (λ b h. Tells-no_more r old new b (i.registers b (failed.no_more (r.lines + 1) b h)) failed.no_more)
+    (λ b h. IsOfRegisters-no_more r old new b (i.registers b (failed.no_more (r.lines + 1) b h)) failed.no_more)
 
 pub IsLevelled-counted : (r : Registers) (cuts k : ℕ) (old : Device) → IsLevelled r cuts old → IsLevelled r cuts (record old { fits = k })
 IsLevelled-counted r cuts k old i = record {
   whole = i.whole;
   blocks = i.blocks;
-  registers = λ b h. Tells-no_more r old (record old { fits = k }) b (i.registers b h) (λ x c h. h);
+  registers = λ b h. IsOfRegisters-no_more r old (record old { fits = k }) b (i.registers b h) (λ x c h. h);
   quiet = λ up. record { lines = (i.quiet up).lines; in_hand = (i.quiet up).in_hand };
   left = i.left;
   cuts_are = i.cuts_are;
@@ -94,15 +94,15 @@ IsLevelled-counted r cuts k old i = record {
 
 pub IsLevelled-failed : (r : Registers) (cuts : ℕ) (old new : Device) → IsLevelled r cuts old → IsFramed old new → HasFailed old new → IsLevelled r cuts new
 IsLevelled-failed r cuts old new i f failed =
-    IsLevelled-down r cuts old new i f failed.down (λ b h. Tells-no_more r old new b (i.registers b (failed.no_more (r.lines + 1) b h)) failed.no_more)
+    IsLevelled-down r cuts old new i f failed.down (λ b h. IsOfRegisters-no_more r old new b (i.registers b (failed.no_more (r.lines + 1) b h)) failed.no_more)
 
 pub IsLevelled-failed_to_write : (r : Registers) (cuts : ℕ) (old new : Device) (x : ℕ) (block : Block)
     → IsLevelled r cuts old → x < r.lines → old.down ≡ false → IsFramed old new → HasFailedToWrite (place r x) block old new → IsLevelled r cuts new
 IsLevelled-failed_to_write r cuts old new x block i l up f failed =
     IsLevelled-down r cuts old new i f failed.down
-    (λ b h. Tells-in_hand r new b i.whole
+    (λ b h. IsOfRegisters-in_hand r new b i.whole
     ((i.quiet up).in_hand b
-    (MayLeave-elsewhere old (place r x) block (r.lines + 1) b (λ e. omega (arith, e, place-within r x i.whole l)) (failed.no_more (r.lines + 1) b h))))
+    (CrashAt-elsewhere old (place r x) block (r.lines + 1) b (λ e. omega (arith, e, place-within r x i.whole l)) (failed.no_more (r.lines + 1) b h))))
 
 -- ---- what is seen
 

@@ -5,16 +5,16 @@ use Rattle.std.proofs.lemmas.List.Elements.{All-nil}
 use Rattle.std.specs.Prelude.{is_some}
 use Rattle.thy_block.specs.declared.block.Block.{Block}
 use Rattle.thy_block.specs.declared.nvm.Write.{Write}
-use Rattle.thy_block.specs.Device.{Device, IsFramed, MayLeave, HasFailed, HasFailedToWrite, block_at, queued_for, newest, settled, written_to}
-use Rattle.thy_block.proofs.DeviceLemmas.{MayLeave-possible, MayLeave-landed, MayLeave-elsewhere, possible-with_queued, no_more-settled, no_more-written_to, no_more-written_to_other, newest-settled, newest-written_to, newest-written_to_other, length-settled, length-written_to, newest-empty}
+use Rattle.thy_block.specs.Device.{Device, IsFramed, CrashAt, HasFailed, HasFailedToWrite, block_at, queued_for, newest, settled, written_to}
+use Rattle.thy_block.proofs.DeviceLemmas.{CrashAt-possible, CrashAt-landed, CrashAt-elsewhere, possible-with_queued, no_more-settled, no_more-written_to, no_more-written_to_other, newest-settled, newest-written_to, newest-written_to_other, length-settled, length-written_to, newest-empty}
 use Rattle.thy_gap.specs.declared.registers.Registers.{Registers}
 use Rattle.thy_gap.specs.Lines.{IsWhole, place, line_at, source, moved, registers_block}
 use Rattle.thy_gap.specs.Seen.{unmap, unmap_queue, seen}
-use Rattle.thy_gap.specs.Levelled.{IsCopied, Tells, IsQuiet, IsLevelled}
+use Rattle.thy_gap.specs.Levelled.{IsCopied, IsOfRegisters, IsQuiet, IsLevelled}
 use Rattle.thy_gap.specs.Moving.{put_down, line_moved}
 use Rattle.thy_gap.specs.Failing.{IsAtRest, HasFailedToMove}
 use Rattle.thy_gap.proofs.LineLemmas.{place-within, place-past_gap, source-within, whole-moved, place-moved_line, place-other_line}
-use Rattle.thy_gap.proofs.RegisterLemmas.{Tells-in_hand, Tells-moved}
+use Rattle.thy_gap.proofs.RegisterLemmas.{IsOfRegisters-in_hand, IsOfRegisters-moved}
 use Rattle.thy_gap.proofs.LevelledLemmas.{IsLevelled-down}
 use Rattle.thy_block.proofs.CrashLemmas.{Contains-stands}
 use Rattle.std.specs.List.{All}
@@ -36,13 +36,13 @@ put_down-other n at block x e other l =
 pub failed_to_put : (at : ℕ) (block : Block) (old mid new : Device) → mid ≡ written_to old at block → HasFailed mid new → HasFailedToWrite at block old new
 failed_to_put at block old mid new e failed = record {
   down = failed.down;
-  no_more = λ x b h. no_more-written_to old at block x b (subst (λ (n : Device). MayLeave n x b) e (failed.no_more x b h));
+  no_more = λ x b h. no_more-written_to old at block x b (subst (λ (n : Device). CrashAt n x b) e (failed.no_more x b h));
 }
 
 -- ---- a device at rest holds one block at each place
 
-pub rest-possible : (n : Device) (x : ℕ) (b : Block) → n.queue ≡ [] → MayLeave n x b → block_at n.image x ≡ b
-rest-possible n x b e h = sym (MayLeave-landed n x b (ap (λ (q : List Write). queued_for q x) e) h)
+pub rest-possible : (n : Device) (x : ℕ) (b : Block) → n.queue ≡ [] → CrashAt n x b → block_at n.image x ≡ b
+rest-possible n x b e h = sym (CrashAt-landed n x b (ap (λ (q : List Write). queued_for q x) e) h)
 
 -- a cut of a device at rest leaves the registers in hand
 pub rest-quiet : (r : Registers) (n : Device) → n.queue ≡ [] → block_at n.image (r.lines + 1) ≡ registers_block r → IsQuiet r n
@@ -60,7 +60,7 @@ rest-settled r cuts n i up whole =
       up = up;
       empty = refl;
       lands_whole = whole;
-      in_hand = (i.quiet up).in_hand b (no_more-settled n (r.lines + 1) b (MayLeave-possible (settled n) (r.lines + 1) b (Contains-stands (settled n) (r.lines + 1))));
+      in_hand = (i.quiet up).in_hand b (no_more-settled n (r.lines + 1) b (CrashAt-possible (settled n) (r.lines + 1) b (Contains-stands (settled n) (r.lines + 1))));
     }
 
 -- ---- a move that failed
@@ -70,17 +70,17 @@ pub failed_at_read : (r : Registers) (old new : Device) → IsAtRest r old → H
 failed_at_read r old new rest failed = record {
   down = failed.down;
   elsewhere = λ x b _ _ h. failed.no_more x b h;
-  registers = λ b h. Tells-in_hand r new b rest.whole ((rest-quiet r old rest.empty rest.in_hand).in_hand b (failed.no_more (r.lines + 1) b h));
+  registers = λ b h. IsOfRegisters-in_hand r new b rest.whole ((rest-quiet r old rest.empty rest.in_hand).in_hand b (failed.no_more (r.lines + 1) b h));
 }
 
 -- a move failed at the copy's write or barrier
 pub failed_at_copy : (r : Registers) (old new : Device) (c : Block) → IsAtRest r old → HasFailedToWrite r.gap c old new → HasFailedToMove r old new
 failed_at_copy r old new c rest failed = record {
   down = failed.down;
-  elsewhere = λ x b not_gap _ h. MayLeave-elsewhere old r.gap c x b not_gap (failed.no_more x b h);
-  registers = λ b h. Tells-in_hand r new b rest.whole
+  elsewhere = λ x b not_gap _ h. CrashAt-elsewhere old r.gap c x b not_gap (failed.no_more x b h);
+  registers = λ b h. IsOfRegisters-in_hand r new b rest.whole
       ((rest-quiet r old rest.empty rest.in_hand).in_hand b
-      (MayLeave-elsewhere old r.gap c (r.lines + 1) b (λ e. omega (arith, e, rest.whole.gap)) (failed.no_more (r.lines + 1) b h)));
+      (CrashAt-elsewhere old r.gap c (r.lines + 1) b (λ e. omega (arith, e, rest.whole.gap)) (failed.no_more (r.lines + 1) b h)));
 }
 
 -- at the write or the barrier of the registers: the line was copied before
@@ -90,20 +90,20 @@ failed_at_registers r old mid new c rest is e failed =
     let w = rest.whole in
     let s = source-within r w in
     -- elsewhere the copy left what was there
-    let held : (x : ℕ) (b : Block) → x ≢ r.gap → MayLeave mid x b → MayLeave old x b =
+    let held : (x : ℕ) (b : Block) → x ≢ r.gap → CrashAt mid x b → CrashAt old x b =
     λ x b not_gap h.
     no_more-written_to_other old r.gap c x b not_gap
-    (no_more-settled (written_to old r.gap c) x b (subst (λ (n : Device). MayLeave n x b) e h)) in
-    let before : (x : ℕ) (b : Block) → x ≢ r.gap → x ≢ r.lines + 1 → MayLeave new x b → MayLeave old x b =
+    (no_more-settled (written_to old r.gap c) x b (subst (λ (n : Device). CrashAt n x b) e h)) in
+    let before : (x : ℕ) (b : Block) → x ≢ r.gap → x ≢ r.lines + 1 → CrashAt new x b → CrashAt old x b =
     λ x b not_gap not_registers h.
-    held x b not_gap (MayLeave-elsewhere mid (r.lines + 1) (registers_block (moved r)) x b not_registers (failed.no_more x b h)) in
-    let at_gap : (b : Block) → MayLeave new r.gap b → b ≡ c =
+    held x b not_gap (CrashAt-elsewhere mid (r.lines + 1) (registers_block (moved r)) x b not_registers (failed.no_more x b h)) in
+    let at_gap : (b : Block) → CrashAt new r.gap b → b ≡ c =
     λ b h.
-    let copied : MayLeave mid r.gap b =
-    MayLeave-elsewhere mid (r.lines + 1) (registers_block (moved r)) r.gap b (λ same. omega (arith, same, w.gap)) (failed.no_more r.gap b h) in
-    sym (rest-possible (put_down r.gap c old) r.gap b refl (subst (λ (n : Device). MayLeave n r.gap b) e copied))
+    let copied : CrashAt mid r.gap b =
+    CrashAt-elsewhere mid (r.lines + 1) (registers_block (moved r)) r.gap b (λ same. omega (arith, same, w.gap)) (failed.no_more r.gap b h) in
+    sym (rest-possible (put_down r.gap c old) r.gap b refl (subst (λ (n : Device). CrashAt n r.gap b) e copied))
     ∙ put_down-here old r.gap c (omega (arith, w.gap, rest.blocks)) in
-    let at_source : (b : Block) → MayLeave new (source r) b → b ≡ c =
+    let at_source : (b : Block) → CrashAt new (source r) b → b ≡ c =
     λ b h.
     sym (rest-possible old (source r) b rest.empty (before (source r) b s.1 (λ x. omega (arith, x, s.0)) h))
     ∙ sym (newest-empty old (source r) rest.empty) ∙ sym is in
@@ -115,11 +115,11 @@ failed_at_registers r old mid new c rest is e failed =
       elsewhere = before;
       registers = λ b h.
           elim (possible-with_queued mid (r.lines + 1) (registers_block (moved r)) (r.lines + 1) b ((failed.no_more (r.lines + 1) b h).whole whole))
-          as (λ _. Tells r new b) [
-            | inl was ↦ Tells-in_hand r new b w
+          as (λ _. IsOfRegisters r new b) [
+            | inl was ↦ IsOfRegisters-in_hand r new b w
                 ((rest-quiet r old rest.empty rest.in_hand).in_hand b
-                (held (r.lines + 1) b (λ x. omega (arith, x, w.gap)) (MayLeave-possible mid (r.lines + 1) b was)))
-            | inr here ↦ Tells-moved r new b w here.1 copied
+                (held (r.lines + 1) b (λ x. omega (arith, x, w.gap)) (CrashAt-possible mid (r.lines + 1) b was)))
+            | inr here ↦ IsOfRegisters-moved r new b w here.1 copied
           ];
     }
 
@@ -179,7 +179,7 @@ IsLevelled-moved r cuts n rest i =
     record {
       whole = whole-moved r i.whole;
       blocks = length-line_moved r n ∙ i.blocks;
-      registers = λ b h. Tells-in_hand (moved r) (line_moved r n) b (whole-moved r i.whole) (q.in_hand b h);
+      registers = λ b h. IsOfRegisters-in_hand (moved r) (line_moved r n) b (whole-moved r i.whole) (q.in_hand b h);
       quiet = λ _. q;
       left = i.left;
       cuts_are = i.cuts_are;

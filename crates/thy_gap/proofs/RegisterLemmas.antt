@@ -2,12 +2,12 @@
 use Rattle.std.proofs.Common.{◌≡◌, ◌⊎◌, ℕ, [], ◌∷◌, sym, ◌∙◌, ap, inl, inr, arith}
 use Rattle.std.proofs.lemmas.Bool.{cases_eq}
 use Rattle.thy_block.specs.declared.block.Block.{Block}
-use Rattle.thy_block.specs.Device.{Device, MayLeave}
+use Rattle.thy_block.specs.Device.{Device, CrashAt}
 use Rattle.thy_block.specs.Words.{word_of}
 use Rattle.thy_block.proofs.WordLemmas.{word_of-block_of}
 use Rattle.thy_gap.specs.declared.registers.Registers.{Registers}
 use Rattle.thy_gap.specs.Lines.{IsWhole, source, moved, gap_magic, registers_block, registers_of}
-use Rattle.thy_gap.specs.Levelled.{IsCopied, Tells}
+use Rattle.thy_gap.specs.Levelled.{IsCopied, IsOfRegisters}
 use Rattle.thy_gap.proofs.LineLemmas.{source-within, whole-moved}
 
 pub start-in_block : (r : Registers) → IsWhole r → word_of (registers_block r) 1 ≡ r.start
@@ -23,8 +23,8 @@ registers_of-block r n w e =
     ∙ ap (λ s. let q : Registers = record { lines = r.lines; start = s; gap = word_of (registers_block r) 2 } in q) (start-in_block r w)
     ∙ ap (λ y. let q : Registers = record { lines = r.lines; start = r.start; gap = y } in q) (gap-in_block r w)
 
-pub Tells-in_hand : (r : Registers) (n : Device) (b : Block) → IsWhole r → b ≡ registers_block r → Tells r n b
-Tells-in_hand r n b w e =
+pub IsOfRegisters-in_hand : (r : Registers) (n : Device) (b : Block) → IsWhole r → b ≡ registers_block r → IsOfRegisters r n b
+IsOfRegisters-in_hand r n b w e =
     let here : word_of b 2 ≡ r.gap = ap (λ (x : Block). word_of x 2) e ∙ gap-in_block r w in
     record {
       in_hand = λ _. e;
@@ -32,8 +32,8 @@ Tells-in_hand r n b w e =
       copied = λ other. absurd (other here);
     }
 
-pub Tells-moved : (r : Registers) (n : Device) (b : Block) → IsWhole r → b ≡ registers_block (moved r) → IsCopied r n → Tells r n b
-Tells-moved r n b w e copied =
+pub IsOfRegisters-moved : (r : Registers) (n : Device) (b : Block) → IsWhole r → b ≡ registers_block (moved r) → IsCopied r n → IsOfRegisters r n b
+IsOfRegisters-moved r n b w e copied =
     let there : word_of b 2 ≡ source r = ap (λ (x : Block). word_of x 2) e ∙ gap-in_block (moved r) (whole-moved r w) in
     record {
       in_hand = λ here. absurd ((source-within r w).1 (sym there ∙ here));
@@ -42,15 +42,15 @@ Tells-moved r n b w e copied =
     }
 
 -- what a block of registers says: the registers in hand, or the next ones
-pub Tells-cases : (r : Registers) (n : Device) (b : Block) → Tells r n b → (b ≡ registers_block r) ⊎ ((b ≡ registers_block (moved r)) × IsCopied r n)
-Tells-cases r n b t = elim (cases_eq (word_of b 2) r.gap) as (λ _. (b ≡ registers_block r) ⊎ ((b ≡ registers_block (moved r)) × IsCopied r n)) [
+pub IsOfRegisters-cases : (r : Registers) (n : Device) (b : Block) → IsOfRegisters r n b → (b ≡ registers_block r) ⊎ ((b ≡ registers_block (moved r)) × IsCopied r n)
+IsOfRegisters-cases r n b t = elim (cases_eq (word_of b 2) r.gap) as (λ _. (b ≡ registers_block r) ⊎ ((b ≡ registers_block (moved r)) × IsCopied r n)) [
   | inl e ↦ inl (t.in_hand e)
   | inr ne ↦ inr (t.moved_on ne, t.copied ne)
 ]
 
 -- what is copied stays so if no more is possible at gap and source
 pub IsCopied-no_more : (r : Registers) (old new : Device) → IsCopied r old
-    → ((b : Block) → MayLeave new r.gap b → MayLeave old r.gap b)
-    → ((b : Block) → MayLeave new (source r) b → MayLeave old (source r) b)
+    → ((b : Block) → CrashAt new r.gap b → CrashAt old r.gap b)
+    → ((b : Block) → CrashAt new (source r) b → CrashAt old (source r) b)
     → IsCopied r new
 IsCopied-no_more r old new c at_gap at_source = record { same = λ b d hb hd. c.same b d (at_gap b hb) (at_source d hd) }

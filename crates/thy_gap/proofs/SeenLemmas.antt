@@ -8,8 +8,8 @@ use Rattle.std.proofs.lemmas.List.Elements.{All-head, All-tail, Contains-push}
 use Rattle.std.proofs.lemmas.Option.{none-some}
 use Rattle.thy_block.specs.declared.block.Block.{Block}
 use Rattle.thy_block.specs.declared.nvm.Write.{Write}
-use Rattle.thy_block.specs.Device.{Device, IsLeftOf, MayLeave, zero_block, write_of, block_at, queued_for, newest_over, applied, possible, newest, landed, settled, surplus, with_queued, written_to, HoldsNoMore}
-use Rattle.thy_block.proofs.DeviceLemmas.{same_as_only, MayLeave-possible, MayLeave-only, block_at-set, queued_for-append, newest_over-append, applied-append}
+use Rattle.thy_block.specs.Device.{Device, IsCrashOf, CrashAt, zero_block, write_of, block_at, queued_for, newest_over, applied, possible, newest, landed, settled, surplus, with_queued, written_to, HoldsNoMore}
+use Rattle.thy_block.proofs.DeviceLemmas.{same_as_only, CrashAt-possible, CrashAt-only, block_at-set, queued_for-append, newest_over-append, applied-append}
 use Rattle.thy_gap.specs.declared.registers.Registers.{Registers}
 use Rattle.thy_gap.specs.Lines.{IsWhole, place, line_at}
 use Rattle.thy_gap.specs.Seen.{unmap, write_to, unmap_queue, seen}
@@ -36,7 +36,7 @@ unmap-is r g h same each =
 
 -- ---- writes
 
--- a place is a line's place exactly where its line is that one
+-- a place is a line's place exactly if its line is that one
 tests : (r : Registers) (at z x : ℕ) → IsWhole r → z < r.lines → x < r.lines → place r z ≡ at → (at == place r x) ≡ (z == x)
 tests r at z x w lz lx e = elim (cases_eq z x) as (λ _. (at == place r x) ≡ (z == x)) [
   | inl same ↦ eq-eqb at (place r x) (sym e ∙ ap (place r) same) ∙ sym (eq-eqb z x same)
@@ -184,25 +184,25 @@ newest-seen r n x w l =
     ∙ newest_over-unmap r n.queue (block_at n.image (place r x)) x w l
 
 -- past the lines zeros are left, and nothing else
-pub left_past : (r : Registers) (n : Device) (x : ℕ) (b : Block) → IsWhole r → r.lines ≤ x → MayLeave (seen r n) x b → b ≡ zero_block
+pub left_past : (r : Registers) (n : Device) (x : ℕ) (b : Block) → IsWhole r → r.lines ≤ x → CrashAt (seen r n) x b → b ≡ zero_block
 left_past r n x b w l left =
-    MayLeave-only (seen r n) x zero_block b
+    CrashAt-only (seen r n) x zero_block b
     (λ d h. sym (same_as_only zero_block d (subst (λ (q : List Block). Contains q d) (possible-seen_past r n x w l) h)))
     left
 
-pub zero_left : (r : Registers) (n : Device) (x : ℕ) → IsWhole r → r.lines ≤ x → MayLeave (seen r n) x zero_block
+pub zero_left : (r : Registers) (n : Device) (x : ℕ) → IsWhole r → r.lines ≤ x → CrashAt (seen r n) x zero_block
 zero_left r n x w l =
-    MayLeave-possible (seen r n) x zero_block (subst (λ (q : List Block). Contains q zero_block) (sym (possible-seen_past r n x w l)) (Contains-push [] zero_block))
+    CrashAt-possible (seen r n) x zero_block (subst (λ (q : List Block). Contains q zero_block) (sym (possible-seen_past r n x w l)) (Contains-push [] zero_block))
 
 -- if no line may hold more in the inner device, none may hold more through the registers
 pub no_more-seen : (r : Registers) (old new : Device) → IsWhole r
-    → ((x : ℕ) (b : Block) → x < r.lines → MayLeave new (place r x) b → MayLeave old (place r x) b)
+    → ((x : ℕ) (b : Block) → x < r.lines → CrashAt new (place r x) b → CrashAt old (place r x) b)
     → HoldsNoMore (seen r old) (seen r new)
-no_more-seen r old new w no_more x b h = elim (cases_lt x r.lines) as (λ _. MayLeave (seen r old) x b) [
+no_more-seen r old new w no_more x b h = elim (cases_lt x r.lines) as (λ _. CrashAt (seen r old) x b) [
   | inl l ↦
-      subst (λ (q : List Block). IsLeftOf old.whole q b) (sym (possible-seen r old x w l))
-      (no_more x b l (subst (λ (q : List Block). IsLeftOf new.whole q b) (possible-seen r new x w l) h))
-  | inr l ↦ subst (MayLeave (seen r old) x) (sym (left_past r new x b w l h)) (zero_left r old x w l)
+      subst (λ (q : List Block). IsCrashOf old.whole q b) (sym (possible-seen r old x w l))
+      (no_more x b l (subst (λ (q : List Block). IsCrashOf new.whole q b) (possible-seen r new x w l) h))
+  | inr l ↦ subst (CrashAt (seen r old) x) (sym (left_past r new x b w l h)) (zero_left r old x w l)
 ]
 
 -- ---- calls on lines

@@ -9,13 +9,13 @@ use Rattle.thy_block.specs.declared.nvm.Write.{Write}
 use Rattle.thy_block.specs.declared.nvm.FitError.{FitError}
 use Rattle.thy_block.specs.declared.nvm.FitError.TheVariants.{Failed, Memory}
 use Rattle.thy_block.specs.Counts.{next}
-use Rattle.thy_block.specs.Device.{Device, IsCut, IsFramed, MayLeave, HasFailed, HasFailedToWrite, HasFailedToFit, zero_block, block_at, queued_for, applied, possible, newest, drained, settled, written_to, fitted}
+use Rattle.thy_block.specs.Device.{Device, IsCut, IsFramed, CrashAt, HasFailed, HasFailedToWrite, HasFailedToFit, zero_block, block_at, queued_for, applied, possible, newest, drained, settled, written_to, fitted}
 use Rattle.thy_block.specs.declared.nvm.Shape.{Shape}
-use Rattle.thy_block.proofs.DeviceLemmas.{same_as_only, MayLeave-possible, MayLeave-only, no_more-settled}
+use Rattle.thy_block.proofs.DeviceLemmas.{same_as_only, CrashAt-possible, CrashAt-only, no_more-settled}
 use Rattle.thy_gap.specs.declared.registers.Registers.{Registers}
 use Rattle.thy_gap.specs.Lines.{IsWhole, place, line_at, no_lines, moved, unmoved, registers_of, registers_in}
 use Rattle.thy_gap.specs.Seen.{write_to, unmap_queue, unmapped, seen}
-use Rattle.thy_gap.specs.Levelled.{IsLevelled, IsLeft, IsQuiet, IsSoundGap, is_due, inner_shape, first_image}
+use Rattle.thy_gap.specs.Levelled.{IsLevelled, HasRegisters, IsQuiet, IsSoundGap, is_due, inner_shape, first_image}
 use Rattle.thy_gap.specs.Moving.{line_moved}
 use Rattle.thy_gap.specs.Failing.{IsAtRest, HasFailedToMove}
 use Rattle.thy_gap.proofs.LineLemmas.{place-within, line_at-gap, line_at-past}
@@ -57,10 +57,10 @@ HasFailed-none old new failed = record {
   down = failed.down;
   no_more = λ x b h.
       let zero : b ≡ zero_block =
-      MayLeave-only (seen no_lines new) x zero_block b
+      CrashAt-only (seen no_lines new) x zero_block b
       (λ d k. sym (same_as_only zero_block d (subst (λ (q : List Block). Contains q d) (possible-none new x) k))) h in
-      subst (MayLeave (seen no_lines old) x) (sym zero)
-      (MayLeave-possible (seen no_lines old) x zero_block
+      subst (CrashAt (seen no_lines old) x) (sym zero)
+      (CrashAt-possible (seen no_lines old) x zero_block
       (subst (λ (q : List Block). Contains q zero_block) (sym (possible-none old x)) (Contains-push [] zero_block)));
 }
 
@@ -83,7 +83,7 @@ module _ {every since cuts : ℕ} {r : Registers} {n : Device} (i : IsSoundGap e
   pub place_inside : (x : ℕ) → x < r.lines → place r x < length n.image
   place_inside x l = let d = levelled_at x l in omega (arith, place-within r x d.whole l, d.blocks)
 
-  -- a levelled device stays sound where it stays levelled
+  -- a levelled device stays sound if it stays levelled
   pub sound_still : (new : Device) → (IsLevelled r cuts n → IsLevelled r cuts new) → IsSoundGap every r since cuts new
   sound_still new still = record { some = i.some; fitted = λ l. still (i.fitted l); no_registers = i.no_registers; no_writes = i.no_writes }
 
@@ -200,7 +200,7 @@ module _ {every since cuts : ℕ} {r : Registers} {n : Device} (i : IsSoundGap e
       let same : seen r m ≡ settled (seen r n) = ap (seen r) e ∙ barrier_seen in
       record {
         down = after.down;
-        no_more = λ x b h. no_more-settled (seen r n) x b (subst (λ (d : Device). MayLeave d x b) same (after.no_more x b h));
+        no_more = λ x b h. no_more-settled (seen r n) x b (subst (λ (d : Device). CrashAt d x b) same (after.no_more x b h));
       }
 
   -- ---- cuts
@@ -252,7 +252,7 @@ module _ {every since cuts : ℕ} {r : Registers} {n : Device} (i : IsSoundGap e
     pub kept_in : k < length n.left
     kept_in = omega (arith, image_in, ap length left_seen, length-map n.left unmapped)
 
-    kept_left : IsLeft r.lines (slice_index_or n.left k [])
+    kept_left : HasRegisters r.lines (slice_index_or n.left k [])
     kept_left = (levelled_at x line_in).left k [] kept_in
 
     kept_are : s ≡ registers_in (slice_index_or n.left k [])

@@ -1,10 +1,10 @@
 -- Before and after a move that fails.
 use Rattle.std.specs.Prelude.{◌≡◌, ◌≢◌, ℕ, ◌+◌, true, false, [], length}
 use Rattle.thy_block.specs.declared.block.Block.{Block}
-use Rattle.thy_block.specs.Device.{Device, MayLeave, block_at}
+use Rattle.thy_block.specs.Device.{Device, CrashAt, block_at}
 use Rattle.thy_gap.specs.declared.registers.Registers.{Registers}
 use Rattle.thy_gap.specs.Lines.{IsWhole, registers_block}
-use Rattle.thy_gap.specs.Levelled.{Tells}
+use Rattle.thy_gap.specs.Levelled.{IsOfRegisters}
 
 -- a device after a barrier, with the registers in hand, whose blocks land whole
 pub record IsAtRest (r : Registers) (n : Device) : Type 0 where
@@ -20,5 +20,5 @@ pub record IsAtRest (r : Registers) (n : Device) : Type 0 where
 pub record HasFailedToMove (r : Registers) (old new : Device) : Type 0 where
   pub down : new.down ≡ true
   pub elsewhere : (x : ℕ) (b : Block) → x ≢ r.gap → x ≢ r.lines + 1
-      → MayLeave new x b → MayLeave old x b
-  pub registers : (b : Block) → MayLeave new (r.lines + 1) b → Tells r new b
+      → CrashAt new x b → CrashAt old x b
+  pub registers : (b : Block) → CrashAt new (r.lines + 1) b → IsOfRegisters r new b

@@ -3,7 +3,7 @@ use Rattle.std.specs.Prelude.{◌≡◌, ◌≢◌, ℕ, ◌+◌, ◌-◌, ◌<�
 use Rattle.thy_block.specs.declared.block.Block.{Block}
 use Rattle.thy_block.specs.declared.nvm.Shape.{Shape}
 use Rattle.thy_block.specs.declared.nvm.Write.{Write}
-use Rattle.thy_block.specs.Device.{Device, MayLeave, zero_block, settled, fitted}
+use Rattle.thy_block.specs.Device.{Device, CrashAt, zero_block, settled, fitted}
 use Rattle.thy_block.specs.Words.{word_of}
 use Rattle.thy_gap.specs.declared.registers.Registers.{Registers}
 use Rattle.thy_gap.specs.Lines.{IsWhole, line_at, source, moved, no_lines, unmoved, registers_block, registers_in}
@@ -91,10 +91,10 @@ HasCut image old new = new ≡ record old {
 
 -- gap and source can hold one block only, the same
 pub record IsCopied (r : Registers) (n : Device) : Type 0 where
-  pub same : (b c : Block) → MayLeave n r.gap b → MayLeave n (source r) c → b ≡ c
+  pub same : (b c : Block) → CrashAt n r.gap b → CrashAt n (source r) c → b ≡ c
 
 -- a block of the registers is of those in hand, or of those after the next move, and then its line was copied
-pub record Tells (r : Registers) (n : Device) (b : Block) : Type 0 where
+pub record IsOfRegisters (r : Registers) (n : Device) (b : Block) : Type 0 where
   pub in_hand : word_of b 2 ≡ r.gap → b ≡ registers_block r
   pub moved_on : word_of b 2 ≢ r.gap → b ≡ registers_block (moved r)
   pub copied : word_of b 2 ≢ r.gap → IsCopied r n
@@ -102,10 +102,10 @@ pub record Tells (r : Registers) (n : Device) (b : Block) : Type 0 where
 -- the writes queued are of lines, and a cut leaves the registers in hand
 pub record IsQuiet (r : Registers) (n : Device) : Type 0 where
   pub lines : All (λ (w : Write). is_some (line_at r w.at) ≡ true) n.queue
-  pub in_hand : (b : Block) → MayLeave n (r.lines + 1) b → b ≡ registers_block r
+  pub in_hand : (b : Block) → CrashAt n (r.lines + 1) b → b ≡ registers_block r
 
 -- an image that a cut left, with registers in range
-pub record IsLeft (lines : ℕ) (g : List Block) : Type 0 where
+pub record HasRegisters (lines : ℕ) (g : List Block) : Type 0 where
   pub blocks : length g ≡ lines + 2
   pub whole : IsWhole (registers_in g)
 
@@ -113,9 +113,9 @@ pub record IsLeft (lines : ℕ) (g : List Block) : Type 0 where
 pub record IsLevelled (r : Registers) (cuts : ℕ) (n : Device) : Type 0 where
   pub whole : IsWhole r
   pub blocks : length n.image ≡ r.lines + 2
-  pub registers : (b : Block) → MayLeave n (r.lines + 1) b → Tells r n b
+  pub registers : (b : Block) → CrashAt n (r.lines + 1) b → IsOfRegisters r n b
   pub quiet : n.down ≡ false → IsQuiet r n
-  pub left : All (IsLeft r.lines) n.left
+  pub left : All (HasRegisters r.lines) n.left
   pub cuts_are : length n.left ≡ cuts
   pub room : n.left_room ≤ 2 ^ 64 - 1
 

@@ -77,7 +77,7 @@ impl<N: Nvm> Gap<N> {
 
     /// What an inner image means by its own registers is the device of lines, also after a call that failed. This holds
     /// of the current image, of each that a cut may leave, and of each that was kept.
-    pub fn means_what_is_seen(&self)
+    pub fn recall_meaning(&self)
         ensures image { ImageMeansSeen (N.device self.now.inner) (shown N.device self.now) }
         ensures crash { CrashMeansSeen (N.device self.now.inner) (shown N.device self.now) }
         ensures left { LeftMeansSeen (N.device self.now.inner) (shown N.device self.now) }

@@ -1,4 +1,4 @@
--- The steps of the hart follow those of the plain machine.
+-- The steps of the hart follow the steps of the plain machine.
 use Rattle.std.proofs.Common.{◌≡◌, ℕ, true, false, List, sym, ◌∙◌, ap, subst}
 use Rattle.thy_block.specs.declared.block.Block.{Block}
 use Rattle.thy_block.specs.declared.cause.EndCause.{EndCause}

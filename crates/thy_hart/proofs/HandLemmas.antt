@@ -19,9 +19,9 @@ use Rattle.thy_isa.specs.Moves.{moves_of, brings, outgoing_len}
 use Rattle.thy_isa.specs.OnBlocks.{calls_in}
 use Rattle.thy_isa.proofs.MoveLaws.{moves_of-spans, moves_of-enough}
 use Rattle.thy_hart.specs.declared.hand.Hand.{Hand}
-use Rattle.thy_hart.specs.declared.hand.Hand.TheVariants.{Nothing, Reading, Reserving, Writing, Retiring}
-use Rattle.thy_hart.specs.HartState.{HartState, blocks_of, reserved, read_len, IsReading, IsWriting, IsInHand, IsSoundHart}
-use Rattle.thy_hart.specs.Outcomes.{begun, begun_with, written_on, room_reserved}
+use Rattle.thy_hart.specs.declared.hand.Hand.TheVariants.{Nothing, Reading, Securing, Writing, Retiring}
+use Rattle.thy_hart.specs.HartState.{HartState, blocks_of, secured, read_len, IsReading, IsWriting, IsInHand, IsSoundHart}
+use Rattle.thy_hart.specs.Outcomes.{begun, begun_with, written_on, room_secured}
 
 -- ---- choices
 
@@ -30,13 +30,13 @@ if_hand P true x y p q = p refl
 if_hand P false x y p q = q refl
 
 -- a fact of what an effect does that begins or continues
-pub begun_by : (P : Hand → Type 0) (e : Effect) (from to : Span) → (0 < from.len → P (Reading e from to)) → (from.len ≡ 0 → 0 < to.len → P (Reserving e to))
+pub begun_by : (P : Hand → Type 0) (e : Effect) (from to : Span) → (0 < from.len → P (Reading e from to)) → (from.len ≡ 0 → 0 < to.len → P (Securing e to))
     → (from.len ≡ 0 → to.len ≡ 0 → P (Retiring e false)) → P (begun e from to)
 unfolding begun
 begun_by P e from to reads writes ends =
-    if_hand P (from.len == 0) (if to.len == 0 then Retiring e false else Reserving e to) (Reading e from to)
+    if_hand P (from.len == 0) (if to.len == 0 then Retiring e false else Securing e to) (Reading e from to)
     (λ none.
-    if_hand P (to.len == 0) (Retiring e false) (Reserving e to)
+    if_hand P (to.len == 0) (Retiring e false) (Securing e to)
     (λ end. ends (eqb-true from.len 0 none) (eqb-true to.len 0 end))
     (λ some. writes (eqb-true from.len 0 none) (not_zero to.len some)))
     (λ some. reads (not_zero from.len some))
@@ -86,13 +86,13 @@ blocks_of-rest s h = blocks_of-one (rest_of s) (rest_of-rest s h)
 
 -- ---- what is in hand is sound
 
-pub begun-unreserved : (e : Effect) (from to : Span) → reserved (begun e from to) ≡ 0
-begun-unreserved e from to = begun_by (λ hand. reserved hand ≡ 0) e from to (λ _. refl) (λ _ _. refl) (λ _ _. refl)
+pub begun-unsecured : (e : Effect) (from to : Span) → secured (begun e from to) ≡ 0
+begun-unsecured e from to = begun_by (λ hand. secured hand ≡ 0) e from to (λ _. refl) (λ _ _. refl) (λ _ _. refl)
 
--- one block less is reserved after a written block
-pub written_on-reserved : (e : Effect) (to : Span) (done : ℕ) → to.len ≤ 64 → reserved (written_on e (rest_of to) done) + 1 ≤ blocks_of to
-written_on-reserved e to done short =
-    written_by (λ hand. reserved hand + 1 ≤ blocks_of to) e (rest_of to) done
+-- one block less is secured after a written block
+pub written_on-secured : (e : Effect) (to : Span) (done : ℕ) → to.len ≤ 64 → secured (written_on e (rest_of to) done) + 1 ≤ blocks_of to
+written_on-secured e to done short =
+    written_by (λ hand. secured hand + 1 ≤ blocks_of to) e (rest_of to) done
     (λ some. omega (arith, blocks_of-two to some, blocks_of-rest to short))
     (λ end. omega (arith, blocks_of-one to end))
 
@@ -180,11 +180,11 @@ if_hart_state : (P : HartState → Type 0) (b : Bool) (x y : HartState) → P x 
 if_hart_state P true x y p q = p
 if_hart_state P false x y p q = q
 
--- the hart is sound after a reservation, whatever comes of it
-pub room_reserved-sound : (free dirty : ℕ) (under_way : Bool) (e : Effect) (to : Span) (old new : HartState) → IsSoundHart old → IsWriting old.geometry e to 0 (length old.bytes)
-    → new ≡ room_reserved free under_way dirty e to old → IsSoundHart new
-unfolding room_reserved
-room_reserved-sound free dirty under_way e to old new s h is =
+-- the hart is sound after it secured room, or found none
+pub room_secured-sound : (free dirty : ℕ) (under_way : Bool) (e : Effect) (to : Span) (old new : HartState) → IsSoundHart old → IsWriting old.geometry e to 0 (length old.bytes)
+    → new ≡ room_secured free under_way dirty e to old → IsSoundHart new
+unfolding room_secured
+room_secured-sound free dirty under_way e to old new s h is =
     subst IsSoundHart (sym is)
     (if_hart_state IsSoundHart (nat_lt free (dirty + blocks_of to)) _ _
     (if_hart_state IsSoundHart under_way old _ s (record { range = s.range; in_hand = refl }))
@@ -202,10 +202,10 @@ begun_with-sound input e old r inside =
       in_hand = fetch-sound old.geometry input old.cpu e calls (brings input old.cpu.regs calls e) moves (begun e moves.from moves.to) r inside refl refl refl refl;
     }
 
-pub begun_with-unreserved : (input : List ℕ) (e : Effect) (old : HartState) → reserved (begun_with input e old).hand ≡ 0
-begun_with-unreserved input e old =
+pub begun_with-unsecured : (input : List ℕ) (e : Effect) (old : HartState) → secured (begun_with input e old).hand ≡ 0
+begun_with-unsecured input e old =
     let moves = moves_of old.cpu.regs (calls_in old.geometry old.cpu (length input)) e in
-    begun-unreserved e moves.from moves.to
+    begun-unsecured e moves.from moves.to
 
 pub begun-some : (e : Effect) (from to : Span) → begun e from to ≡ Nothing → ⊥
 begun-some e from to = begun_by (λ hand. hand ≡ Nothing → ⊥) e from to (λ _ h. cc h) (λ _ _ h. cc h) (λ _ _ h. cc h)

@@ -20,7 +20,7 @@ use Rattle.thy_isa.specs.Moves.{moves_of, brings, number_in}
 use Rattle.thy_isa.specs.Regs.{regs_with}
 use Rattle.thy_isa.specs.Step.{finished}
 use Rattle.thy_hart.specs.declared.hand.Hand.{Hand}
-use Rattle.thy_hart.specs.declared.hand.Hand.TheVariants.{Reading, Reserving, Retiring}
+use Rattle.thy_hart.specs.declared.hand.Hand.TheVariants.{Reading, Securing, Retiring}
 use Rattle.thy_hart.specs.declared.in_hand.Stage.TheVariants.{Loads}
 use Rattle.thy_hart.specs.declared.micro_steps.HartParts.{HartParts}
 use Rattle.thy_hart.specs.HartState.{HartState}
@@ -39,7 +39,7 @@ begun-load e at Half = refl
 begun-load e at Word = refl
 begun-load e at Double = refl
 
-pub begun-store : (e : Effect) (at : ℕ) (w : Width) → begun e (span 0 0) (span at (size_of w)) ≡ Reserving e (span at (size_of w))
+pub begun-store : (e : Effect) (at : ℕ) (w : Width) → begun e (span 0 0) (span at (size_of w)) ≡ Securing e (span at (size_of w))
 unfolding begun
 begun-store e at Byte = refl
 begun-store e at Half = refl
@@ -56,10 +56,10 @@ begun_with-load input old rd w x pc at a is =
     ∙ ap (λ (hand : Hand). record old { hand = hand; bytes = [] }) (sym (begun-load (Read rd w x pc at) (at - old.geometry.base) w))
 
 pub begun_with-store : (input : List ℕ) (old : HartState) (w : Width) (pc at v : ℕ) (a : ℕ × Width) → a ≡ (at - old.geometry.base, w)
-    → record old { hand = Reserving (Write a.1 pc at v) (span_of a); bytes = number_bytes (size_of a.1) v } ≡ begun_with input (Write w pc at v) old
+    → record old { hand = Securing (Write a.1 pc at v) (span_of a); bytes = number_bytes (size_of a.1) v } ≡ begun_with input (Write w pc at v) old
 unfolding moves_of brings
 begun_with-store input old w pc at v a is =
-    ap (λ (b : ℕ × Width). record old { hand = Reserving (Write b.1 pc at v) (span_of b); bytes = number_bytes (size_of b.1) v }) is
+    ap (λ (b : ℕ × Width). record old { hand = Securing (Write b.1 pc at v) (span_of b); bytes = number_bytes (size_of b.1) v }) is
     ∙ ap (λ (hand : Hand). record old { hand = hand; bytes = number_bytes (size_of w) v }) (sym (begun-store (Write w pc at v) (at - old.geometry.base) w))
 
 -- ---- a load that is read

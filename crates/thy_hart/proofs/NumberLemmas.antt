@@ -12,7 +12,7 @@ use Rattle.thy_isa.specs.Effects.{size_of}
 use Rattle.thy_isa.specs.Extending.{extended}
 use Rattle.thy_isa.specs.Words.{sign_extended}
 
--- ---- the bytes of a number from its second on are those of the number without its first
+-- ---- the bytes of a number from its second on are the bytes of the number without its first
 
 byte_on : (j v : ℕ) → byte_at (suc j) v ≡ byte_at j (v / 256)
 byte_on zero v = refl

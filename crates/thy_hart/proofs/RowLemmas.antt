@@ -9,13 +9,13 @@ use Rattle.thy_block.specs.Store.{Holding}
 use Rattle.thy_cache.specs.Contents.{Contents, dirty_count}
 use Rattle.thy_cache.specs.Flat.{flat}
 use Rattle.thy_hart.specs.declared.hand.Hand.{Hand}
-use Rattle.thy_hart.specs.declared.hand.Hand.TheVariants.{Nothing, Reading, Reserving, Writing, Retiring}
+use Rattle.thy_hart.specs.declared.hand.Hand.TheVariants.{Nothing, Reading, Securing, Writing, Retiring}
 use Rattle.thy_hart.specs.declared.hand.HartStep.{HartStep}
 use Rattle.thy_hart.specs.declared.hand.HartStep.TheVariants.{Moved, Waiting, Over}
 use Rattle.thy_hart.specs.declared.hand.MicroStep.{MicroStep}
 use Rattle.thy_hart.specs.declared.hand.MicroStep.TheVariants.{Taken}
 use Rattle.thy_hart.specs.HartState.{HartState, IsSoundHart, blocks_of, next_block}
-use Rattle.thy_hart.specs.Outcomes.{Given, fetched, room_reserved, room_answer, over_or_retired, epoch_retired, acted_by, answer_by}
+use Rattle.thy_hart.specs.Outcomes.{Given, fetched, room_secured, room_answer, over_or_retired, epoch_retired, acted_by, answer_by}
 use Rattle.thy_hart.specs.MicroSteps.{IsActed, IsMicroStep, ActsAll}
 use Rattle.thy_hart.specs.Moments.{moment, IsReady}
 use Rattle.thy_hart.specs.OneStep.{IsStep}
@@ -84,10 +84,10 @@ room_by false under_way x y z o h stays = stays
 -- by what is in hand
 stays_by : (g : Given) (dirty : ℕ) (memory : List Block) (old : HartState) (hand : Hand) → Moved ≡ answer_by g dirty old hand
     → Stays old (acted_by g dirty memory old hand)
-unfolding fetched room_reserved room_answer
+unfolding fetched room_secured room_answer
 stays_by g dirty memory old Nothing h = record { cpu = refl; epoch = refl }
 stays_by g dirty memory old (Reading e from to) h = record { cpu = refl; epoch = refl }
-stays_by g dirty memory old (Reserving e to) h =
+stays_by g dirty memory old (Securing e to) h =
     room_by (nat_lt g.free (dirty + blocks_of to)) g.under_way old _ _ _ h (record { cpu = refl; epoch = refl })
 stays_by g dirty memory old (Writing e to done) h = record { cpu = refl; epoch = refl }
 stays_by g dirty memory old (Retiring e wrote) h = absurd (not_retired (epoch_retired g.input e old).over h)

@@ -12,10 +12,10 @@ use Rattle.thy_isa.specs.Step.{fetch_fault}
 use Rattle.thy_block.proofs.BasicLemmas.{some_same}
 use Rattle.thy_block.specs.Spans.{span, first_block}
 use Rattle.thy_hart.specs.declared.hand.Hand.{Hand}
-use Rattle.thy_hart.specs.declared.hand.Hand.TheVariants.{Nothing, Reading, Reserving, Writing, Retiring}
+use Rattle.thy_hart.specs.declared.hand.Hand.TheVariants.{Nothing, Reading, Securing, Writing, Retiring}
 use Rattle.thy_hart.specs.declared.hand.HartStep.{HartStep}
 use Rattle.thy_hart.specs.declared.hand.HartStep.TheVariants.{Moved, Retired, Waiting, Over}
-use Rattle.thy_hart.specs.HartState.{HartState, fetched_block, block_for, next_block, reserved, IsInHand, IsSoundHart}
+use Rattle.thy_hart.specs.HartState.{HartState, fetched_block, block_for, next_block, secured, IsInHand, IsSoundHart}
 use Rattle.thy_hart.specs.Outcomes.{Given, acted_by, answer_by, memory_by}
 use Rattle.thy_hart.specs.Bring.{IsNearer, BringsLine, IsBrought}
 use Rattle.thy_hart.specs.Moments.{Moment, moment, is_missing, IsOpenInTheWay, IsOpenFor, IsReady, touch_left}
@@ -37,7 +37,7 @@ block_for-inside : (p : Parameters) (cpu : CpuState) (hand : Hand) (have b : ℕ
 block_for-inside p cpu Nothing have b w h = fetched_block-inside p cpu b h
 block_for-inside p cpu (Reading e from to) have b w h =
     omega (arith, some_same (first_block from) b h, first_block-inside (memory_blocks p) from w.span_from w.some)
-block_for-inside p cpu (Reserving e to) have b w h = cc h
+block_for-inside p cpu (Securing e to) have b w h = cc h
 block_for-inside p cpu (Writing e to done) have b w h =
     omega (arith, some_same (first_block to) b h, first_block-inside (memory_blocks p) to w.span_to w.some)
 block_for-inside p cpu (Retiring e wrote) have b w h = cc h
@@ -114,7 +114,7 @@ none_opens c None page h = h
 none_opens c (Some b) page h = inl h
 
 pub ready-closed : (m : Moment) → length m.held.blocks ≡ memory_blocks m.hart.geometry → Agrees m.cache m.held.blocks → m.held.ready ≡ true
-    → dirty_count m.cache + reserved m.hart.hand ≤ m.held.free → m.held.open_page ≡ None → IsReady m
+    → dirty_count m.cache + secured m.hart.hand ≤ m.held.free → m.held.open_page ≡ None → IsReady m
 ready-closed m blocks agree ready room none = record {
   blocks = blocks;
   agree = agree;
@@ -167,7 +167,7 @@ IsStep-acted g h k c d held step free s r hit a =
         blocks = r.blocks ∙ ap memory_blocks (sym w.fixed);
         agree = a.agree held.blocks r.agree;
         ready = r.ready;
-        room = let room : dirty_count d + reserved k.hand ≤ g.free = a.room (omega (arith, free, r.room)) in omega (arith, free, room);
+        room = let room : dirty_count d + secured k.hand ≤ g.free = a.room (omega (arith, free, r.room)) in omega (arith, free, room);
         opened = none_opens d (next_block k) held.open_page none;
       };
       owed = omega arith;

@@ -23,11 +23,11 @@ use Rattle.thy_isa.specs.Step.{fetched as unless_trapped, fetch_fault, is_runnin
 use Rattle.thy_isa.proofs.StorableLaws.{finished-room}
 use Rattle.thy_hart.specs.Epoch.{exhausted}
 use Rattle.thy_hart.specs.declared.hand.Hand.{Hand}
-use Rattle.thy_hart.specs.declared.hand.Hand.TheVariants.{Nothing, Reading, Reserving, Writing, Retiring}
+use Rattle.thy_hart.specs.declared.hand.Hand.TheVariants.{Nothing, Reading, Securing, Writing, Retiring}
 use Rattle.thy_hart.specs.declared.hand.HartStep.{HartStep}
 use Rattle.thy_hart.specs.declared.hand.HartStep.TheVariants.{Moved, Retired, Waiting, Over}
-use Rattle.thy_hart.specs.HartState.{HartState, unless_fault, fetched_block, block_for, next_block, blocks_of, reserved, has_written, IsWriting, IsInHand}
-use Rattle.thy_hart.specs.Outcomes.{Given, begun, written_on, fetched, block_read, dropped, room_reserved, room_answer, block_written, epoch_retired, retired, over_or_retired, acted_by, answer_by, memory_by}
+use Rattle.thy_hart.specs.HartState.{HartState, unless_fault, fetched_block, block_for, next_block, blocks_of, secured, has_written, IsWriting, IsInHand}
+use Rattle.thy_hart.specs.Outcomes.{Given, begun, written_on, fetched, block_read, dropped, room_secured, room_answer, block_written, epoch_retired, retired, over_or_retired, acted_by, answer_by, memory_by}
 use Rattle.thy_hart.specs.Moments.{touch_steps, touch_left, left_behind}
 use Rattle.thy_hart.specs.MicroSteps.{HitsNext}
 use Rattle.thy_hart.specs.OneStep.{current, led, coming_by, coming, HasCome, Leads, StaysWritten}
@@ -47,7 +47,7 @@ left_at c h = touch_left c (next_block h) + left_behind h.hand
 pub record IsDone (g : Given) (c d : Contents) (h : HartState) (m : List Block) (new : HartState) (step : HartStep) (now : List Block) : Type 0 where
   pub leads : Leads step g.input h m new now
   pub falls : FallsAt step (left_at c h) (left_at d new)
-  pub unwritten : reserved h.hand ≡ 0 → now ≡ m
+  pub unwritten : secured h.hand ≡ 0 → now ≡ m
   pub clean : has_written new.hand ≡ false → now ≡ m
   pub written : StaysWritten step h.hand new.hand
   pub others : (b : ℕ) → (next_block h ≡ Some b → ⊥) → block_at now b ≡ block_at m b
@@ -207,7 +207,7 @@ module _ (g : Given) (c d : Contents) (h : HartState) (m : List Block) where
       }
 
   room_by : (short under_way : Bool) (e : Effect) (to : Span) (free dirty : ℕ)
-      → let k = with_hand (Reserving e to) h in
+      → let k = with_hand (Securing e to) h in
       IsDone g c d k m (if short then (if under_way then k else dropped (exhausted free dirty (blocks_of to) k.epoch) k) else record k { hand = Writing e to 0 })
       (if short then (if under_way then Waiting else Over (Exhausted free dirty (blocks_of to))) else Moved) m
   unfolding coming
@@ -246,8 +246,8 @@ module _ (g : Given) (c d : Contents) (h : HartState) (m : List Block) where
   }
 
   room-done : (e : Effect) (to : Span) (dirty : ℕ)
-      → IsDone g c d (with_hand (Reserving e to) h) m (room_reserved g.free g.under_way dirty e to (with_hand (Reserving e to) h)) (room_answer g.free g.under_way dirty to) m
-  unfolding room_reserved room_answer
+      → IsDone g c d (with_hand (Securing e to) h) m (room_secured g.free g.under_way dirty e to (with_hand (Securing e to) h)) (room_answer g.free g.under_way dirty to) m
+  unfolding room_secured room_answer
   room-done e to dirty = room_by (nat_lt g.free (dirty + blocks_of to)) g.under_way e to g.free dirty
 
   write-done : (e : Effect) (to : Span) (done : ℕ) → IsWriting h.geometry e to done (length h.bytes) → hits c (first_block to) ≡ true
@@ -303,6 +303,6 @@ module _ (g : Given) (c d : Contents) (h : HartState) (m : List Block) where
       → IsDone g c d (with_hand hand h) m (acted_by g dirty m (with_hand hand h) hand) (answer_by g dirty (with_hand hand h) hand) (memory_by h.bytes m hand)
   done_by dirty Nothing w hit = fetch-done hit
   done_by dirty (Reading e from to) w hit = read-done e from to w.span_from.short hit
-  done_by dirty (Reserving e to) w hit = room-done e to dirty
+  done_by dirty (Securing e to) w hit = room-done e to dirty
   done_by dirty (Writing e to done) w hit = write-done e to done w hit
   done_by dirty (Retiring e wrote) w hit = retire-done e wrote

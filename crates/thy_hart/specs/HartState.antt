@@ -15,7 +15,7 @@ use Rattle.thy_isa.specs.Step.{fetch_fault}
 use Rattle.thy_hart.specs.Epoch.{Epoch}
 use Rattle.thy_hart.specs.Epoch as epochs
 use Rattle.thy_hart.specs.declared.hand.Hand.{Hand}
-use Rattle.thy_hart.specs.declared.hand.Hand.TheVariants.{Nothing, Reading, Reserving, Writing, Retiring}
+use Rattle.thy_hart.specs.declared.hand.Hand.TheVariants.{Nothing, Reading, Securing, Writing, Retiring}
 
 pub record HartState : Type 0 where
   pub geometry : Parameters
@@ -49,7 +49,7 @@ fetched_block p cpu =
 abbrev pub block_for : Parameters → CpuState → Hand → Option ℕ
 block_for p cpu Nothing = fetched_block p cpu
 block_for p cpu (Reading e from to) = Some (first_block from)
-block_for p cpu (Reserving e to) = None
+block_for p cpu (Securing e to) = None
 block_for p cpu (Writing e to done) = Some (first_block to)
 block_for p cpu (Retiring e wrote) = None
 
@@ -59,35 +59,35 @@ next_block h = block_for h.geometry h.cpu h.hand
 
 -- ---- what is kept for the instruction in hand
 
--- how many blocks it has reserved room for and not written yet
-abbrev pub reserved : Hand → ℕ
-reserved Nothing = 0
-reserved (Reading e from to) = 0
-reserved (Reserving e to) = 0
-reserved (Writing e to done) = blocks_of to
-reserved (Retiring e wrote) = 0
+-- how many blocks it has secured room for and not written yet
+abbrev pub secured : Hand → ℕ
+secured Nothing = 0
+secured (Reading e from to) = 0
+secured (Securing e to) = 0
+secured (Writing e to done) = blocks_of to
+secured (Retiring e wrote) = 0
 
--- how many blocks it is to reserve room for next, if it is at that
-abbrev pub to_reserve : Hand → Option ℕ
-to_reserve Nothing = None
-to_reserve (Reading e from to) = None
-to_reserve (Reserving e to) = Some (blocks_of to)
-to_reserve (Writing e to done) = None
-to_reserve (Retiring e wrote) = None
+-- how many blocks it is to secure room for next, if it is at that
+abbrev pub to_secure : Hand → Option ℕ
+to_secure Nothing = None
+to_secure (Reading e from to) = None
+to_secure (Securing e to) = Some (blocks_of to)
+to_secure (Writing e to done) = None
+to_secure (Retiring e wrote) = None
 
--- an instruction has reserved room for the blocks that it writes
-abbrev pub has_reserved : Hand → Bool
-has_reserved Nothing = false
-has_reserved (Reading e from to) = false
-has_reserved (Reserving e to) = false
-has_reserved (Writing e to done) = true
-has_reserved (Retiring e wrote) = wrote
+-- an instruction has secured room for the blocks that it writes
+abbrev pub has_secured : Hand → Bool
+has_secured Nothing = false
+has_secured (Reading e from to) = false
+has_secured (Securing e to) = false
+has_secured (Writing e to done) = true
+has_secured (Retiring e wrote) = wrote
 
 -- an instruction has written a block
 abbrev pub has_written : Hand → Bool
 has_written Nothing = false
 has_written (Reading e from to) = false
-has_written (Reserving e to) = false
+has_written (Securing e to) = false
 has_written (Writing e to done) = if done == 0 then false else true
 has_written (Retiring e wrote) = wrote
 
@@ -123,7 +123,7 @@ pub record IsWriting (p : Parameters) (e : Effect) (to : Span) (done have : ℕ)
 abbrev pub IsInHand : Parameters → Hand → ℕ → Type 0
 IsInHand p Nothing have = have ≡ 0
 IsInHand p (Reading e from to) have = IsReading p e from to have
-IsInHand p (Reserving e to) have = IsWriting p e to 0 have
+IsInHand p (Securing e to) have = IsWriting p e to 0 have
 IsInHand p (Writing e to done) have = IsWriting p e to done have
 IsInHand p (Retiring e wrote) have = read_len e ≤ have
 

@@ -8,9 +8,9 @@ use Rattle.thy_isa.specs.declared.state.Effect.{Effect}
 use Rattle.thy_isa.specs.declared.state.Effect.TheVariants.{Next, Set, Read, Write}
 use Rattle.thy_isa.specs.Effects.{size_of}
 use Rattle.thy_hart.specs.declared.hand.Hand.{Hand}
-use Rattle.thy_hart.specs.declared.hand.Hand.TheVariants.{Nothing, Reading, Reserving, Writing, Retiring}
+use Rattle.thy_hart.specs.declared.hand.Hand.TheVariants.{Nothing, Reading, Securing, Writing, Retiring}
 use Rattle.thy_hart.specs.declared.in_hand.Stage.{Stage}
-use Rattle.thy_hart.specs.declared.in_hand.Stage.TheVariants.{Idle, Jumps, Sets, Loads, Loaded, Reserves, Stores, Stored, InPieces}
+use Rattle.thy_hart.specs.declared.in_hand.Stage.TheVariants.{Idle, Jumps, Sets, Loads, Loaded, Secures, Stores, Stored, InPieces}
 use Rattle.thy_hart.specs.declared.in_hand.InHand.{InHand}
 use Rattle.thy_hart.specs.declared.micro_steps.HartParts.{HartParts}
 use Rattle.thy_hart.specs.HartState.{HartState, IsSoundHart}
@@ -37,7 +37,7 @@ hand_by Jumps i = Retiring (Next i.pc) false
 hand_by Sets i = Retiring (Set i.rd i.pc i.value) false
 hand_by Loads i = Reading (load_of i) (span_of i.access) (span 0 0)
 hand_by Loaded i = Retiring (load_of i) false
-hand_by Reserves i = Reserving (store_of i) (span_of i.access)
+hand_by Secures i = Securing (store_of i) (span_of i.access)
 hand_by Stores i = Writing (store_of i) (span_of i.access) 0
 hand_by Stored i = Retiring (store_of i) true
 hand_by InPieces i = i.pieces
@@ -49,7 +49,7 @@ bytes_by Jumps i = []
 bytes_by Sets i = []
 bytes_by Loads i = []
 bytes_by Loaded i = value_bytes i
-bytes_by Reserves i = value_bytes i
+bytes_by Secures i = value_bytes i
 bytes_by Stores i = value_bytes i
 bytes_by Stored i = value_bytes i
 bytes_by InPieces i = i.bytes.items

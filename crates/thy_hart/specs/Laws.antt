@@ -11,7 +11,7 @@ use Rattle.thy_isa.specs.Step.{State, is_running, step, crossed, cpu_crossed}
 use Rattle.thy_hart.specs.declared.hand.Hand.TheVariants.{Nothing}
 use Rattle.thy_hart.specs.declared.hand.HartStep.{HartStep}
 use Rattle.thy_hart.specs.declared.hand.HartStep.TheVariants.{Moved, Retired, Waiting, Over}
-use Rattle.thy_hart.specs.HartState.{HartState, reserved, has_written}
+use Rattle.thy_hart.specs.HartState.{HartState, secured, has_written}
 use Rattle.thy_hart.specs.Outcomes.{Given}
 use Rattle.thy_hart.specs.Moments.{Moment, memory_of, IsReady, moves_left}
 use Rattle.thy_hart.specs.OneStep.{current, coming, IsStep}
@@ -20,7 +20,7 @@ use Rattle.thy_hart.specs.OneStep.{current, coming, IsStep}
 abbrev pub ReadyWithNoPageOpen : Type 0
 ReadyWithNoPageOpen =
     (m : Moment) → length m.held.blocks ≡ memory_blocks m.hart.geometry → Agrees m.cache m.held.blocks
-    → m.held.ready ≡ true → dirty_count m.cache + reserved m.hart.hand ≤ m.held.free → m.held.open_page ≡ None → IsReady m
+    → m.held.ready ≡ true → dirty_count m.cache + secured m.hart.hand ≤ m.held.free → m.held.open_page ≡ None → IsReady m
 
 -- an instruction has few steps left
 abbrev pub FewMovesAreLeft : Type 0

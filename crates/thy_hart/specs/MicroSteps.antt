@@ -20,7 +20,7 @@ use Rattle.thy_hart.specs.declared.hand.MicroStep.{MicroStep}
 use Rattle.thy_hart.specs.declared.hand.MicroStep.TheVariants.{Missing, Taken}
 use Rattle.thy_hart.specs.declared.hand.ShortStep.{ShortStep}
 use Rattle.thy_hart.specs.declared.hand.ShortStep.TheVariants.{Missing as ShortMissing, Moved as ShortMoved, Waiting as ShortWaiting, Ended}
-use Rattle.thy_hart.specs.HartState.{HartState, IsSoundHart, next_block, reserved}
+use Rattle.thy_hart.specs.HartState.{HartState, IsSoundHart, next_block, secured}
 use Rattle.thy_hart.specs.Outcomes.{Given, fetched, block_read, acted_by, answer_by, memory_by, cache_by, over_or_retired}
 
 -- a block that is touched, if one is, hits
@@ -64,8 +64,8 @@ pub record IsMicroStep (g : Given) (c d : Contents) (old new : HartState) (step 
   pub memory : (blocks : List Block) → length blocks ≡ memory_blocks old.geometry
       → flat d blocks ≡ memory_by old.bytes (flat c blocks) old.hand
   pub agree : AgreesStill c d
-  pub room : dirty_count c + reserved old.hand ≤ g.free → dirty_count d + reserved new.hand ≤ g.free
-  pub tidy : dirty_count d ≤ dirty_count c + (reserved old.hand - reserved new.hand)
+  pub room : dirty_count c + secured old.hand ≤ g.free → dirty_count d + secured new.hand ≤ g.free
+  pub tidy : dirty_count d ≤ dirty_count c + (secured old.hand - secured new.hand)
   pub cache : d ≡ cache_by c old old.hand
   pub untouched : next_block old ≡ None → d ≡ c
   pub sized : KeepsSize c d
@@ -78,14 +78,14 @@ EndsBy (Taken Waiting) over = Unit {0}
 EndsBy (Taken Retired) over = over ≡ None
 EndsBy (Taken (Over cause)) over = over ≡ Some cause
 
--- what came of a micro-step that a function of its own took, with what the epoch is over for after it
+-- the outcome of a micro-step that a function of its own took, with what the epoch is over for after it
 abbrev pub micro_step : ShortStep → Option EndCause → MicroStep
 micro_step (ShortMissing b) over = Missing b
 micro_step ShortMoved over = Taken Moved
 micro_step ShortWaiting over = Taken Waiting
 micro_step Ended over = Taken (over_or_retired over)
 
--- what comes of a micro-step: the line of its block is missing and nothing was done, or it was taken
+-- the outcome of a micro-step: the line of its block is missing and nothing was done, or it was taken
 abbrev pub IsActed : Given → Contents → Contents → HartState → HartState → MicroStep → Type 0
 IsActed g c d old new (Missing b) = (next_block old ≡ Some b) × (hits c b ≡ false) × (new ≡ old) × (d ≡ c)
 IsActed g c d old new (Taken step) = HitsNext c (next_block old) × IsMicroStep g c d old new step

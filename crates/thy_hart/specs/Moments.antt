@@ -8,8 +8,8 @@ use Rattle.thy_cache.specs.declared.line.Line.{Line}
 use Rattle.thy_cache.specs.Contents.{Contents, hits, victim_of, victim_line_of, is_dirty_victim, dirty_count}
 use Rattle.thy_cache.specs.Flat.{flat, Agrees}
 use Rattle.thy_hart.specs.declared.hand.Hand.{Hand}
-use Rattle.thy_hart.specs.declared.hand.Hand.TheVariants.{Nothing, Reading, Reserving, Writing, Retiring}
-use Rattle.thy_hart.specs.HartState.{HartState, blocks_of, next_block, reserved}
+use Rattle.thy_hart.specs.declared.hand.Hand.TheVariants.{Nothing, Reading, Securing, Writing, Retiring}
+use Rattle.thy_hart.specs.HartState.{HartState, blocks_of, next_block, secured}
 
 pub record Moment : Type 0 where
   pub hart : HartState
@@ -50,8 +50,8 @@ pub record IsReady (m : Moment) : Type 0 where
   pub blocks : length m.held.blocks ≡ memory_blocks m.hart.geometry
   pub agree : Agrees m.cache m.held.blocks
   pub ready : m.held.ready ≡ true
-  -- there is room for every dirty line and for what is reserved
-  pub room : dirty_count m.cache + reserved m.hart.hand ≤ m.held.free
+  -- there is room for every dirty line and for what is secured
+  pub room : dirty_count m.cache + secured m.hart.hand ≤ m.held.free
   pub opened : IsOpenFor m.cache (next_block m.hart) m.held.open_page
 
 -- ---- how many steps are left before the instruction retires
@@ -68,7 +68,7 @@ touch_left c (Some b) = touch_steps c b
 abbrev pub left_behind : Hand → ℕ
 left_behind Nothing = 13
 left_behind (Reading e from to) = 3 * (blocks_of from - 1) + 7
-left_behind (Reserving e to) = 1 + 3 * blocks_of to
+left_behind (Securing e to) = 1 + 3 * blocks_of to
 left_behind (Writing e to done) = 3 * (blocks_of to - 1)
 left_behind (Retiring e wrote) = 0
 

@@ -15,10 +15,10 @@ use Rattle.thy_isa.specs.Moves.{outgoing}
 use Rattle.thy_isa.specs.OnBlocks.{state_from, effect_in, bytes_in, cpu_after, blocks_after}
 use Rattle.thy_isa.specs.Step.{State}
 use Rattle.thy_hart.specs.declared.hand.Hand.{Hand}
-use Rattle.thy_hart.specs.declared.hand.Hand.TheVariants.{Nothing, Reading, Reserving, Writing, Retiring}
+use Rattle.thy_hart.specs.declared.hand.Hand.TheVariants.{Nothing, Reading, Securing, Writing, Retiring}
 use Rattle.thy_hart.specs.declared.hand.HartStep.{HartStep}
 use Rattle.thy_hart.specs.declared.hand.HartStep.TheVariants.{Moved, Retired, Waiting, Over}
-use Rattle.thy_hart.specs.HartState.{HartState, next_block, reserved, has_written}
+use Rattle.thy_hart.specs.HartState.{HartState, next_block, secured, has_written}
 use Rattle.thy_hart.specs.Outcomes.{Given, acted_by, answer_by, memory_by, cache_by}
 use Rattle.thy_hart.specs.Bring.{BringsLine}
 use Rattle.thy_hart.specs.Moments.{Moment, memory_of, brings_line, IsReady, moves_left}
@@ -43,7 +43,7 @@ abbrev pub coming_by : List ℕ → HartState → List Block → Hand → State
 coming_by input h memory Nothing = led_from_fetch input h memory (effect_in h.geometry h.cpu memory)
 coming_by input h memory (Reading e from to) =
     let bytes = h.bytes ++ gathered memory from in led input h e bytes (scattered memory to (outgoing e bytes))
-coming_by input h memory (Reserving e to) = led input h e h.bytes (scattered memory to (outgoing e h.bytes))
+coming_by input h memory (Securing e to) = led input h e h.bytes (scattered memory to (outgoing e h.bytes))
 coming_by input h memory (Writing e to done) =
     led input h e h.bytes (scattered memory to (drop done (outgoing e h.bytes)))
 coming_by input h memory (Retiring e wrote) = led input h e h.bytes memory
@@ -131,8 +131,8 @@ pub record IsStep (g : Given) (old new : Moment) (step : HartStep) : Type 0 wher
   -- the plain state after the instruction, and how far that is
   pub leads : Leads step g.input old.hart (memory_of old) new.hart (memory_of new)
   pub nears : Nears step old new
-  -- no write before its room is reserved, and none but in the block that is touched
-  pub unwritten : reserved old.hart.hand ≡ 0 → memory_of new ≡ memory_of old
+  -- no write before its room is secured, and none but in the block that is touched
+  pub unwritten : secured old.hart.hand ≡ 0 → memory_of new ≡ memory_of old
   pub clean : has_written new.hart.hand ≡ false → memory_of new ≡ memory_of old
   pub written : StaysWritten step old.hart.hand new.hart.hand
   pub others : (b : ℕ) → (next_block old.hart ≡ Some b → ⊥) → block_at (memory_of new) b ≡ block_at (memory_of old) b
@@ -141,11 +141,11 @@ pub record IsStep (g : Given) (old new : Moment) (step : HartStep) : Type 0 wher
   pub brought : (b : ℕ) → brings_line old ≡ true → next_block old.hart ≡ Some b
       → BringsLine (victim_of old.cache b) b old.cache old.held new.cache
   pub used : brings_line old ≡ false → new.cache ≡ cache_by old.cache old.hart old.hart.hand
-  -- no more lines become dirty than reserved room is used, and no more room is taken than that makes up for, with the lines
+  -- no more lines become dirty than secured room is used, and no more room is taken than that makes up for, with the lines
   -- that go clean
-  pub tidy : dirty_count new.cache ≤ dirty_count old.cache + (reserved old.hart.hand - reserved new.hart.hand)
+  pub tidy : dirty_count new.cache ≤ dirty_count old.cache + (secured old.hart.hand - secured new.hart.hand)
   pub room : dirty_count new.cache + old.held.free
-      ≤ dirty_count old.cache + (reserved old.hart.hand - reserved new.hart.hand) + new.held.free
+      ≤ dirty_count old.cache + (secured old.hart.hand - secured new.hart.hand) + new.held.free
   -- the store is left alone if no line is brought, and the cache if no block is touched
   pub alone : brings_line old ≡ false → new.held ≡ old.held
   pub untouched : next_block old.hart ≡ None → new.cache ≡ old.cache

@@ -14,7 +14,7 @@ use Rattle.thy_isa.specs.OnBlocks.{calls_in, effect_in, cpu_after}
 use Rattle.thy_isa.specs.Step.{is_running}
 use Rattle.thy_hart.specs.Epoch.{Epoch, retired_once, exhausted}
 use Rattle.thy_hart.specs.declared.hand.Hand.{Hand}
-use Rattle.thy_hart.specs.declared.hand.Hand.TheVariants.{Nothing, Reading, Reserving, Writing, Retiring}
+use Rattle.thy_hart.specs.declared.hand.Hand.TheVariants.{Nothing, Reading, Securing, Writing, Retiring}
 use Rattle.thy_hart.specs.declared.hand.HartStep.{HartStep}
 use Rattle.thy_hart.specs.declared.hand.HartStep.TheVariants.{Moved, Retired, Waiting, Over}
 use Rattle.thy_hart.specs.HartState.{HartState, blocks_of, fetched_block}
@@ -29,11 +29,11 @@ pub record Given : Type 0 where
 abbrev pub given : List ℕ → ℕ → Bool → Given
 given input free under_way = record { input = input; free = free; under_way = under_way }
 
--- An effect begins, or continues after a read: if bytes are still to be read it reads, else it reserves room for what it
+-- An effect begins, or continues after a read: if bytes are still to be read it reads, else it secures room for what it
 -- writes, else it retires.
 unfoldable pub begun : Effect → Span → Span → Hand
 begun e from to =
-    if from.len == 0 then (if to.len == 0 then Retiring e false else Reserving e to) else Reading e from to
+    if from.len == 0 then (if to.len == 0 then Retiring e false else Securing e to) else Reading e from to
 
 -- an effect continues after a block that it wrote: there is another, or it retires
 unfoldable pub written_on : Effect → Span → ℕ → Hand
@@ -65,14 +65,14 @@ is_short free dirty to = nat_lt free (dirty + blocks_of to)
 abbrev pub dropped : Epoch → HartState → HartState
 dropped epoch h = record h { epoch = epoch; hand = Nothing; bytes = [] }
 
--- room is reserved, or waited for if a checkpoint is under way, or else the epoch is over
-unfoldable pub room_reserved : ℕ → Bool → ℕ → Effect → Span → HartState → HartState
-room_reserved free under_way dirty e to h =
+-- room is secured, or waited for if a checkpoint is under way, or else the epoch is over
+unfoldable pub room_secured : ℕ → Bool → ℕ → Effect → Span → HartState → HartState
+room_secured free under_way dirty e to h =
     if is_short free dirty to
     then (if under_way then h else dropped (exhausted free dirty (blocks_of to) h.epoch) h)
     else record h { hand = Writing e to 0 }
 
--- what the step returns that reserves room, or waits for it, or ends the epoch
+-- what the step returns that secures room, or waits for it, or ends the epoch
 unfoldable pub room_answer : ℕ → Bool → ℕ → Span → HartStep
 room_answer free under_way dirty to =
     if is_short free dirty to then (if under_way then Waiting else Over (Exhausted free dirty (blocks_of to))) else Moved
@@ -103,11 +103,11 @@ over_or_retired (Some cause) = Over cause
 
 -- ---- the next one, by what is in hand
 
--- the hart after the next micro-step
+-- the hart after the next micro-step: steps 1 to 5 of an instruction in docs/CONTROLLER.md, in this order
 abbrev pub acted_by : Given → ℕ → List Block → HartState → Hand → HartState
 acted_by g dirty memory h Nothing = fetched g.input memory h
 acted_by g dirty memory h (Reading e from to) = block_read memory e from to h
-acted_by g dirty memory h (Reserving e to) = room_reserved g.free g.under_way dirty e to h
+acted_by g dirty memory h (Securing e to) = room_secured g.free g.under_way dirty e to h
 acted_by g dirty memory h (Writing e to done) = block_written e to done h
 acted_by g dirty memory h (Retiring e wrote) = retired g.input e h
 
@@ -115,7 +115,7 @@ acted_by g dirty memory h (Retiring e wrote) = retired g.input e h
 abbrev pub answer_by : Given → ℕ → HartState → Hand → HartStep
 answer_by g dirty h Nothing = Moved
 answer_by g dirty h (Reading e from to) = Moved
-answer_by g dirty h (Reserving e to) = room_answer g.free g.under_way dirty to
+answer_by g dirty h (Securing e to) = room_answer g.free g.under_way dirty to
 answer_by g dirty h (Writing e to done) = Moved
 answer_by g dirty h (Retiring e wrote) = over_or_retired (epoch_retired g.input e h).over
 
@@ -123,7 +123,7 @@ answer_by g dirty h (Retiring e wrote) = over_or_retired (epoch_retired g.input 
 abbrev pub memory_by : List ℕ → List Block → Hand → List Block
 memory_by bytes memory Nothing = memory
 memory_by bytes memory (Reading e from to) = memory
-memory_by bytes memory (Reserving e to) = memory
+memory_by bytes memory (Securing e to) = memory
 memory_by bytes memory (Writing e to done) = head_put memory to (drop done (outgoing e bytes))
 memory_by bytes memory (Retiring e wrote) = memory
 
@@ -140,6 +140,6 @@ written_by c to bytes = written_at (first_block to) (first_byte to) (take (head_
 abbrev pub cache_by : Contents → HartState → Hand → Contents
 cache_by c h Nothing = touched c (fetched_block h.geometry h.cpu)
 cache_by c h (Reading e from to) = read_from (first_block from) c
-cache_by c h (Reserving e to) = c
+cache_by c h (Securing e to) = c
 cache_by c h (Writing e to done) = written_by c to (drop done (outgoing e h.bytes))
 cache_by c h (Retiring e wrote) = c

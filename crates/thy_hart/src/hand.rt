@@ -14,26 +14,26 @@ use thy_isa::Effect;
 /// two blocks of memory; the first of these is next.
 #[derive(Clone, Copy, Debug, PartialEq, Eq)]
 pub enum Hand {
-    /// No instruction is in hand: the next one is fetched.
+    /// No instruction is in hand: the next one is fetched, step 1 of an instruction in docs/CONTROLLER.md.
     Nothing,
-    /// The effect reads the bytes at `from`, and will write at `to`, if that has bytes.
+    /// The effect reads the bytes at `from`, and will write at `to`, if that has bytes: step 2.
     Reading {
         effect: Effect,
         from: Span,
         to: Span,
     },
-    /// The instruction reserves room for the blocks that it will write.
-    Reserving {
+    /// The instruction secures room for the blocks that it will write: step 3.
+    Securing {
         effect: Effect,
         to: Span,
     },
-    /// The instruction writes at `to`, after `done` bytes that it has written.
+    /// The instruction writes at `to`, after `done` bytes that it has written: step 4.
     Writing {
         effect: Effect,
         to: Span,
         done: u64,
     },
-    /// The instruction retires, and has written a block or has not.
+    /// The instruction retires, and has written a block or has not: step 5.
     Retiring {
         effect: Effect,
         wrote: bool,
@@ -53,7 +53,7 @@ pub enum HartStep {
     Over(EndCause),
 }
 
-/// What came of the next micro-step.
+/// The outcome of the next micro-step.
 #[derive(Clone, Copy, Debug, PartialEq, Eq)]
 pub(crate) enum MicroStep {
     /// The line of this block, which it touches, is missing. Nothing was done.
@@ -62,7 +62,7 @@ pub(crate) enum MicroStep {
     Taken(HartStep),
 }
 
-/// What came of a micro-step that a function of its own took, as a rare one is. It has no cause for which an epoch is over, so
+/// The outcome of a micro-step that a function of its own took, as a rare one is. It has no cause for which an epoch is over, so
 /// that it fits into two registers: an answer in memory would be cleared in each cycle.
 #[derive(Clone, Copy, Debug, PartialEq, Eq)]
 pub(crate) enum ShortStep {
@@ -97,7 +97,7 @@ pub(crate) fn begun(effect: Effect, from: Span, to: Span) -> Hand
     if !from.is_empty() {
         Hand::Reading { effect, from, to }
     } else if !to.is_empty() {
-        Hand::Reserving { effect, to }
+        Hand::Securing { effect, to }
     } else {
         Hand::Retiring {
             effect,

@@ -6,7 +6,7 @@ ghost use Rattle.thy_isa.specs.declared.state.Status.TheVariants.{Running};
 ghost use Rattle.thy_isa.specs.Step.{cpu_crossed};
 ghost use Rattle.thy_hart.specs.declared.hand.Hand.TheVariants.{Nothing};
 ghost use Rattle.thy_hart.specs.Epoch.{next_epoch};
-ghost use Rattle.thy_hart.specs.HartState.{new_hart, to_reserve};
+ghost use Rattle.thy_hart.specs.HartState.{new_hart, to_secure};
 ghost use Rattle.thy_hart.specs.Outcomes.{given};
 ghost use Rattle.thy_hart.specs.Moments.{moment, brings_line, IsReady};
 ghost use Rattle.thy_hart.specs.OneStep.{IsStep};
@@ -80,11 +80,11 @@ impl Hart {
         &self.parts.geometry
     }
 
-    /// How many blocks the instruction in hand is to reserve room for, 1 or 2, if that is its next micro-step.
-    pub fn to_reserve(&self) -> Option<u64>
-        ensures { result ≡ to_reserve self.now.hand }
+    /// How many blocks the instruction in hand is to secure room for, 1 or 2, if that is its next micro-step.
+    pub fn to_secure(&self) -> Option<u64>
+        ensures { result ≡ to_secure self.now.hand }
     {
-        self.parts.to_reserve()
+        self.parts.to_secure()
     }
 
     /// Begins the next epoch, if this one is over.
@@ -105,11 +105,11 @@ impl Hart {
     }
 
     /// Takes one step, a cycle. If the step touches a block that is not in the cache, it brings the line nearer and the
-    /// hart stays; else it fetches, reads a block, reserves room, writes a block, or retires. `free` is the store's
+    /// hart stays; else it fetches, reads a block, secures room, writes a block, or retires. `free` is the store's
     /// number of free table entries, and `under_way` says whether a checkpoint is under way. A failure is the device's,
     /// and leaves hart and cache as they were.
     ///
-    /// No block is written before room is reserved for it. The hart waits, or its epoch is over before the instruction,
+    /// No block is written before room is secured for it. The hart waits, or its epoch is over before the instruction,
     /// exactly if free entries are short. A step that brings in no line leaves store and device alone; any other step
     /// calls the store at most once, and if no line is dirty this call is a load.
     pub fn step<N, S: BlockStore<N>>(

@@ -84,8 +84,8 @@ pub(crate) enum Stage {
     Loads,
     /// A load retires, which has read the number `value`.
     Loaded,
-    /// A store of `value` reserves room for the block that it writes.
-    Reserves,
+    /// A store of `value` secures room for the block that it writes.
+    Secures,
     /// A store writes its block.
     Stores,
     /// A store retires, which has written.

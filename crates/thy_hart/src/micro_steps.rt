@@ -1,10 +1,10 @@
 //! The micro-steps of an instruction whose block is in the cache.
-#![tactic(auto, unfolding(crate::specs::HartState::fetched_block, crate::specs::Outcomes::fetched, crate::specs::Outcomes::room_reserved, crate::specs::Outcomes::room_answer, thy_isa::specs::OnBlocks::effect_in, thy_isa::specs::OnBlocks::cpu_after))]
+#![tactic(auto, unfolding(crate::specs::HartState::fetched_block, crate::specs::Outcomes::fetched, crate::specs::Outcomes::room_secured, crate::specs::Outcomes::room_answer, thy_isa::specs::OnBlocks::effect_in, thy_isa::specs::OnBlocks::cpu_after))]
 
 ghost use Rattle.std.specs.Prelude.{◌≡◌, ◌≢◌, ℕ, Bool, List, length, None, Some, ◌+◌, ◌-◌, ◌<◌, ◌≤◌, ◌^◌, true, take, drop, Ok, IfSome};
 ghost use Rattle.thy_block.specs.Geometry.{IsInRange, memory_blocks, program_size};
 ghost use Rattle.thy_block.specs.LittleEndian.{number_bytes};
-ghost use Rattle.thy_cache.specs.Contents.{Contents, dirty_count, place_of, read_from, KeepsSize};
+ghost use Rattle.thy_cache.specs.Contents.{Contents, dirty_count, location_of, read_from, KeepsSize};
 ghost use Rattle.thy_cache.specs.Flat.{AgreesStill, KeepsLines};
 ghost use Rattle.thy_block.specs.Spans.{IsSpanOf, span, first_block, first_byte};
 ghost use Rattle.thy_isa.specs.Access.{IsWithin};
@@ -14,9 +14,9 @@ ghost use Rattle.thy_isa.specs.Effects.{size_of, word_effect};
 ghost use Rattle.thy_isa.specs.Moves.{number_in};
 ghost use Rattle.thy_isa.specs.Step.{finished as effect_finished, within};
 ghost use Rattle.thy_block.specs.Inside.{is_inside};
-ghost use Rattle.thy_hart.specs.declared.in_hand.Stage.TheVariants.{Idle, Loads, Reserves, Stores};
-ghost use Rattle.thy_hart.specs.HartState.{reserved, blocks_of, to_reserve};
-ghost use Rattle.thy_hart.specs.Outcomes.{Given, begun_with, written_by, block_written, room_reserved, room_answer, retired, over_or_retired, epoch_retired, given};
+ghost use Rattle.thy_hart.specs.declared.in_hand.Stage.TheVariants.{Idle, Loads, Secures, Stores};
+ghost use Rattle.thy_hart.specs.HartState.{secured, blocks_of, to_secure};
+ghost use Rattle.thy_hart.specs.Outcomes.{Given, begun_with, written_by, block_written, room_secured, room_answer, retired, over_or_retired, epoch_retired, given};
 ghost use Rattle.thy_hart.specs.InHand.{span_of, load_of, store_of, value_bytes, at_stage, hart_state_of, ArePieces, IsSoundParts};
 ghost use Rattle.thy_hart.specs.Rows.{moved_then};
 ghost use Rattle.thy_hart.specs.declared.hand.HartStep.TheVariants.{Moved};
@@ -27,7 +27,7 @@ use crate::EpochState;
 use crate::hand::{HartStep, MicroStep, ShortStep};
 use crate::in_hand::{Access, InHand, Stage};
 use thy_block::{EndCause, Geometry, Span};
-use thy_cache::{Cache, LinePlace};
+use thy_cache::{Cache, LineLocation};
 use thy_decoded::{DecodedWords, holds, operated};
 use thy_isa::{
     Cause, CpuState, Effect, Extend, Instr, Reg, Width, after, bytes_in, fetch_fault, finish_alone,
@@ -44,9 +44,9 @@ pub(crate) struct HartParts {
     pub decoded: DecodedWords,
 }
 
-/// The word of a span of four bytes within one block, whose line is at this place.
-fn fetch_word(cache: &mut Cache, at: Span, place: LinePlace) -> u32
-    requires found { place_of cache.old (first_block at) ≡ Some place }
+/// The word of a span of four bytes within one block, whose line is at this location.
+fn fetch_word(cache: &mut Cache, at: Span, location: LineLocation) -> u32
+    requires found { location_of cache.old (first_block at) ≡ Some location }
     requires len { at.len ≡ 4 }
     requires whole { first_byte at + 4 ≤ 64 }
     ensures word { ReadsWord cache.old at result }
@@ -54,8 +54,11 @@ fn fetch_word(cache: &mut Cache, at: Span, place: LinePlace) -> u32
     ensures lines { KeepsLines cache.old cache.new }
 {
     let b = at.first_block();
-    let number = word(cache.block_in(b, place).bytes(), at.first_byte() as usize);
-    cache.touch(b, place);
+    let number = word(
+        cache.block_in(b, location).bytes(),
+        at.first_byte() as usize,
+    );
+    cache.touch(b, location);
     number
 }
 
@@ -81,14 +84,14 @@ pub(crate) fn blocks_of(span: Span) -> u64
 // them for each device and scheme, called from one place, and makes it part of the loop over cycles. What is rare is called, and
 // takes no reference to what the loop has in registers.
 impl HartParts {
-    /// How many blocks the instruction in hand is to reserve room for, if that is its next micro-step.
-    pub fn to_reserve(&self) -> Option<u64>
+    /// How many blocks the instruction in hand is to secure room for, if that is its next micro-step.
+    pub fn to_secure(&self) -> Option<u64>
         requires { IsSoundParts self.now }
-        ensures { result ≡ to_reserve (hart_state_of self.now).hand }
+        ensures { result ≡ to_secure (hart_state_of self.now).hand }
     {
         match self.hand.stage {
-            Stage::Reserves => Some(blocks_of(self.hand.access.span())),
-            Stage::InPieces => self.pieces_to_reserve(),
+            Stage::Secures => Some(blocks_of(self.hand.access.span())),
+            Stage::InPieces => self.pieces_to_secure(),
             Stage::Idle
             | Stage::Jumps
             | Stage::Sets
@@ -264,7 +267,7 @@ impl HartParts {
         self.hand.address = at;
         self.hand.access = access;
         self.hand.value = value;
-        self.hand.stage = Stage::Reserves;
+        self.hand.stage = Stage::Secures;
     }
 
     /// The bytes of a load or a store at an address, if they lie in program memory and in one block. Two comparisons show that:
@@ -384,19 +387,19 @@ impl HartParts {
         self.begin(effect, input);
     }
 
-    /// Fetches the instruction at the program counter, whose word lies here, in the line at this place.
+    /// Fetches the instruction at the program counter, whose word lies here, in the line at this location.
     #[inline(always)]
-    fn fetch_at<N>(&mut self, cache: &mut Cache, at: Span, place: LinePlace, input: &[u8])
+    fn fetch_at<N>(&mut self, cache: &mut Cache, at: Span, location: LineLocation, input: &[u8])
         requires range { IsInRange self.old.geometry }
         requires at { IsFetchedSpan self.old.geometry self.old.cpu (Ok at) }
-        requires found { place_of cache.old (first_block at) ≡ Some place }
+        requires found { location_of cache.old (first_block at) ≡ Some location }
         ensures hart { FetchesIn input.now cache.old (hart_state_of self.old) (hart_state_of self.new) }
         ensures sound { IsSoundParts self.new }
-        ensures unreserved { reserved (hart_state_of self.new).hand ≡ 0 }
+        ensures unsecured { secured (hart_state_of self.new).hand ≡ 0 }
         ensures cache { cache.new ≡ read_from (first_block at) cache.old }
         ensures lines { KeepsLines cache.old cache.new }
     {
-        let word = fetch_word(cache, at, place);
+        let word = fetch_word(cache, at, location);
         self.begin_word::<N>(word, input);
     }
 
@@ -415,8 +418,8 @@ impl HartParts {
                 MicroStep::Taken(HartStep::Moved)
             }
             Ok(at) => match cache.latest(at.first_block()) {
-                Some(place) => {
-                    self.fetch_at::<N>(cache, at, place, input);
+                Some(location) => {
+                    self.fetch_at::<N>(cache, at, location, input);
                     MicroStep::Taken(HartStep::Moved)
                 }
                 None => {
@@ -438,30 +441,30 @@ impl HartParts {
         ensures sound { IsSoundParts self.new }
     {
         match cache.find(at.first_block()) {
-            Some(place) => {
-                self.fetch_at::<()>(cache, at, place, input);
+            Some(location) => {
+                self.fetch_at::<()>(cache, at, location, input);
                 ShortStep::Moved
             }
             None => ShortStep::Missing(at.first_block()),
         }
     }
 
-    /// Reads the bytes of a load, whose block's line is at this place.
+    /// Reads the bytes of a load, whose block's line is at this location.
     #[inline(always)]
-    fn load_at<N>(&mut self, cache: &mut Cache, place: LinePlace)
+    fn load_at<N>(&mut self, cache: &mut Cache, location: LineLocation)
         requires sound { IsSoundParts self.old }
         requires stage { self.old.hand.stage ≡ Loads }
-        requires found { place_of cache.old (first_block (span_of self.old.hand.access)) ≡ Some place }
+        requires found { location_of cache.old (first_block (span_of self.old.hand.access)) ≡ Some location }
         ensures hart { ReadsIn cache.old (load_of self.old.hand) (span_of self.old.hand.access) (span 0 0)
             (at_stage Loads self.old) (hart_state_of self.new) }
         ensures sound { IsSoundParts self.new }
-        ensures unreserved { reserved (hart_state_of self.new).hand ≡ 0 }
+        ensures unsecured { secured (hart_state_of self.new).hand ≡ 0 }
         ensures cache { cache.new ≡ read_from (first_block (span_of self.old.hand.access)) cache.old }
         ensures lines { KeepsLines cache.old cache.new }
     {
         let b = self.hand.access.span().first_block();
-        self.hand.value = number_of(&self.hand.access, cache.block_in(b, place).bytes());
-        cache.touch(b, place);
+        self.hand.value = number_of(&self.hand.access, cache.block_in(b, location).bytes());
+        cache.touch(b, location);
         self.hand.stage = Stage::Loaded;
     }
 
@@ -476,8 +479,8 @@ impl HartParts {
     {
         let b = self.hand.access.span().first_block();
         match cache.latest(b) {
-            Some(place) => {
-                self.load_at::<N>(cache, place);
+            Some(location) => {
+                self.load_at::<N>(cache, location);
                 MicroStep::Taken(HartStep::Moved)
             }
             None => {
@@ -498,23 +501,23 @@ impl HartParts {
     {
         let b = self.hand.access.span().first_block();
         match cache.find(b) {
-            Some(place) => {
-                self.load_at::<()>(cache, place);
+            Some(location) => {
+                self.load_at::<()>(cache, location);
                 ShortStep::Moved
             }
             None => ShortStep::Missing(b),
         }
     }
 
-    /// Reserves room for the block that a store writes, or waits for it if a checkpoint is under way, or else ends the epoch and
+    /// Secures room for the block that a store writes, or waits for it if a checkpoint is under way, or else ends the epoch and
     /// drops the instruction.
     #[inline(always)]
-    fn reserve<N>(&mut self, dirty: u64, free: u64, under_way: bool) -> HartStep
+    fn secure<N>(&mut self, dirty: u64, free: u64, under_way: bool) -> HartStep
         requires sound { IsSoundParts self.old }
-        requires stage { self.old.hand.stage ≡ Reserves }
+        requires stage { self.old.hand.stage ≡ Secures }
         requires going { self.old.epoch.over ≡ None }
-        ensures hart { hart_state_of self.new ≡ room_reserved free under_way dirty (store_of self.old.hand)
-            (span_of self.old.hand.access) (at_stage Reserves self.old) }
+        ensures hart { hart_state_of self.new ≡ room_secured free under_way dirty (store_of self.old.hand)
+            (span_of self.old.hand.access) (at_stage Secures self.old) }
         ensures says { result ≡ room_answer free under_way dirty (span_of self.old.hand.access) }
         ensures stage { result ≡ Moved → self.new.hand.stage ≡ Stores }
         ensures pieces { ArePieces self.new.hand }
@@ -532,26 +535,26 @@ impl HartParts {
         HartStep::Over(EndCause::Exhausted { free, dirty, need })
     }
 
-    /// Reserves room for the block that a store writes, over this cache, as `reserve` does.
+    /// Secures room for the block that a store writes, over this cache, as `secure` does.
     #[inline(always)]
     fn room<N>(&mut self, cache: &Cache, free: u64, under_way: bool) -> HartStep
         requires sound { IsSoundParts self.old }
-        requires stage { self.old.hand.stage ≡ Reserves }
+        requires stage { self.old.hand.stage ≡ Secures }
         requires going { self.old.epoch.over ≡ None }
         ensures acts { (input : List ℕ) → IsActed (given input free under_way)
             cache.now cache.now (hart_state_of self.old) (hart_state_of self.new) (Taken result) }
         ensures sound { IsSoundParts self.new }
         ensures stage { result ≡ Moved → self.new.hand.stage ≡ Stores }
     {
-        self.reserve::<N>(cache.dirty(), free, under_way)
+        self.secure::<N>(cache.dirty(), free, under_way)
     }
 
-    /// Writes those bytes of a span that fall into its first block, whose line is at this place, after `done` of these bytes.
+    /// Writes those bytes of a span that fall into its first block, whose line is at this location, after `done` of these bytes.
     #[inline(always)]
     pub(crate) fn put<N>(
         &self,
         cache: &mut Cache,
-        place: LinePlace,
+        location: LineLocation,
         bytes: &[u8],
         to: Span,
         done: u64,
@@ -560,7 +563,7 @@ impl HartParts {
         requires span { IsSpanOf (memory_blocks self.now.geometry) to }
         requires some { 0 < to.len }
         requires least { done + to.len ≤ length bytes.now }
-        requires found { place_of cache.old (first_block to) ≡ Some place }
+        requires found { location_of cache.old (first_block to) ≡ Some location }
         ensures cache { cache.new ≡ written_by cache.old to (drop done bytes.now) }
         ensures memory { WritesIn (memory_blocks self.now.geometry) cache.old cache.new to (drop done bytes.now) }
         ensures agree { AgreesStill cache.old cache.new }
@@ -571,18 +574,18 @@ impl HartParts {
         let left = &bytes[done as usize..];
         cache.write_at(
             to.first_block(),
-            place,
+            location,
             to.first_byte(),
             &left[..len as usize],
         );
     }
 
-    /// Writes the bytes of a store, whose block's line is at this place.
+    /// Writes the bytes of a store, whose block's line is at this location.
     #[inline(always)]
-    fn store_at<N>(&mut self, cache: &mut Cache, place: LinePlace)
+    fn store_at<N>(&mut self, cache: &mut Cache, location: LineLocation)
         requires sound { IsSoundParts self.old }
         requires stage { self.old.hand.stage ≡ Stores }
-        requires found { place_of cache.old (first_block (span_of self.old.hand.access)) ≡ Some place }
+        requires found { location_of cache.old (first_block (span_of self.old.hand.access)) ≡ Some location }
         ensures hart { hart_state_of self.new ≡ block_written (store_of self.old.hand) (span_of self.old.hand.access) 0
             (at_stage Stores self.old) }
         ensures sound { IsSoundParts self.new }
@@ -595,7 +598,7 @@ impl HartParts {
     {
         let to = self.hand.access.span();
         let bytes = self.hand.value.to_le_bytes();
-        self.put::<N>(cache, place, &bytes[..to.len as usize], to, 0);
+        self.put::<N>(cache, location, &bytes[..to.len as usize], to, 0);
         self.hand.stage = Stage::Stored;
     }
 
@@ -610,8 +613,8 @@ impl HartParts {
     {
         let b = self.hand.access.span().first_block();
         match cache.latest(b) {
-            Some(place) => {
-                self.store_at::<N>(cache, place);
+            Some(location) => {
+                self.store_at::<N>(cache, location);
                 MicroStep::Taken(HartStep::Moved)
             }
             None => {
@@ -632,8 +635,8 @@ impl HartParts {
     {
         let b = self.hand.access.span().first_block();
         match cache.find(b) {
-            Some(place) => {
-                self.store_at::<()>(cache, place);
+            Some(location) => {
+                self.store_at::<()>(cache, location);
                 ShortStep::Moved
             }
             None => ShortStep::Missing(b),
@@ -715,7 +718,7 @@ impl HartParts {
                 let number = self.hand.number();
                 MicroStep::Taken(self.retire::<N>(&effect, number))
             }
-            Stage::Reserves => MicroStep::Taken(self.room::<N>(cache, free, under_way)),
+            Stage::Secures => MicroStep::Taken(self.room::<N>(cache, free, under_way)),
             Stage::Stores => self.store::<N>(cache),
             Stage::Stored => {
                 let effect = self.hand.store();
@@ -757,7 +760,7 @@ impl HartParts {
                 let effect = self.hand.store();
                 Some(self.retire::<N>(&effect, 0))
             }
-            Stage::Idle | Stage::Loads | Stage::Reserves | Stage::Stores | Stage::InPieces => None,
+            Stage::Idle | Stage::Loads | Stage::Secures | Stage::Stores | Stage::InPieces => None,
         }
     }
 
@@ -780,7 +783,7 @@ impl HartParts {
         }
     }
 
-    /// Takes the micro-steps of a store in a row, from the one that reserves room on. It answers how many moved it on, and the
+    /// Takes the micro-steps of a store in a row, from the one that secures room on. It answers how many moved it on, and the
     /// step that ended the row, if one did.
     #[inline(always)]
     fn store_on<N>(
@@ -790,7 +793,7 @@ impl HartParts {
         under_way: bool,
     ) -> (u64, Option<HartStep>)
         requires sound { IsSoundParts self.old }
-        requires stage { self.old.hand.stage ≡ Reserves }
+        requires stage { self.old.hand.stage ≡ Secures }
         requires count { self.old.cpu.count + 1 < 2 ^ 64 }
         requires going { self.old.epoch.over ≡ None }
         ensures acts { (input : List ℕ) → ActsAll (given input free under_way)
@@ -825,7 +828,7 @@ impl HartParts {
     {
         match self.hand.stage {
             Stage::Loads => self.load_on::<N>(cache),
-            Stage::Reserves => self.store_on::<N>(cache, free, under_way),
+            Stage::Secures => self.store_on::<N>(cache, free, under_way),
             Stage::Idle
             | Stage::Jumps
             | Stage::Sets
@@ -889,7 +892,7 @@ impl HartParts {
             | Stage::Sets
             | Stage::Loads
             | Stage::Loaded
-            | Stage::Reserves
+            | Stage::Secures
             | Stage::Stores
             | Stage::Stored
             | Stage::InPieces => (0, None),

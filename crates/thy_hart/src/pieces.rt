@@ -1,11 +1,11 @@
 //! The micro-steps of an instruction in pieces, whose bytes may lie in two blocks: an environment call, an atomic instruction, a
 //! load or a store of two blocks, and a trap. They are rare, and called from one place that is not part of the loop over cycles.
-#![tactic(auto, unfolding(crate::specs::Outcomes::room_reserved, crate::specs::Outcomes::room_answer, thy_isa::specs::OnBlocks::cpu_after))]
+#![tactic(auto, unfolding(crate::specs::Outcomes::room_secured, crate::specs::Outcomes::room_answer, thy_isa::specs::OnBlocks::cpu_after))]
 
 ghost use Rattle.std.specs.Prelude.{◌≡◌, ◌≢◌, None, Some, ◌+◌, ◌*◌, ◌<◌, ◌≤◌, ◌^◌, drop};
 ghost use Rattle.arrayvec.specs.ArrayVec.{array_vec_len};
 ghost use Rattle.thy_block.specs.Geometry.{IsInRange, memory_blocks, program_size};
-ghost use Rattle.thy_cache.specs.Contents.{dirty_count, place_of, read_from, KeepsSize};
+ghost use Rattle.thy_cache.specs.Contents.{dirty_count, location_of, read_from, KeepsSize};
 ghost use Rattle.thy_cache.specs.Flat.{AgreesStill, KeepsLines};
 ghost use Rattle.thy_block.specs.Spans.{first_block};
 ghost use Rattle.thy_isa.specs.Access.{IsWithin};
@@ -15,8 +15,8 @@ ghost use Rattle.thy_isa.specs.OnBlocks.{calls_in};
 ghost use Rattle.thy_isa.specs.Step.{AreCallsOf};
 ghost use Rattle.thy_hart.specs.declared.hand.Hand.TheVariants.{Nothing, Reading, Writing};
 ghost use Rattle.thy_hart.specs.declared.in_hand.Stage.TheVariants.{InPieces};
-ghost use Rattle.thy_hart.specs.HartState.{IsReading, IsWriting, IsSoundHart, blocks_of, read_len, reserved, to_reserve};
-ghost use Rattle.thy_hart.specs.Outcomes.{Given, begun_with, finished, written_by, block_written, room_reserved, room_answer, retired, over_or_retired, epoch_retired, given};
+ghost use Rattle.thy_hart.specs.HartState.{IsReading, IsWriting, IsSoundHart, blocks_of, read_len, secured, to_secure};
+ghost use Rattle.thy_hart.specs.Outcomes.{Given, begun_with, finished, written_by, block_written, room_secured, room_answer, retired, over_or_retired, epoch_retired, given};
 ghost use Rattle.thy_hart.specs.InHand.{pieces_of, hart_state_of, ArePieces, IsSoundParts};
 ghost use Rattle.thy_hart.specs.declared.hand.MicroStep.TheVariants.{Taken};
 ghost use Rattle.thy_hart.specs.MicroSteps.{ReadsIn, WritesIn, IsActed, EndsBy, micro_step};
@@ -25,7 +25,7 @@ use crate::hand::{Hand, HartStep, MicroStep, ShortStep, begun, written_on};
 use crate::in_hand::Stage;
 use crate::micro_steps::{HartParts, blocks_of};
 use thy_block::{EndCause, Piece, Span, take_head};
-use thy_cache::{Cache, LinePlace};
+use thy_cache::{Cache, LineLocation};
 use thy_isa::{
     CallState, Cause, Effect, brought, finish, finish_alone, is_running, modified_bytes, moves,
     number_in,
@@ -77,27 +77,27 @@ impl HartParts {
         self.begin_in_pieces(Effect::Trap(cause), input);
     }
 
-    /// Reads the bytes of a span that lie in its first block, whose line is at this place.
+    /// Reads the bytes of a span that lie in its first block, whose line is at this location.
     fn read_piece(
         &mut self,
         cache: &mut Cache,
-        place: LinePlace,
+        location: LineLocation,
         effect: Effect,
         from: Span,
         to: Span,
     )
         requires range { IsInRange self.old.geometry }
         requires reading { IsReading self.old.geometry effect from to (array_vec_len self.old.hand.bytes) }
-        requires found { place_of cache.old (first_block from) ≡ Some place }
+        requires found { location_of cache.old (first_block from) ≡ Some location }
         ensures hart { ReadsIn cache.old effect from to (pieces_of self.old) (pieces_of self.new) }
         ensures sound { IsSoundHart (pieces_of self.new) }
-        ensures unreserved { reserved self.new.hand.pieces ≡ 0 }
+        ensures unsecured { secured self.new.hand.pieces ≡ 0 }
         ensures cache { cache.new ≡ read_from (first_block from) cache.old }
         ensures lines { KeepsLines cache.old cache.new }
     {
         let b = from.first_block();
-        take_head(&mut self.hand.bytes, cache.block_in(b, place), from);
-        cache.touch(b, place);
+        take_head(&mut self.hand.bytes, cache.block_in(b, location), from);
+        cache.touch(b, location);
         self.hand.pieces = begun(effect, from.rest(), to);
     }
 
@@ -111,17 +111,17 @@ impl HartParts {
         ensures sound { IsSoundHart (pieces_of self.new) }
     {
         match cache.find(from.first_block()) {
-            Some(place) => {
-                self.read_piece(cache, place, effect, from, to);
+            Some(location) => {
+                self.read_piece(cache, location, effect, from, to);
                 MicroStep::Taken(HartStep::Moved)
             }
             None => MicroStep::Missing(from.first_block()),
         }
     }
 
-    /// Reserves room for the blocks that will be written, or waits for it if a checkpoint is under way, or
+    /// Secures room for the blocks that will be written, or waits for it if a checkpoint is under way, or
     /// else ends the epoch and drops the instruction.
-    fn reserve_pieces(
+    fn secure_pieces(
         &mut self,
         dirty: u64,
         free: u64,
@@ -132,7 +132,7 @@ impl HartParts {
         requires range { IsInRange self.old.geometry }
         requires writing { IsWriting self.old.geometry effect to 0 (array_vec_len self.old.hand.bytes) }
         requires going { self.old.epoch.over ≡ None }
-        ensures hart { pieces_of self.new ≡ room_reserved free under_way dirty effect to (pieces_of self.old) }
+        ensures hart { pieces_of self.new ≡ room_secured free under_way dirty effect to (pieces_of self.old) }
         ensures says { result ≡ room_answer free under_way dirty to }
         ensures ends { EndsBy (Taken result) self.new.epoch.over }
     {
@@ -155,18 +155,18 @@ impl HartParts {
     }
 
     /// Writes the bytes that an effect makes of those that it has, as far as they fall into the first block of a span,
-    /// whose line is at this place. Only an atomic memory operation makes new bytes.
+    /// whose line is at this location. Only an atomic memory operation makes new bytes.
     fn put_outgoing(
         &self,
         cache: &mut Cache,
-        place: LinePlace,
+        location: LineLocation,
         effect: &Effect,
         to: Span,
         done: u64,
     )
         requires range { IsInRange self.now.geometry }
         requires writing { IsWriting self.now.geometry effect.now to done (array_vec_len self.now.hand.bytes) }
-        requires found { place_of cache.old (first_block to) ≡ Some place }
+        requires found { location_of cache.old (first_block to) ≡ Some location }
         ensures short { done + to.len < 2 ^ 64 }
         ensures cache { cache.new ≡ written_by cache.old to (drop done (outgoing effect.now self.now.hand.bytes.items)) }
         ensures memory { WritesIn (memory_blocks self.now.geometry) cache.old cache.new to
@@ -183,7 +183,7 @@ impl HartParts {
                 ..
             } => {
                 let bytes = modified_bytes(op, width, value, self.hand.bytes.as_slice());
-                self.put::<()>(cache, place, bytes.as_slice(), to, done);
+                self.put::<()>(cache, location, bytes.as_slice(), to, done);
             }
             Effect::Next { .. }
             | Effect::Set { .. }
@@ -193,22 +193,28 @@ impl HartParts {
             | Effect::Conditional { .. }
             | Effect::Fail { .. }
             | Effect::Environment
-            | Effect::Trap(_) => self.put::<()>(cache, place, self.hand.bytes.as_slice(), to, done),
+            | Effect::Trap(_) => self.put::<()>(
+                cache,
+                location,
+                self.hand.bytes.as_slice(),
+                to,
+                done,
+            ),
         }
     }
 
-    /// Writes those bytes of a span that fall into its first block, whose line is at this place.
+    /// Writes those bytes of a span that fall into its first block, whose line is at this location.
     fn write_piece(
         &mut self,
         cache: &mut Cache,
-        place: LinePlace,
+        location: LineLocation,
         effect: Effect,
         to: Span,
         done: u64,
     )
         requires range { IsInRange self.old.geometry }
         requires writing { IsWriting self.old.geometry effect to done (array_vec_len self.old.hand.bytes) }
-        requires found { place_of cache.old (first_block to) ≡ Some place }
+        requires found { location_of cache.old (first_block to) ≡ Some location }
         ensures hart { pieces_of self.new ≡ block_written effect to done (pieces_of self.old) }
         ensures sound { IsSoundHart (pieces_of self.new) }
         ensures cache { cache.new ≡ written_by cache.old to (drop done (outgoing effect self.old.hand.bytes.items)) }
@@ -218,7 +224,7 @@ impl HartParts {
         ensures room { dirty_count cache.new ≤ dirty_count cache.old + 1 }
         ensures sized { KeepsSize cache.old cache.new }
     {
-        self.put_outgoing(cache, place, &effect, to, done);
+        self.put_outgoing(cache, location, &effect, to, done);
         let len = to.head_len();
         self.hand.pieces = written_on(effect, to.rest(), done + len);
     }
@@ -233,8 +239,8 @@ impl HartParts {
         ensures sound { IsSoundHart (pieces_of self.new) }
     {
         match cache.find(to.first_block()) {
-            Some(place) => {
-                self.write_piece(cache, place, effect, to, done);
+            Some(location) => {
+                self.write_piece(cache, location, effect, to, done);
                 MicroStep::Taken(HartStep::Moved)
             }
             None => MicroStep::Missing(to.first_block()),
@@ -310,8 +316,8 @@ impl HartParts {
         match self.hand.pieces {
             Hand::Nothing => unreachable!(),
             Hand::Reading { effect, from, to } => self.read_pieces(cache, effect, from, to),
-            Hand::Reserving { effect, to } => {
-                MicroStep::Taken(self.reserve_pieces(cache.dirty(), free, under_way, effect, to))
+            Hand::Securing { effect, to } => {
+                MicroStep::Taken(self.secure_pieces(cache.dirty(), free, under_way, effect, to))
             }
             Hand::Writing { effect, to, done } => self.write_pieces(cache, effect, to, done),
             Hand::Retiring { effect, .. } => MicroStep::Taken(self.retire_pieces(effect, input)),
@@ -327,7 +333,7 @@ impl HartParts {
         match self.hand.pieces {
             Hand::Nothing => self.hand.stage = Stage::Idle,
             Hand::Reading { .. }
-            | Hand::Reserving { .. }
+            | Hand::Securing { .. }
             | Hand::Writing { .. }
             | Hand::Retiring { .. } => self.hand.stage = Stage::InPieces,
         }
@@ -355,13 +361,13 @@ impl HartParts {
         step.short()
     }
 
-    /// How many blocks it is to reserve room for, if that is its next micro-step.
-    pub(crate) fn pieces_to_reserve(&self) -> Option<u64>
+    /// How many blocks it is to secure room for, if that is its next micro-step.
+    pub(crate) fn pieces_to_secure(&self) -> Option<u64>
         requires { IsSoundHart (pieces_of self.now) }
-        ensures { result ≡ to_reserve self.now.hand.pieces }
+        ensures { result ≡ to_secure self.now.hand.pieces }
     {
         match self.hand.pieces {
-            Hand::Reserving { to, .. } => Some(blocks_of(to)),
+            Hand::Securing { to, .. } => Some(blocks_of(to)),
             Hand::Nothing | Hand::Reading { .. } | Hand::Writing { .. } | Hand::Retiring { .. } =>
                 None,
         }

@@ -1,4 +1,4 @@
--- No step traps for a misaligned load or store, but for that of an atomic instruction with two harts.
+-- No step traps for a misaligned load or store, except for an atomic instruction with two harts.
 use Rattle.std.proofs.Common.{◌≡◌, ◌+◌, ◌%◌, ◌==◌, ℕ, Bool, true, false, if◌then◌else◌, List, length, Option, Some, None}
 use Rattle.std.specs.Option.{option_map_or}
 use Rattle.thy_block.specs.Inside.{is_inside}

@@ -30,7 +30,7 @@ HasRead (Modify op rd width pc at v) bytes = size_of width ≤ length bytes
 HasRead Environment bytes = Unit {0}
 HasRead (Trap c) bytes = Unit {0}
 
--- the effect of an atomic instruction, before it is known whether it is had
+-- the effect of an atomic instruction, before it is known whether the machine has the instruction
 abbrev pub IsAtomic : Effect → Type 0
 IsAtomic (Reserve rd width pc at) = Unit {0}
 IsAtomic (Conditional rd width pc at v) = Unit {0}

@@ -1,6 +1,6 @@
 -- Part of the claim.
 -- What an instruction or an environment call moves, as spans of the blocks of memory: the bytes that it reads, and those
--- that it writes. The blocks of the console follow those of program memory.
+-- that it writes. The blocks of the console follow the blocks of program memory.
 use Rattle.std.specs.Prelude.{ℕ, ◌+◌, ◌-◌, List, [], take, drop}
 use Rattle.thy_block.specs.LittleEndian.{number_at, number_bytes}
 use Rattle.thy_block.specs.Spans.{span}

@@ -25,7 +25,7 @@ impl Checkpoints for Refill {
     ghost items = { items_journal };
 
     fn next_body(control: &mut Log, from: u64) -> Option<u64> {
-        control.sound();
+        control.recall_sound();
         position(control.next_live(from as usize))
     }
 
@@ -53,7 +53,7 @@ impl Checkpoints for Refill {
     }
 
     fn next_tail(control: &Log, from: u64) -> Option<u64> {
-        control.sound();
+        control.recall_sound();
         position(control.next_live(from as usize))
     }
 

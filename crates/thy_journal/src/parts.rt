@@ -33,8 +33,8 @@ impl Parts for Refill {
         control.cut(pick)
     }
 
-    fn sound(control: &Log) {
-        control.sound();
+    fn recall_sound(control: &Log) {
+        control.recall_sound();
     }
 
     fn load<N: Nvm>(control: &Log, b: u64, nvm: &mut N) -> Result<Block, NvmError> {
@@ -61,7 +61,7 @@ impl Parts for Refill {
         nvm: &mut N,
     ) -> Result<Stored, NvmError> {
         let _left_alone = &*nvm;
-        control.sound();
+        control.recall_sound();
         control.store(b, block);
         Ok(Stored::Done)
     }

@@ -14,7 +14,7 @@ use Rattle.thy_layout.proofs.LookedLemmas.{not_looked}
 use Rattle.thy_journal_image.specs.Places.{slot_blocks, slot_place, first_home, place_by}
 use Rattle.thy_journal_image.specs.Slots.{IsTable, table_in}
 use Rattle.thy_journal_image.specs.Layout.{journal_layouts}
-use Rattle.thy_journal_image.specs.CheckpointParts.{memory_places, IsToldBy}
+use Rattle.thy_journal_image.specs.CheckpointParts.{memory_places, HoldsCheckpoint}
 use Rattle.thy_journal_image.specs.Free.{Target, SlotBlock, JournalBlock, HomeBlock, target_place, IsTarget, IsFree}
 use Rattle.thy_journal_image.proofs.PartsLemmas.{memory_place_of, place_by_behind, slot_behind}
 
@@ -75,23 +75,23 @@ free_of_memory p epoch table x h there free inside =
     free_by p epoch table x of.0 (entry_of table of.0) h there free of.1 refl behind of.2
 
 module _ (p : Parameters) (image : List Block) (epoch : ℕ) (table : List (Option ℕ)) (x : Target)
-    (told : IsToldBy p image epoch table) (there : IsTarget p x) (free : IsFree epoch table x) where
+    (meant : HoldsCheckpoint p image epoch table) (there : IsTarget p x) (free : IsFree epoch table x) where
   abbrev l : Layout
   l = journal_layouts p
 
   places_are : places_by l (block_at image 1) (slot_in l image) ≡ memory_places p (epoch % 2) table
   places_are =
-      ap (λ (e : ℕ). memory_places p (e % 2) (table_in p (slot_in l image))) told.of_epoch
-      ∙ ap (memory_places p (epoch % 2)) told.table_is
+      ap (λ (e : ℕ). memory_places p (e % 2) (table_in p (slot_in l image))) meant.of_epoch
+      ∙ ap (memory_places p (epoch % 2)) meant.table_is
 
   not_in_slot : Contains (slot_places l (block_at image 1)) (target_place p x) → ⊥
   not_in_slot inside =
       let of = Contains-range (slot_place p (epoch_of (block_at image 1) % 2)) (slot_blocks p) (target_place p x) inside in
-      free_of_slot p epoch table x there free of.0 of.1 (sym (ap (λ (e : ℕ). slot_place p (e % 2) + of.0) told.of_epoch) ∙ of.2)
+      free_of_slot p epoch table x there free of.0 of.1 (sym (ap (λ (e : ℕ). slot_place p (e % 2) + of.0) meant.of_epoch) ∙ of.2)
 
   not_in_memory : Contains (places_by l (block_at image 1) (slot_in l image)) (target_place p x) → ⊥
   not_in_memory inside =
-      free_of_memory p epoch table x told.whole there free (subst (λ (xs : List ℕ). Contains xs (target_place p x)) places_are inside)
+      free_of_memory p epoch table x meant.whole there free (subst (λ (xs : List ℕ). Contains xs (target_place p x)) places_are inside)
 
   pub free_not_looked : Contains (1 ∷ looked_by l image) (target_place p x) → ⊥
   free_not_looked inside = not_looked l image (target_place p x) (target_behind p x there) not_in_slot not_in_memory inside

@@ -132,7 +132,7 @@ module _ (p : Parameters) (ceiling : ℕ) (cpu : CpuState) (table : List (Option
       h.parts (is_zero-commit_of epoch)
       (no_fault (newest n 0) header) in
       record {
-        told = record {
+        meant = record {
           of_epoch =
               ap epoch_of (next_image-commit (commit_of epoch) n (omega (arith, h.parts.sized)))
               ∙ epoch_is;

@@ -9,7 +9,7 @@ use Rattle.thy_layout.specs.Layout.{looked_by}
 use Rattle.thy_layout.specs.Commit.{slot_of_epoch}
 use Rattle.thy_journal_image.specs.Places.{slot_blocks, slot_place, home_place, journal_place}
 use Rattle.thy_journal_image.specs.Layout.{journal_layouts}
-use Rattle.thy_journal_image.specs.CheckpointParts.{IsToldBy}
+use Rattle.thy_journal_image.specs.CheckpointParts.{HoldsCheckpoint}
 
 -- what a write is for: block k of slot s, the block of entry i in the journal of slot s, or the home of block b
 pub data Target : Type 0 where
@@ -40,5 +40,5 @@ IsFree epoch table (HomeBlock b) = (i : ℕ) × Lists table i b
 abbrev pub FreeIsNotLooked : Type 0
 FreeIsNotLooked =
     (p : Parameters) (image : List Block) (epoch : ℕ) (table : List (Option ℕ)) (x : Target)
-    → IsToldBy p image epoch table → IsTarget p x → IsFree epoch table x
+    → HoldsCheckpoint p image epoch table → IsTarget p x → IsFree epoch table x
     → ¬ Contains (commit_place ∷ looked_by (journal_layouts p) image) (target_place p x)

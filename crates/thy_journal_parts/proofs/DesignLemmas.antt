@@ -16,7 +16,7 @@ use Rattle.thy_layout.proofs.ReadBackLemmas.{epoch_of-commit_of}
 use Rattle.thy_table.specs.Listing.{free_count}
 use Rattle.thy_table.proofs.ListingLaws.{free_count-all, free_count-mapped, IsListing-free}
 use Rattle.thy_view.specs.Safe.{ceiling}
-use Rattle.thy_journal_image.specs.CheckpointParts.{ReadsBack, IsToldBy, memory_places}
+use Rattle.thy_journal_image.specs.CheckpointParts.{ReadsBack, HoldsCheckpoint, memory_places}
 use Rattle.thy_journal_image.specs.Free.{Target, SlotBlock, JournalBlock, HomeBlock, target_place, IsTarget, IsFree}
 use Rattle.thy_journal_image.specs.Layout.{journal_layouts}
 use Rattle.thy_journal_image.specs.Places.{slot_blocks, slot_place, first_home, image_blocks, home_place, journal_place}
@@ -119,17 +119,17 @@ committed_reads phase s n m sound sized r = homes_reads s n sound sized m r.read
 -- ---- an image keeps its table from one position to the next
 
 keeps_making : (epoch from to : ℕ) (s : State) (g : List Block) → IsKeptBy (Making from) epoch s g → IsKeptBy (Making to) epoch s g
-keeps_making epoch from to s g h = record { kept = h.kept; table = h.table; told = h.told; other = h.other; applied = tt }
+keeps_making epoch from to s g h = record { kept = h.kept; table = h.table; meant = h.meant; other = h.other; applied = tt }
 
 keeps_applying : (epoch from to : ℕ) (s : State) (g : List Block) → IsKeptBy (Applying from) epoch s g → IsKeptBy (Applying to) epoch s g
-keeps_applying epoch from to s g h = record { kept = h.kept; table = h.table; told = h.told; other = tt; applied = h.applied }
+keeps_applying epoch from to s g h = record { kept = h.kept; table = h.table; meant = h.meant; other = tt; applied = h.applied }
 
 -- ---- what is free
 
-spared : (s : State) (g : List Block) (epoch : ℕ) (table : List (Option ℕ)) (x : Target) → IsToldBy s.p g epoch table → IsTarget s.p x → IsFree epoch table x
+spared : (s : State) (g : List Block) (epoch : ℕ) (table : List (Option ℕ)) (x : Target) → HoldsCheckpoint s.p g epoch table → IsTarget s.p x → IsFree epoch table x
     → target_place s.p x ≢ 0 → IsSpared journal_design s g (target_place s.p x)
-spared s g epoch table x told there free low inside =
-    free_not_looked s.p g epoch table x told there free (not_first (target_place s.p x) 0 (1 ∷ looked_by (journal_layouts s.p) g) (λ e. low (sym e)) inside)
+spared s g epoch table x meant there free low inside =
+    free_not_looked s.p g epoch table x meant there free (not_first (target_place s.p x) 0 (1 ∷ looked_by (journal_layouts s.p) g) (λ e. low (sym e)) inside)
 
 -- ---- the slot
 
@@ -152,7 +152,7 @@ module _ (e : Progress) (s : State) (n : Device) (moment : IsMoment journal_desi
   pub slot_fits : (journal_layouts e.p).slot_bad ceiling (commit_of e.epoch) slot ≡ None
   slot_fits = ap (λ (k : ℕ). slot_fault e.p ceiling k slot) epoch_is ∙ back.faultless
 
-  pub slot_makes : (g : List Block) → block_at g 1 ≡ commit_of e.epoch → slot_in (journal_layouts e.p) g ≡ slot → IsToldBy s.p g e.epoch (table_of s)
+  pub slot_makes : (g : List Block) → block_at g 1 ≡ commit_of e.epoch → slot_in (journal_layouts e.p) g ≡ slot → HoldsCheckpoint s.p g e.epoch (table_of s)
   slot_makes g commit is = record {
     of_epoch = ap epoch_of commit ∙ epoch_is;
     table_is =
@@ -169,7 +169,7 @@ module _ (e : Progress) (s : State) (n : Device) (moment : IsMoment journal_desi
       → IsSpared journal_design s g ((journal_layouts e.p).slot_place (commit_of e.epoch) + k)
   slot_spared g k keeps l =
       subst (IsSpared journal_design s g) (sym (place_is k))
-      (spared s g keeps.kept keeps.table (SlotBlock (e.epoch % 2) k) keeps.told
+      (spared s g keeps.kept keeps.table (SlotBlock (e.epoch % 2) k) keeps.meant
       (half e.epoch, subst (λ (p : Parameters). k < slot_blocks p) (sym can.same_p) l) keeps.other (λ q. omega (arith, q)))
 
   -- memory reads at its places by the slot as it was sealed
@@ -228,7 +228,7 @@ module _ (epoch : ℕ) (s : State) (n : Device) where
       → next_live i s ≡ Some i
       → IsKeptBy (Making i) epoch s g → IsSpared journal_design s g (journal_place s.p (epoch % 2) i)
   body_spares i g moment found keeps =
-      spared s g keeps.kept keeps.table (JournalBlock (epoch % 2) i) keeps.told (half epoch, (live_at s i i moment.sound found).1) keeps.other
+      spared s g keeps.kept keeps.table (JournalBlock (epoch % 2) i) keeps.meant (half epoch, (live_at s i i moment.sound found).1) keeps.other
       (λ q. omega (arith, q))
 
   body_past : (from k : ℕ) → IsMoment journal_design (Making from) epoch s n
@@ -245,7 +245,7 @@ module _ (epoch : ℕ) (s : State) (n : Device) where
   body_whole from moment none =
       let there = journaled_all epoch s n moment.sound moment.sized from none moment.holds in
       carried (moment_of moment refl moment.stands there) refl refl refl
-      (λ g h. record { kept = h.kept; table = h.table; told = h.told; other = h.other; applied = tt })
+      (λ g h. record { kept = h.kept; table = h.table; meant = h.meant; other = h.other; applied = tt })
       (λ g no. absurd no) (λ a b r. tt) (omega arith)
 
   commits_to : IsMoment journal_design Made epoch s n
@@ -258,7 +258,7 @@ module _ (epoch : ℕ) (s : State) (n : Device) where
     room = refl;
     loads = refl;
     committed = refl;
-    keeps = λ g told. record { kept = epoch; table = table_of s; told = told; other = tt; applied = refl };
+    keeps = λ g meant. record { kept = epoch; table = table_of s; meant = meant; other = tt; applied = refl };
     rests = λ a b r. tt;
     free = omega arith;
     opened = inl refl;
@@ -281,7 +281,7 @@ module _ (epoch : ℕ) (s : State) (n : Device) where
       → IsKeptBy (Applying i) epoch s g → IsSpared journal_design s g (home_place s.p (block_listed i s))
   tail_spares i g moment found keeps =
       let lists = live_lists s i i moment.sound found in
-      spared s g keeps.kept keeps.table (HomeBlock (block_listed i s)) keeps.told ((IsTable-table_of s moment.sound).blocks i (block_listed i s) lists)
+      spared s g keeps.kept keeps.table (HomeBlock (block_listed i s)) keeps.meant ((IsTable-table_of s moment.sound).blocks i (block_listed i s) lists)
       (i, subst (λ (t : List (Option ℕ)). Lists t i (block_listed i s)) (sym keeps.applied) lists) (λ q. omega (arith, q))
 
   tail_past : (from k : ℕ) → IsMoment journal_design (Applying from) epoch s n
@@ -309,7 +309,7 @@ module _ (epoch : ℕ) (s : State) (n : Device) where
         loads = same;
         sealed = same;
         committed = home;
-        keeps = λ g h. record { kept = h.kept; table = h.table; told = h.told; other = tt; applied = tt };
+        keeps = λ g h. record { kept = h.kept; table = h.table; meant = h.meant; other = tt; applied = tt };
         makes = λ g h. h;
         rests = λ a b r. rests_released a;
         free = free_count-mapped freed s.table;
@@ -334,8 +334,8 @@ seals_to before epoch s n moment = record {
   keeps = λ g next h. record {
     kept = h.kept;
     table = h.table;
-    told = h.told;
-    other = λ q. let of = h.told.of_epoch in omega (arith, next, of, q);
+    meant = h.meant;
+    other = λ q. let of = h.meant.of_epoch in omega (arith, next, of, q);
     applied = tt;
   };
   rests = λ a b r. tt;
@@ -371,7 +371,7 @@ drain_carried phase epoch s n moment =
       keeps = λ g h. record {
         kept = h.kept;
         table = h.table;
-        told = h.told;
+        meant = h.meant;
         other = h.other;
         applied = h.applied;
       };

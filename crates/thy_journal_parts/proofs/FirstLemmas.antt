@@ -18,7 +18,7 @@ use Rattle.thy_layout.proofs.ReadBackLemmas.{epoch_of-commit_of}
 use Rattle.thy_layout.proofs.TableSlotLemmas.{table_back}
 use Rattle.thy_view.specs.Safe.{ceiling}
 use Rattle.thy_table.specs.Listing.{lists}
-use Rattle.thy_table.proofs.ListingLaws.{place_of-none}
+use Rattle.thy_table.proofs.ListingLaws.{index_of-none}
 use Rattle.thy_checkpoint.specs.Filling.{first_slot_of, first_by}
 use Rattle.thy_checkpoint.specs.Start.{CanStart}
 use Rattle.thy_journal_image.specs.Places.{home_place, place_by, place_of}
@@ -74,7 +74,7 @@ module _ (p : Parameters) (s : Plain) (range : IsInRange p) where
 -- ---- a log that lists nothing
 
 pub entry_for-fresh : (s : State) (b : ℕ) → IsFresh s → entry_for s b ≡ None
-entry_for-fresh s b h = place_of-none block_key s.table b (λ i. ap (lists block_key b) (h.free i))
+entry_for-fresh s b h = index_of-none block_key s.table b (λ i. ap (lists block_key b) (h.free i))
 
 pub fresh_loads : (s : State) (n : Device) (start : Plain) → IsFresh s
     → works s n ≡ map (newest n) (first_by filling_journal s.p start).parts.memory

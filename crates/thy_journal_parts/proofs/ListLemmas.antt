@@ -7,8 +7,8 @@ use Rattle.thy_block.specs.declared.parameters.Parameters.{Parameters}
 use Rattle.thy_block.specs.Geometry.{memory_blocks}
 use Rattle.thy_dram.specs.Contents.{Contents}
 use Rattle.thy_layout.specs.Entries.{entry_at as listed_at}
-use Rattle.thy_table.specs.Listing.{entry_at, lists, place_of}
-use Rattle.thy_table.proofs.ListingLaws.{place_of-none, entry_at-with_same, entry_at-with_other}
+use Rattle.thy_table.specs.Listing.{entry_at, lists, index_of}
+use Rattle.thy_table.proofs.ListingLaws.{index_of-none, entry_at-with_same, entry_at-with_other}
 use Rattle.thy_checkpoint.specs.Filling.{ListsOn}
 use Rattle.thy_journal_image.specs.Slots.{IsTable, table_in}
 use Rattle.thy_journal_parts.specs.Keys.{block_key}
@@ -39,8 +39,8 @@ module _ (p : Parameters) (i : ℕ) (slot : List Block) (s : State)
       (table.blocks i b (record { is = sym is }))
 
   pub not_listed : (b : ℕ) → Some b ≡ listed_at (table_in p slot) i
-      → place_of block_key b s.table ≡ None
-  not_listed b is = place_of-none block_key s.table b (λ j.
+      → index_of block_key b s.table ≡ None
+  not_listed b is = index_of-none block_key s.table b (λ j.
       elim (cases_Bool (lists block_key b (entry_at s.table j))) as (λ _. lists block_key b (entry_at s.table j) ≡ false) [
         | inl held ↦ elim (cases_lt j i) as (λ _. lists block_key b (entry_at s.table j) ≡ false) [
           | inl low ↦

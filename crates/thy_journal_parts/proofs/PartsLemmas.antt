@@ -19,7 +19,7 @@ use Rattle.thy_checkpoint.specs.Boot.{Booting}
 use Rattle.thy_checkpoint.specs.Filling.{first_slot_of}
 use Rattle.thy_checkpoint.specs.Recovers.{IsRestored}
 use Rattle.thy_checkpoint.specs.Start.{CanStart}
-use Rattle.thy_journal_image.specs.CheckpointParts.{IsToldBy}
+use Rattle.thy_journal_image.specs.CheckpointParts.{HoldsCheckpoint}
 use Rattle.thy_journal_image.specs.Layout.{journal_layouts}
 use Rattle.thy_journal_image.specs.Places.{image_blocks}
 use Rattle.thy_journal_image.specs.Slots.{table_in}
@@ -61,8 +61,8 @@ new_fresh p dram range is = record {
 -- ---- a checkpoint was restored: its journal is to be applied
 
 module _ (s : State) (n : Device) (b : Booting) (same : s.p ≡ b.p) (sized : length n.image ≡ image_blocks b.p) (found : IsRestored filling_journal n b s) where
-  told : IsToldBy s.p n.image (epoch_of b.commit) (table_of s)
-  told = record {
+  meant : HoldsCheckpoint s.p n.image (epoch_of b.commit) (table_of s)
+  meant = record {
     of_epoch = ap epoch_of found.listed.head.commit_is.is;
     table_is =
         ap (λ (p : Parameters). table_in s.p (slot_in (journal_layouts p) n.image)) same
@@ -79,7 +79,7 @@ module _ (s : State) (n : Device) (b : Booting) (same : s.p ≡ b.p) (sized : le
       stands = found.listed.lists.state;
       holds = record { each = λ i c low lists. absurd (omega (arith, low)) };
     };
-    keeps = λ epoch. record { kept = epoch_of b.commit; table = table_of s; told = told; other = tt; applied = refl };
+    keeps = λ epoch. record { kept = epoch_of b.commit; table = table_of s; meant = meant; other = tt; applied = refl };
     committed = refl;
     rests = tt;
     closed = refl;
@@ -98,8 +98,8 @@ module _ (s : State) (n : Device) (g : List Block) (start : Plain) (fresh : IsFr
       listed_at-table_of s i ∙ ap (option_map block_key) (fresh.free i)
       ∙ sym (get_or-replicate s.p.btt i None None (omega (arith, low, size))))
 
-  told_first : IsToldBy s.p g 0 (table_of s)
-  told_first = record {
+  meant_first : HoldsCheckpoint s.p g 0 (table_of s)
+  meant_first = record {
     of_epoch = ap epoch_of commit ∙ epoch_of-commit_of 0 (omega arith);
     table_is = ap (table_in s.p) slot ∙ table_first s.p start can.geometry ∙ sym table_free;
     whole = IsTable-table_of s fresh.state;
@@ -108,7 +108,7 @@ module _ (s : State) (n : Device) (g : List Block) (start : Plain) (fresh : IsFr
   loaded : EndsBoot journal_design Resting s n g
   loaded = record {
     moment = λ epoch. record { sound = fresh.state; sized = sized; stands = fresh.state; holds = tt };
-    keeps = λ epoch. record { kept = 0; table = table_of s; told = told_first; other = tt; applied = tt };
+    keeps = λ epoch. record { kept = 0; table = table_of s; meant = meant_first; other = tt; applied = tt };
     committed =
         map_below (memory_blocks s.p) (home_of s n) (work_of s n)
         (λ c l. sym (ap (work_by s n c) (entry_for-fresh s c fresh)));

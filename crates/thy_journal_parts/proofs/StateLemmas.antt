@@ -5,7 +5,7 @@ use Rattle.std.proofs.lemmas.List.{length-map, length-set, length-replicate}
 use Rattle.thy_block.specs.declared.parameters.Parameters.{Parameters}
 use Rattle.thy_block.specs.Geometry.{memory_blocks}
 use Rattle.thy_dram.specs.Contents.{Contents}
-use Rattle.thy_table.specs.Listing.{Listing, IsListing, entry_at, lists, free_place, added_at, added, mapped, empty_table}
+use Rattle.thy_table.specs.Listing.{Listing, IsListing, entry_at, lists, free_index, added_at, added, mapped, empty_table}
 use Rattle.std.specs.Option.{option_and_then}
 use Rattle.thy_journal_parts.specs.declared.entry.Listed.{Listed}
 use Rattle.thy_journal_parts.specs.Keys.{block_key, freed}
@@ -20,7 +20,7 @@ length-added_at None e es = refl
 length-added_at (Some i) e es = length-set es i (Some e)
 
 pub length-added : (e : Listed) (t : Listing Listed) → length (added e t).entries ≡ length t.entries
-length-added e t = length-added_at (free_place t) e t.entries
+length-added e t = length-added_at (free_index t) e t.entries
 
 pub length-mapped : (t : Listing Listed) → length (mapped freed t).entries ≡ length t.entries
 length-mapped t = length-map t.entries (option_and_then freed)

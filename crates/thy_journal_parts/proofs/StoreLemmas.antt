@@ -14,12 +14,12 @@ use Rattle.thy_layout.specs.Spares.{Spares}
 use Rattle.thy_layout.proofs.SparesLemmas.{Spares-no_more}
 use Rattle.thy_dram.specs.Contents.{written}
 use Rattle.thy_layout.specs.Layout.{looked_by}
-use Rattle.thy_table.specs.Listing.{Listing, IsListing, entry_at, place_of, free_place, free_count, with_entry, added_at}
+use Rattle.thy_table.specs.Listing.{Listing, IsListing, entry_at, index_of, free_index, free_count, with_entry, added_at}
 use Rattle.thy_table.proofs.IndexLemmas.{free_one, lists-some, lists-inside}
-use Rattle.thy_table.proofs.ListingLaws.{free_first, free_found, place_of-lists, IsListing-put, place_of-put, place_of-put_other}
+use Rattle.thy_table.proofs.ListingLaws.{free_first, free_found, index_of-lists, IsListing-put, index_of-put, index_of-put_other}
 use Rattle.thy_journal_image.specs.Layout.{journal_layouts}
 use Rattle.thy_journal_image.specs.Places.{image_blocks, home_place}
-use Rattle.thy_journal_image.specs.CheckpointParts.{IsToldBy}
+use Rattle.thy_journal_image.specs.CheckpointParts.{HoldsCheckpoint}
 use Rattle.thy_journal_parts.specs.declared.entry.Listed.{Listed}
 use Rattle.thy_journal_parts.specs.Holding.{works}
 use Rattle.thy_journal_parts.specs.Keys.{block_key, listing_of}
@@ -40,8 +40,8 @@ use Rattle.thy_journal_parts.specs.Design.{rests_at, StaysLog, journal_design}
 
 -- an entry lists the block, and every other block is at the place at which it was
 record IsListedAt (s : State) (b i : ℕ) (u : Listing Listed) : Type 0 where
-  here : place_of block_key b u ≡ Some i
-  others : (c : ℕ) → c ≢ b → place_of block_key c u ≡ place_of block_key c s.table
+  here : index_of block_key b u ≡ Some i
+  others : (c : ℕ) → c ≢ b → index_of block_key c u ≡ index_of block_key c s.table
   once : IsListing block_key u
   long : length u.entries ≡ length s.table.entries
   numbers : u.numbers ≡ s.table.numbers
@@ -55,20 +55,20 @@ listed_some s b i sound e = record {
   once = sound.once;
   long = refl;
   numbers = refl;
-  inside = lists-inside block_key s.table.entries i b (place_of-lists block_key s.table b i e);
+  inside = lists-inside block_key s.table.entries i b (index_of-lists block_key s.table b i e);
   free = omega arith;
 }
 
-listed_none : (s : State) (b i : ℕ) → IsSoundState s → b < memory_blocks s.p → entry_for s b ≡ None → free_place s.table ≡ Some i
+listed_none : (s : State) (b i : ℕ) → IsSoundState s → b < memory_blocks s.p → entry_for s b ≡ None → free_index s.table ≡ Some i
     → IsListedAt s b i (with_entry i (Some (listing_of b)) s.table)
 listed_none s b i sound small e found =
     let first = free_first s.table i found in
     let room : b < s.table.numbers = subst (λ (x : ℕ). b < x) (sym sound.numbers) small in
     let set = sum_by-set free_one s.table.entries i (Some (listing_of b)) None first.0 in
     record {
-      here = place_of-put block_key s.table sound.once i (listing_of b) first.0 e room;
+      here = index_of-put block_key s.table sound.once i (listing_of b) first.0 e room;
       others = λ c other.
-          place_of-put_other block_key s.table sound.once i (listing_of b) c first.0 first.1 e room
+          index_of-put_other block_key s.table sound.once i (listing_of b) c first.0 first.1 e room
           other;
       once = IsListing-put block_key s.table sound.once i (listing_of b) first.0 e room;
       long = length-set s.table.entries i (Some (listing_of b));
@@ -86,13 +86,13 @@ after_is b block s = refl
 after_some : (b : ℕ) (block : Block) (s : State) (i : ℕ) → entry_for s b ≡ Some i → after_store b block s ≡ put_into i block s
 after_some b block s i e =
     after_is b block s
-    ∙ ap (λ (o : Option ℕ). put_into (unwrap_or (option_or o (free_place s.table)) 0) block (record s { table = with_listing o b s.table })) e
+    ∙ ap (λ (o : Option ℕ). put_into (unwrap_or (option_or o (free_index s.table)) 0) block (record s { table = with_listing o b s.table })) e
 
-after_none : (b : ℕ) (block : Block) (s : State) (i : ℕ) → entry_for s b ≡ None → free_place s.table ≡ Some i
+after_none : (b : ℕ) (block : Block) (s : State) (i : ℕ) → entry_for s b ≡ None → free_index s.table ≡ Some i
     → after_store b block s ≡ put_into i block (record s { table = with_entry i (Some (listing_of b)) s.table })
 after_none b block s i e found =
     after_is b block s
-    ∙ ap (λ (o : Option ℕ). put_into (unwrap_or (option_or o (free_place s.table)) 0) block (record s { table = with_listing o b s.table })) e
+    ∙ ap (λ (o : Option ℕ). put_into (unwrap_or (option_or o (free_index s.table)) 0) block (record s { table = with_listing o b s.table })) e
     ∙ ap (λ (o : Option ℕ). put_into (unwrap_or o 0) block (record s { table = record s.table { entries = added_at o (listing_of b) s.table.entries } })) found
 
 -- a store, with the entry that it takes and the table that lists the block there
@@ -126,10 +126,10 @@ module _ (b : ℕ) (block : Block) (s : State) (n : Device) (sound : IsSoundStat
   buffer_inside = let low = l.inside in let size = sound.size in omega (arith, low, size, sound.dram_size)
 
   -- an entry lists one block
-  own_entry : (c : ℕ) → c ≢ b → place_of block_key c u ≡ Some i → ⊥
+  own_entry : (c : ℕ) → c ≢ b → index_of block_key c u ≡ Some i → ⊥
   own_entry c other e =
-      let mine = lists-some block_key b (entry_at u i) (place_of-lists block_key u b i l.here) in
-      let its = lists-some block_key c (entry_at u i) (place_of-lists block_key u c i e) in
+      let mine = lists-some block_key b (entry_at u i) (index_of-lists block_key u b i l.here) in
+      let its = lists-some block_key c (entry_at u i) (index_of-lists block_key u c i e) in
       let same : Some mine.0 ≡ Some its.0 = sym mine.1 ∙ its.1 in
       let one : mine.0 ≡ its.0 = cc in
       other (sym its.2 ∙ sym (ap block_key one) ∙ mine.2)
@@ -137,13 +137,13 @@ module _ (b : ℕ) (block : Block) (s : State) (n : Device) (sound : IsSoundStat
   work_here : work_of t n b ≡ block
   work_here = ap (work_by t n b) l.here ∙ get_or-set_same s.dram.blocks i block zero_block buffer_inside
 
-  work_there : (c : ℕ) (o : Option ℕ) → c ≢ b → place_of block_key c u ≡ o → work_by t n c o ≡ work_by s n c o
+  work_there : (c : ℕ) (o : Option ℕ) → c ≢ b → index_of block_key c u ≡ o → work_by t n c o ≡ work_by s n c o
   work_there c None other e = refl
   work_there c (Some j) other e =
       get_or-set_other s.dram.blocks i j block zero_block (λ (q : j ≡ i). own_entry c other (e ∙ ap Some q))
 
   work_other : (c : ℕ) → c ≢ b → work_of t n c ≡ work_of s n c
-  work_other c other = work_there c (place_of block_key c u) other refl ∙ ap (work_by s n c) (l.others c other)
+  work_other c other = work_there c (index_of block_key c u) other refl ∙ ap (work_by s n c) (l.others c other)
 
   works_stored : works t n ≡ slice_set (works s n) b block
   works_stored =
@@ -236,7 +236,7 @@ module _ (epoch : ℕ) (s : State) (n : Device) (t : State) (m : Device) (moment
     keeps = λ g h. record {
       kept = h.kept;
       table = h.table;
-      told = subst (λ (p : Parameters). IsToldBy p g h.kept h.table) (sym stays.same_p) h.told;
+      meant = subst (λ (p : Parameters). HoldsCheckpoint p g h.kept h.table) (sym stays.same_p) h.meant;
       other = tt;
       applied = tt;
     };

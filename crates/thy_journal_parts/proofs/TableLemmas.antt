@@ -1,4 +1,4 @@
--- The log's table as that of a checkpoint, and its entries, block by block.
+-- The log's table as the table of a checkpoint, and its entries, block by block.
 use Rattle.std.proofs.Common.{◌≡◌, ℕ, ◌<◌, ◌≤◌, true, false, length, Option, Some, None, refl, sym, ◌∙◌, ap, subst, inl, inr, arith}
 use Rattle.std.specs.Option.{option_map}
 use Rattle.std.proofs.lemmas.Bool.{cases_lt, eq-eqb, eqb-true}
@@ -7,7 +7,7 @@ use Rattle.thy_layout.specs.Entries.{entry_at as listed_at, Lists, entry_of}
 use Rattle.thy_layout.proofs.EntryLemmas.{Lists-inside, entry_of-absent, entry_of-listed}
 use Rattle.thy_table.specs.Listing.{entry_at, lists, passes}
 use Rattle.thy_table.proofs.FirstLemmas.{first_from-first, first_from-is, none-first_from}
-use Rattle.thy_table.proofs.ListingLaws.{found-once, place_of-lists, none-lists}
+use Rattle.thy_table.proofs.ListingLaws.{found-once, index_of-lists, none-lists}
 use Rattle.thy_journal_image.specs.Slots.{IsTable}
 use Rattle.thy_journal_parts.specs.declared.entry.Listed.{Listed}
 use Rattle.thy_journal_parts.specs.Keys.{block_key}
@@ -115,7 +115,7 @@ entry_for-is s b h = by_entry (entry_for s b) refl where
       cc)
       ∙ sym e
   by_entry (Some i) e =
-      let here : lists block_key b (entry_at s.table i) ≡ true = place_of-lists block_key s.table b i e in
+      let here : lists block_key b (entry_at s.table i) ≡ true = index_of-lists block_key s.table b i e in
       entry_of-listed (table_of s) b i (record { is = listed_at-table_of s i ∙ key_of (entry_at s.table i) b here })
       (λ k l. found-once block_key s.table h.once k i b (lists_of s k b l) here)
       ∙ sym e

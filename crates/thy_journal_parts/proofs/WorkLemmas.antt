@@ -5,7 +5,7 @@ use Rattle.thy_block.specs.Device.{Device, written_to}
 use Rattle.thy_block.specs.Geometry.{memory_blocks}
 use Rattle.thy_block.proofs.DeviceLemmas.{newest-written_to_other}
 use Rattle.thy_table.specs.Listing.{entry_at, lists}
-use Rattle.thy_table.proofs.ListingLaws.{entry_at-cleared, place_of-none}
+use Rattle.thy_table.proofs.ListingLaws.{entry_at-cleared, index_of-none}
 use Rattle.thy_journal_image.specs.Places.{image_blocks, home_place}
 use Rattle.thy_journal_parts.specs.Holding.{works, homes}
 use Rattle.thy_journal_parts.specs.Keys.{block_key, freed}
@@ -45,4 +45,4 @@ works-released s n =
     map_below (memory_blocks s.p) (work_of (released s) n) (home_of s n)
     (λ b l.
     ap (work_by (released s) n b)
-    (place_of-none block_key (released s).table b (λ i. ap (lists block_key b) (none_left s i))))
+    (index_of-none block_key (released s).table b (λ i. ap (lists block_key b) (none_left s i))))

@@ -10,7 +10,7 @@ use Rattle.thy_layout.specs.Entries.{Lists}
 use Rattle.thy_layout.specs.TableSlots.{table_block_of}
 use Rattle.thy_table.specs.Listing.{Listing, free_count}
 use Rattle.thy_view.specs.Action.{Rest}
-use Rattle.thy_journal_image.specs.CheckpointParts.{IsToldBy}
+use Rattle.thy_journal_image.specs.CheckpointParts.{HoldsCheckpoint}
 use Rattle.thy_journal_image.specs.Places.{home_place, journal_place}
 use Rattle.thy_checkpoint.specs.Items.{ItemsOf, Phase, Resting, Making, Made, Applying}
 use Rattle.thy_journal_parts.specs.declared.entry.Listed.{Listed}
@@ -76,7 +76,7 @@ IsApplied phase own table = Unit {0}
 pub record IsKeptBy (phase : Phase) (epoch : ℕ) (s : State) (g : List Block) : Type 0 where
   pub kept : ℕ
   pub table : List (Option ℕ)
-  pub told : IsToldBy s.p g kept table
+  pub meant : HoldsCheckpoint s.p g kept table
   pub other : IsOther phase epoch kept
   pub applied : IsApplied phase (table_of s) table
 
@@ -110,7 +110,7 @@ journal_parts = record {
   sound = IsSoundState;
   holds = holds;
   keeps = IsKeptBy;
-  makes = λ epoch s g. IsToldBy s.p g epoch (table_of s);
+  makes = λ epoch s g. HoldsCheckpoint s.p g epoch (table_of s);
   sealed = works;
   committed = committed_at;
   seal = λ s. s;

@@ -9,7 +9,7 @@ use Rattle.thy_block.specs.Device.{Device, block_at, newest}
 use Rattle.thy_block.specs.Geometry.{IsInRange, memory_blocks}
 use Rattle.thy_block.specs.Places.{dram_blocks}
 use Rattle.thy_dram.specs.Contents.{Contents}
-use Rattle.thy_table.specs.Listing.{Listing, IsListing, place_of, empty_table}
+use Rattle.thy_table.specs.Listing.{Listing, IsListing, index_of, empty_table}
 use Rattle.thy_journal_image.specs.Places.{image_blocks, home_place}
 use Rattle.thy_journal_parts.specs.declared.entry.Listed.{Listed}
 use Rattle.thy_journal_parts.specs.Keys.{block_key}
@@ -40,7 +40,7 @@ table_of s = map (option_map block_key) s.table.entries
 
 -- the entry that lists a block
 abbrev pub entry_for : State → ℕ → Option ℕ
-entry_for s b = place_of block_key b s.table
+entry_for s b = index_of block_key b s.table
 
 -- what a read of a block's home gives, and what the buffer of an entry holds
 abbrev pub home_of : State → Device → ℕ → Block

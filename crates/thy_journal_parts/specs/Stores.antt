@@ -5,7 +5,7 @@ use Rattle.std.specs.Option.{option_or}
 use Rattle.thy_block.specs.declared.block.Block.{Block}
 use Rattle.thy_dram.specs.Contents.{written, drained}
 use Rattle.thy_block.specs.Device.{Device, newest}
-use Rattle.thy_table.specs.Listing.{Listing, free_place, with_entry, added, mapped}
+use Rattle.thy_table.specs.Listing.{Listing, free_index, with_entry, added, mapped}
 use Rattle.thy_journal_image.specs.Places.{journal_place}
 use Rattle.thy_journal_parts.specs.declared.entry.Listed.{Listed}
 use Rattle.thy_journal_parts.specs.Keys.{listing_of, freed}
@@ -13,7 +13,7 @@ use Rattle.thy_journal_parts.specs.State.{State, entry_for}
 
 -- the entry of a block's store: its own, else the lowest that is free
 abbrev pub store_entry : ℕ → State → ℕ
-store_entry b s = unwrap_or (option_or (entry_for s b) (free_place s.table)) 0
+store_entry b s = unwrap_or (option_or (entry_for s b) (free_index s.table)) 0
 
 -- the table in which it lists the block, by the entry that did so before
 abbrev pub with_listing : Option ℕ → ℕ → Listing Listed → Listing Listed

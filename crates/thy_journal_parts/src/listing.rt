@@ -40,5 +40,5 @@ fn list_one(slot: &[u8], i: usize, geometry: &Geometry, log: &mut Log)
     if let Some(block) = listed_block(slot, i, geometry) {
         log.list_at(i, block);
     }
-    log.sound();
+    log.recall_sound();
 }

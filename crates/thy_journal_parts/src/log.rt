@@ -5,7 +5,7 @@ ghost use Rattle.thy_block.specs.Device.{HasFailed, HasFailedToWrite, IsFramed, 
 ghost use Rattle.thy_block.specs.Geometry.{memory_blocks};
 ghost use Rattle.thy_block.specs.Places.{dram_blocks};
 ghost use Rattle.thy_layout.specs.Entries.{entry_at as listed_at};
-ghost use Rattle.thy_table.specs.Listing.{free_count, entry_at, place_of};
+ghost use Rattle.thy_table.specs.Listing.{free_count, entry_at, index_of};
 ghost use Rattle.thy_journal_parts.specs.Keys.{block_key};
 ghost use Rattle.thy_journal_parts.specs.Items.{listed_by};
 
@@ -73,7 +73,7 @@ impl Log {
     {
         let numbers = geometry.numbers();
         let table = Table::new(alloc, numbers.btt, geometry.memory_blocks())?;
-        table.lists_once();
+        table.recall_lists_once();
         Ok(Log {
             geometry: *geometry,
             table,
@@ -82,7 +82,7 @@ impl Log {
     }
 
     /// Table and DRAM have their sizes, and no block is listed twice.
-    pub fn sound(&self)
+    pub fn recall_sound(&self)
         ensures { IsSoundState self.now }
     {
         let _table = &self.table;
@@ -108,7 +108,7 @@ impl Log {
         ensures cause { CountsFault result (N.device nvm.old).faults (N.device nvm.new).faults }
         ensures same_writes { N.writes nvm.new ≡ N.writes nvm.old }
     {
-        self.sound();
+        self.recall_sound();
         match self.table.find(b) {
             Some(i) => Ok(self.buffer(i)),
             None => self.home(b, nvm),
@@ -136,7 +136,7 @@ impl Log {
         requires { i < self.now.p.btt }
         ensures { result ≡ buffer_of self.now i }
     {
-        self.sound();
+        self.recall_sound();
         self.dram.read(self.geometry.buffer(i))
     }
 
@@ -159,7 +159,7 @@ impl Log {
         ensures inside { result < self.old.p.btt }
         ensures log { self.new ≡ listing_for b self.old }
     {
-        self.sound();
+        self.recall_sound();
         match self.table.find(b) {
             Some(i) => i,
             None => self.add(b),
@@ -170,14 +170,14 @@ impl Log {
     fn add(&mut self, b: u64) -> usize
         requires block { b < memory_blocks self.old.p }
         requires room { 0 < free_count self.old.table }
-        requires unlisted { place_of block_key b self.old.table ≡ None }
+        requires unlisted { index_of block_key b self.old.table ≡ None }
         ensures entry { result ≡ store_entry b self.old }
         ensures inside { result < self.old.p.btt }
         ensures log { self.new ≡ listing_for b self.old }
     {
-        self.sound();
+        self.recall_sound();
         let place = self.table.add(Listed::new(b));
-        self.table.lists_once();
+        self.table.recall_lists_once();
         match place {
             Some(i) => i,
             None => unreachable!(),
@@ -189,7 +189,7 @@ impl Log {
         requires { i < self.old.p.btt }
         ensures { self.new ≡ put_into i block.now self.old }
     {
-        self.sound();
+        self.recall_sound();
         let at = self.geometry.buffer(i);
         self.dram.write(at, block);
     }
@@ -199,12 +199,12 @@ impl Log {
         requires inside { i < self.old.p.btt }
         requires block { b < memory_blocks self.old.p }
         requires free { entry_at self.old.table i ≡ None }
-        requires unlisted { place_of block_key b self.old.table ≡ None }
+        requires unlisted { index_of block_key b self.old.table ≡ None }
         ensures { self.new ≡ with_listing_at i b self.old }
     {
-        self.sound();
+        self.recall_sound();
         self.table.put(i, Listed::new(b));
-        self.table.lists_once();
+        self.table.recall_lists_once();
     }
 
     /// Reads the block of entry `i` in the journal of slot `s`, 0 or 1, into its buffer. If the NVM failed, the log
@@ -257,7 +257,7 @@ impl Log {
         ensures entry { result ≡ next_live from self.now }
         ensures inside { IfSome result (λ i. i < self.now.p.btt) }
     {
-        self.sound();
+        self.recall_sound();
         self.table.next(from, &Live)
     }
 
@@ -300,7 +300,7 @@ impl Log {
         ensures listed { result ≡ block_listed i self.now }
         ensures inside { result < memory_blocks self.now.p }
     {
-        self.sound();
+        self.recall_sound();
         block_or_zero(self.table.entry(i))
     }
 
@@ -308,9 +308,9 @@ impl Log {
     pub fn release(&mut self)
         ensures { self.new ≡ released self.old }
     {
-        self.sound();
+        self.recall_sound();
         self.table.map_entries(&Release);
-        self.table.lists_once();
+        self.table.recall_lists_once();
     }
 
     /// Block `k` of the table, eight entries a block.
@@ -318,7 +318,7 @@ impl Log {
         requires { k < self.now.p.btt / 8 }
         ensures { result ≡ table_block_of (table_of self.now) k }
     {
-        self.sound();
+        self.recall_sound();
         table_block(&self.listed_in(k))
     }
 
@@ -327,7 +327,7 @@ impl Log {
         requires { k < self.now.p.btt / 8 }
         ensures { result ≡ take 8 (drop (8 * k) (table_of self.now)) }
     {
-        self.sound();
+        self.recall_sound();
         let mut entries = [None; 8];
         for i in 0..8 {
             entries[i] = self.listed_at(8 * k as usize + i);
@@ -340,7 +340,7 @@ impl Log {
         requires { i < self.now.p.btt }
         ensures { result ≡ listed_at (table_of self.now) i }
     {
-        self.sound();
+        self.recall_sound();
         listed_block(self.table.entry(i))
     }
 }

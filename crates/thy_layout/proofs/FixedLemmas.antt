@@ -4,7 +4,7 @@ use Rattle.std.proofs.lemmas.Bool.{cases_eq}
 use Rattle.thy_block.specs.declared.block.Block.{Block}
 use Rattle.thy_block.specs.declared.nvm.Write.{Write}
 use Rattle.thy_block.specs.Device.{Device, Crash, block_at, queued_for, applied, newest, drained, settled, written_to}
-use Rattle.thy_block.proofs.DeviceLemmas.{MayLeave-possible, MayLeave-landed, block_at-applied, Contains-newest_over, newest-drained, newest-settled, newest-written_to, newest-written_to_other, length-drained, length-settled, length-written_to}
+use Rattle.thy_block.proofs.DeviceLemmas.{CrashAt-possible, CrashAt-landed, block_at-applied, Contains-newest_over, newest-drained, newest-settled, newest-written_to, newest-written_to_other, length-drained, length-settled, length-written_to}
 use Rattle.thy_layout.specs.Fixed.{IsFixed, Reads, ReadsFirst}
 
 -- what is fixed is what a cut leaves
@@ -14,20 +14,20 @@ block_at-fixed n g x b f c = f.only (block_at g x) (c.each x)
 -- if nothing is queued the image is fixed
 pub IsFixed-empty : (n : Device) (x : ℕ) → n.queue ≡ [] → IsFixed n x (block_at n.image x)
 IsFixed-empty n x empty = record {
-  only = λ c h. MayLeave-landed n x c (ap (λ (q : List Write). queued_for q x) empty) h;
+  only = λ c h. CrashAt-landed n x c (ap (λ (q : List Write). queued_for q x) empty) h;
 }
 
 -- a barrier makes what is read fixed
 pub IsFixed-settled : (n : Device) (x : ℕ) (b : Block) → Reads n x b → IsFixed (settled n) x b
 IsFixed-settled n x b r = record {
-  only = λ c h. MayLeave-landed (settled n) x c refl h ∙ block_at-applied n.image n.queue x r.inside ∙ r.newest_is;
+  only = λ c h. CrashAt-landed (settled n) x c refl h ∙ block_at-applied n.image n.queue x r.inside ∙ r.newest_is;
 }
 
 -- what is fixed is read
 pub Reads-fixed : (x : ℕ) (b : Block) (n : Device) → IsFixed n x b → x < length n.image → Reads n x b
 Reads-fixed x b n f l = record {
   inside = l;
-  newest_is = f.only (newest n x) (MayLeave-possible n x (newest n x) (Contains-newest_over (block_at n.image x) n.queue x));
+  newest_is = f.only (newest n x) (CrashAt-possible n x (newest n x) (Contains-newest_over (block_at n.image x) n.queue x));
 }
 
 pub Reads-written : (at : ℕ) (block : Block) (old new : Device) → at < length old.image → new ≡ written_to old at block → Reads new at block

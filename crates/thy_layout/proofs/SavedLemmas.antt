@@ -5,10 +5,10 @@ use Rattle.std.proofs.lemmas.List.{length-set, get_or-set_same, get_or-set_other
 use Rattle.std.proofs.lemmas.List.Elements.{Contains-push, Contains-append_left, Contains-append_right}
 use Rattle.thy_block.specs.declared.block.Block.{Block}
 use Rattle.thy_block.specs.Device.{Device, Crash, IsOneWordApart, HoldsNoMore, HasFailedToWrite, IsCut, IsFramed, zero_block, block_at, possible, applied, newest, settled, with_queued, written_to}
-use Rattle.thy_block.proofs.DeviceLemmas.{block_at-applied, length-applied, MayLeave-possible, MayLeave-elsewhere, possible-with_queued, no_more-written_to, length-settled, length-written_to}
+use Rattle.thy_block.proofs.DeviceLemmas.{block_at-applied, length-applied, CrashAt-possible, CrashAt-elsewhere, possible-with_queued, no_more-written_to, length-settled, length-written_to}
 use Rattle.thy_block.proofs.MadeLemmas.{IsMadeOf-either}
 use Rattle.thy_layout.specs.Fixed.{IsFixed, IsEither, Reads}
-use Rattle.thy_layout.specs.Saved.{Looking, Stands, IsIssued, next_image, Saved, Kept, Ready, InDoubt, IsKept, IsReady, IsInDoubt, IsSaved, guarded, IsCopy, IsLeft}
+use Rattle.thy_layout.specs.Saved.{Looking, Stands, IsIssued, next_image, Saved, Kept, Ready, InDoubt, IsKept, IsReady, IsInDoubt, IsSaved, guarded, IsCopy, IsCrashOfSaved}
 use Rattle.thy_layout.specs.Spares.{Spares}
 use Rattle.thy_layout.proofs.FixedLemmas.{block_at-fixed, IsFixed-empty, IsFixed-settled}
 use Rattle.thy_layout.proofs.SparesLemmas.{Spares-settled}
@@ -29,7 +29,7 @@ IsCopy-stands looked n h g s c commit = record {
 IsCopy-kept : (looked : Looking) (n : Device) (h g : List Block) → IsKept looked n h → Crash n g → IsCopy looked h g
 IsCopy-kept looked n h g k c = IsCopy-stands looked n h g k.stands c (block_at-fixed n g 1 (block_at h 1) k.commit c)
 
-pub left_of_saved : (looked : Looking) (n : Device) (s : Saved) (g : List Block) → IsSaved looked n s → Crash n g → IsLeft looked s g
+pub left_of_saved : (looked : Looking) (n : Device) (s : Saved) (g : List Block) → IsSaved looked n s → Crash n g → IsCrashOfSaved looked s g
 left_of_saved looked n (Kept before) g h c = IsCopy-kept looked n before g h c
 left_of_saved looked n (Ready before next) g h c = IsCopy-kept looked n before g h.kept c
 left_of_saved looked n (InDoubt before next) g h c = elim (h.commit.either (block_at g 1) (c.each 1)) as (λ _. IsCopy looked before g ⊎ IsCopy looked next g) [
@@ -133,7 +133,7 @@ pub Stands-commit : (looked : Looking) (h : List Block) (block : Block) (old new
     → HoldsNoMore (with_queued 1 block old) new → length new.image ≡ length old.image → Stands looked old h → Stands looked new h
 Stands-commit looked h block old new no_more same s = record {
   as_long = same ∙ s.as_long;
-  each = λ x inside other. record { only = λ c held. (s.each x inside other).only c (MayLeave-elsewhere old 1 block x c other (no_more x c held)) };
+  each = λ x inside other. record { only = λ c held. (s.each x inside other).only c (CrashAt-elsewhere old 1 block x c other (no_more x c held)) };
 }
 
 -- a cut leaves one of the two commit blocks, if they differ in one word at most
@@ -143,7 +143,7 @@ IsEither-commit before block old new apart fixed no_more = record {
   either = λ c held.
       IsMadeOf-either (possible (with_queued 1 block old) 1) before block c apart
       (λ d h. elim (possible-with_queued old 1 block 1 d h) as (λ _. (d ≡ before) ⊎ (d ≡ block)) [
-        | inl was ↦ inl (fixed.only d (MayLeave-possible old 1 d was))
+        | inl was ↦ inl (fixed.only d (CrashAt-possible old 1 d was))
         | inr here ↦ inr here.1
       ])
       (no_more 1 c held).words;

@@ -2,7 +2,7 @@
 use Rattle.std.proofs.Common.{◌≡◌, ℕ, List, Contains, refl, sym, ◌∙◌, subst, length}
 use Rattle.thy_block.specs.declared.block.Block.{Block}
 use Rattle.thy_block.specs.Device.{Device, HoldsNoMore, HasFailed, HasFailedToWrite, IsFramed, drained, settled, with_queued, written_to}
-use Rattle.thy_block.proofs.DeviceLemmas.{no_more-drained, no_more-settled, no_more-written_to, MayLeave-elsewhere, length-drained, length-settled, length-written_to}
+use Rattle.thy_block.proofs.DeviceLemmas.{no_more-drained, no_more-settled, no_more-written_to, CrashAt-elsewhere, length-drained, length-settled, length-written_to}
 use Rattle.thy_layout.specs.Spares.{Spares}
 
 pub Spares-same : (places : List ℕ) (old new : Device) → new ≡ old → Spares places old new
@@ -38,7 +38,7 @@ pub Spares-queued : (places : List ℕ) (at : ℕ) (block : Block) (old new : De
     → ¬ Contains places at → HoldsNoMore (with_queued at block old) new → length new.image ≡ length old.image → Spares places old new
 Spares-queued places at block old new other no_more same = record {
   as_long = same;
-  no_more = λ x inside b h. MayLeave-elsewhere old at block x b (λ e. other (subst (λ (y : ℕ). Contains places y) e inside)) (no_more x b h);
+  no_more = λ x inside b h. CrashAt-elsewhere old at block x b (λ e. other (subst (λ (y : ℕ). Contains places y) e inside)) (no_more x b h);
 }
 
 pub Spares-written : (places : List ℕ) (at : ℕ) (block : Block) (old new : Device)

@@ -1,15 +1,15 @@
 -- What a power cut leaves at one place, and what a read gives there.
 use Rattle.std.specs.Prelude.{◌≡◌, ◌⊎◌, ℕ, ◌+◌, ◌<◌, length}
 use Rattle.thy_block.specs.declared.block.Block.{Block}
-use Rattle.thy_block.specs.Device.{Device, MayLeave, newest}
+use Rattle.thy_block.specs.Device.{Device, CrashAt, newest}
 
 -- the only block that a cut may leave at a place
 pub record IsFixed (n : Device) (x : ℕ) (b : Block) : Type 0 where
-  pub only : (c : Block) → MayLeave n x c → c ≡ b
+  pub only : (c : Block) → CrashAt n x c → c ≡ b
 
 -- a cut may leave one of two blocks at a place, and no other
 pub record IsEither (n : Device) (x : ℕ) (a b : Block) : Type 0 where
-  pub either : (c : Block) → MayLeave n x c → (c ≡ a) ⊎ (c ≡ b)
+  pub either : (c : Block) → CrashAt n x c → (c ≡ a) ⊎ (c ≡ b)
 
 -- a read of a place gives this block
 pub record Reads (n : Device) (x : ℕ) (b : Block) : Type 0 where

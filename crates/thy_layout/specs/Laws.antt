@@ -1,10 +1,10 @@
 -- What power cuts leave, for every layout of checkpoints.
 use Rattle.std.specs.Prelude.{◌≡◌, ◌≢◌, ◌⊎◌, ℕ, ◌+◌, ◌<◌, true, List, [], Contains, length}
 use Rattle.thy_block.specs.declared.block.Block.{Block}
-use Rattle.thy_block.specs.Device.{Device, MayLeave, Crash, IsOneWordApart, possible, block_at, newest, drained, settled, with_queued, written_to, IsCut, IsFramed, HoldsNoMore, HasFailed, HasFailedToWrite}
+use Rattle.thy_block.specs.Device.{Device, CrashAt, Crash, IsOneWordApart, possible, block_at, newest, drained, settled, with_queued, written_to, IsCut, IsFramed, HoldsNoMore, HasFailed, HasFailedToWrite}
 use Rattle.thy_block.specs.Places.{commit_place}
 use Rattle.thy_layout.specs.Fixed.{IsFixed, Reads, ReadsFirst}
-use Rattle.thy_layout.specs.Saved.{Looking, IsIssued, next_image, Saved, Kept, Ready, InDoubt, IsSaved, guarded, IsLeft}
+use Rattle.thy_layout.specs.Saved.{Looking, IsIssued, next_image, Saved, Kept, Ready, InDoubt, IsSaved, guarded, IsCrashOfSaved}
 use Rattle.thy_layout.specs.Spares.{Spares}
 
 -- ---- whole blocks, and words
@@ -38,14 +38,14 @@ OneBlockIsQueued =
 abbrev pub OneWordIsEither : Type 0
 OneWordIsEither =
     (n : Device) (x : ℕ) (a c b : Block) → IsOneWordApart a c
-    → ((d : Block) → Contains (possible n x) d → (d ≡ a) ⊎ (d ≡ c)) → MayLeave n x b → (b ≡ a) ⊎ (b ≡ c)
+    → ((d : Block) → Contains (possible n x) d → (d ≡ a) ⊎ (d ≡ c)) → CrashAt n x b → (b ≡ a) ⊎ (b ≡ c)
 
 -- ---- what a cut leaves
 
 -- a cut leaves a copy of the image that is kept; in doubt, of one of the two
 abbrev pub CutLeavesCopy : Type 0
 CutLeavesCopy =
-    (looked : Looking) (n : Device) (s : Saved) (g : List Block) → IsSaved looked n s → Crash n g → IsLeft looked s g
+    (looked : Looking) (n : Device) (s : Saved) (g : List Block) → IsSaved looked n s → Crash n g → IsCrashOfSaved looked s g
 
 -- after a cut, the device has the image kept that was left
 abbrev pub CutIsKept : Type 0

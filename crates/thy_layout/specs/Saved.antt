@@ -55,7 +55,8 @@ IsSaved looked n (Kept before) = IsKept looked n before
 IsSaved looked n (Ready before next) = IsReady looked n before next
 IsSaved looked n (InDoubt before next) = IsInDoubt looked n before next
 
--- the places that no write may touch meanwhile
+-- the places that no write may touch meanwhile: of those in docs/CONTROLLER.md the commit block, place 2, and what is read
+-- of an image in places 1, 3 and 4
 abbrev pub guarded : Looking → Saved → List ℕ
 guarded looked (Kept before) = commit_place ∷ looked before
 guarded looked (Ready before next) = commit_place ∷ (looked before ++ looked next)
@@ -68,7 +69,7 @@ pub record IsCopy (looked : Looking) (h g : List Block) : Type 0 where
   pub each : (x : ℕ) → Contains (looked h) x → block_at g x ≡ block_at h x
 
 -- what a cut leaves of what is saved
-abbrev pub IsLeft : Looking → Saved → List Block → Type 0
-IsLeft looked (Kept before) g = IsCopy looked before g
-IsLeft looked (Ready before next) g = IsCopy looked before g
-IsLeft looked (InDoubt before next) g = IsCopy looked before g ⊎ IsCopy looked next g
+abbrev pub IsCrashOfSaved : Looking → Saved → List Block → Type 0
+IsCrashOfSaved looked (Kept before) g = IsCopy looked before g
+IsCrashOfSaved looked (Ready before next) g = IsCopy looked before g
+IsCrashOfSaved looked (InDoubt before next) g = IsCopy looked before g ⊎ IsCopy looked next g

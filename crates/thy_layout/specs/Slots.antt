@@ -26,6 +26,6 @@ status_fault p ceiling slot = first_fault (status_demands p ceiling slot)
 abbrev pub second_fault : Parameters → List Block → Option BadImage
 second_fault p slot = first_fault (second_demand p slot ∷ [])
 
--- what is wrong with the processor besides its epoch
+-- what is wrong with the processor, apart from its epoch
 abbrev pub cpu_fault : Parameters → ℕ → List Block → Option BadImage
 cpu_fault p ceiling slot = option_or (status_fault p ceiling slot) (second_fault p slot)

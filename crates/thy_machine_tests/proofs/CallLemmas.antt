@@ -31,18 +31,18 @@ use Rattle.thy_parts.specs.Storing.{CanStore, MakesStore}
 use Rattle.thy_parts.proofs.BootLemmas.{boot-drains}
 use Rattle.thy_parts.proofs.HeldLemmas.{IsHeldBlock, held_block, blocks_held}
 use Rattle.thy_compose.proofs.CallLemmas.{booted_then, boots_then, boot_fails_then, drains_then, engines_then, engine_fails_then, fails-down, merges_then, promotes_then, seals_then, store_once}
-use Rattle.thy_dual_parts.specs.Filling.{filling_dual, loads}
-use Rattle.thy_record.specs.DualLayouts.{dual_layouts}
+use Rattle.thy_thynvm_parts.specs.Filling.{filling_thynvm, loads}
+use Rattle.thy_record.specs.ThynvmLayouts.{thynvm_layouts}
 use Rattle.thy_scheme.specs.Boots.{BootDrains, BootFails, BootsOn}
 use Rattle.thy_scheme.specs.Calls.{Drains, EngineFails, Engines, IsOneAccess, Merges, PromotionFails, Promotes, Seals, Stores, TakesNoAction}
 use Rattle.thy_scheme.specs.CheckpointMarks.{CheckpointMarks}
 use Rattle.thy_scheme.specs.Exact.{Makes}
 use Rattle.thy_scheme.specs.Restart.{WritesNothing}
 use Rattle.thy_scheme.specs.Scheme.{IsBooting, Stands, StaysOf}
-use Rattle.thy_dual_parts.specs.Design.{dual_design, dual_parts, is_overlaid, is_promoting}
-use Rattle.thy_dual_parts.specs.Scheme.{dual_scheme}
-use Rattle.thy_dual_parts.proofs.LawLemmas.{applies_nothing, lawful}
-use Rattle.thy_dual_parts.proofs.PartsLemmas.{are_parts}
+use Rattle.thy_thynvm_parts.specs.Design.{thynvm_design, thynvm_parts, is_overlaid, is_promoting}
+use Rattle.thy_thynvm_parts.specs.Scheme.{thynvm_scheme}
+use Rattle.thy_thynvm_parts.proofs.LawLemmas.{applies_nothing, lawful}
+use Rattle.thy_thynvm_parts.proofs.PartsLemmas.{are_parts}
 use Rattle.thy_waiting_laws.specs.Waiting.{Waiting, is_waiting, left_after, left_booted}
 use Rattle.thy_waiting_laws.specs.Scheme.{IsPowered, Stays, is_under_way, item_below, barrier_made}
 use Rattle.thy_waiting_laws.proofs.BootLemmas.{below-boots, boots-over, boot-fails-over}
@@ -50,27 +50,27 @@ use Rattle.thy_waiting_laws.proofs.CallLemmas.{merges-over, promotes-over, drain
 use Rattle.thy_waiting_laws.proofs.RunLemmas.{below-stands, neither}
 use Rattle.thy_machine_tests.specs.Calls.{Below, waiting_scheme, new_waiting, with_below, waited, MakesBarrier, TakesItemBelow, TakesTurn, TakesBoot}
 
-pub stands-below : (o : Origin) (k : CheckpointMarks) (w : Waiting Below) (n : Device) → Stands waiting_scheme o k w n → Stands dual_scheme o k w.below n
-stands-below o k w n stands = below-stands dual_scheme lawful applies_nothing o k w n stands
+pub stands-below : (o : Origin) (k : CheckpointMarks) (w : Waiting Below) (n : Device) → Stands waiting_scheme o k w n → Stands thynvm_scheme o k w.below n
+stands-below o k w n stands = below-stands thynvm_scheme lawful applies_nothing o k w n stands
 
 -- ---- loads
 
 -- a block is held only while the NVM is up and has its size, and then what is held is what is loaded
-pub block-held : (w : Waiting Below) (n : Device) (b : ℕ) → b < length (dual_scheme.holding w.below n).blocks → IsHeldBlock dual_design w.below.control n b
-block-held w n b inside = held_block dual_design w.below.control n b inside
+pub block-held : (w : Waiting Below) (n : Device) (b : ℕ) → b < length (thynvm_scheme.holding w.below n).blocks → IsHeldBlock thynvm_design w.below.control n b
+block-held w n b inside = held_block thynvm_design w.below.control n b inside
 
-pub load-held : (w : Waiting Below) (n : Device) (b : ℕ) (r : Result Block NvmError) → b < length (dual_scheme.holding w.below n).blocks
-    → IfOk r (λ block. block ≡ block_at (loads w.below.control n) b) → IfOk r (λ block. block ≡ block_at (dual_scheme.holding w.below n).blocks b)
+pub load-held : (w : Waiting Below) (n : Device) (b : ℕ) (r : Result Block NvmError) → b < length (thynvm_scheme.holding w.below n).blocks
+    → IfOk r (λ block. block ≡ block_at (loads w.below.control n) b) → IfOk r (λ block. block ≡ block_at (thynvm_scheme.holding w.below n).blocks b)
 load-held w n b r inside ok =
-    let held : IsHeldBlock dual_design w.below.control n b = block-held w n b inside in
+    let held : IsHeldBlock thynvm_design w.below.control n b = block-held w n b inside in
     subst (λ (blocks : List Block). IfOk r (λ block. block ≡ block_at blocks b))
-    (sym (blocks_held dual_design w.below.control n held.agrees held.sized held.up)) ok
+    (sym (blocks_held thynvm_design w.below.control n held.agrees held.sized held.up)) ok
 
 -- a load leaves what stays
-same-below : (s : Below) (n : Device) → StaysBelow dual_design s n s n
+same-below : (s : Below) (n : Device) → StaysBelow thynvm_design s n s n
 same-below s n = lawful.stays_same s n
 
-failed-below : (s : Below) (n m : Device) → HasFailed n m → IsFramed n m → StaysBelow dual_design s n s m
+failed-below : (s : Below) (n m : Device) → HasFailed n m → IsFramed n m → StaysBelow thynvm_design s n s m
 failed-below s n m failed framed = record {
   control = are_parts.storing.load_fails s.control n m failed framed;
   engine = refl;
@@ -79,9 +79,9 @@ failed-below s n m failed framed = record {
   rests = λ r. record { before = r; still = are_parts.storing.still_same s.control };
 }
 
-pub load-stays : {T : Type 0} (w : Waiting Below) (n m : Device) (r : Result T NvmError) → IsReading r n m → Stays dual_scheme w n w m
+pub load-stays : {T : Type 0} (w : Waiting Below) (n m : Device) (r : Result T NvmError) → IsReading r n m → Stays thynvm_scheme w n w m
 load-stays w n m (Ok x) reads =
-    subst (λ (d : Device). Stays dual_scheme w n w d) (sym reads.same) (record { below = same-below w.below n; same = refl })
+    subst (λ (d : Device). Stays thynvm_scheme w n w d) (sym reads.same) (record { below = same-below w.below n; same = refl })
 load-stays w n m (Err x) reads = record { below = failed-below w.below n m reads.err reads.frame; same = refl }
 
 -- ---- what acts below acts, and the other way round
@@ -136,16 +136,16 @@ left-same action later (Err x) w n t m acts = ap (λ (v : Waiting Below). v.left
 
 -- ---- a store
 
-module _ (b : ℕ) (block : Block) (w t : Waiting Below) (n m : Device) (can : CanStore dual_design b w.below.control n) (r : Result Stored NvmError)
-    (acts : Acts (dual_parts.store_action b block w.below.control) (with_below (stored dual_design b block w.below n) w) r w n t m) where
+module _ (b : ℕ) (block : Block) (w t : Waiting Below) (n m : Device) (can : CanStore thynvm_design b w.below.control n) (r : Result Stored NvmError)
+    (acts : Acts (thynvm_parts.store_action b block w.below.control) (with_below (stored thynvm_design b block w.below n) w) r w n t m) where
   abbrev action : Action
-  action = dual_parts.store_action b block w.below.control
+  action = thynvm_parts.store_action b block w.below.control
 
-  lower : Acts (dual_parts.store_action b block w.below.control) (stored dual_design b block w.below n) r w.below n t.below m
-  lower = acts-below (dual_parts.store_action b block w.below.control) (stored dual_design b block w.below n) r w n t m acts
+  lower : Acts (thynvm_parts.store_action b block w.below.control) (stored thynvm_design b block w.below n) r w.below n t.below m
+  lower = acts-below (thynvm_parts.store_action b block w.below.control) (stored thynvm_design b block w.below n) r w n t m acts
 
-  one : IsOneAccess dual_scheme w.below n t.below m
-  one = store_once dual_design are_parts b block w.below n can t.below m r lower
+  one : IsOneAccess thynvm_scheme w.below n t.below m
+  one = store_once thynvm_design are_parts b block w.below n can t.below m r lower
 
   pub stores-once : IsOneAccess waiting_scheme w n t m
   stores-once = record {
@@ -157,31 +157,31 @@ module _ (b : ℕ) (block : Block) (w t : Waiting Below) (n m : Device) (can : C
     frame = one.frame;
     stays = record {
       below = one.stays;
-      same = left-same (dual_parts.store_action b block w.below.control) (stored dual_design b block w.below n) r w n t m acts;
+      same = left-same (thynvm_parts.store_action b block w.below.control) (stored thynvm_design b block w.below n) r w n t m acts;
     };
   }
 
-  made : MakesStore dual_design b block w.below.control n (dual_parts.stored b block w.below.control n) (after (dual_parts.store_action b block w.below.control) n)
+  made : MakesStore thynvm_design b block w.below.control n (thynvm_parts.stored b block w.below.control n) (after (thynvm_parts.store_action b block w.below.control) n)
   made = are_parts.storing.store b block w.below.control n can
 
-stores-by : (b : ℕ) (block : Block) (w t : Waiting Below) (n m : Device) → CanStore dual_design b w.below.control n → (r : Result Stored NvmError)
-    → IfOk r (λ stored. stored ≡ dual_parts.store_answer b w.below.control)
-    → Acts (dual_parts.store_action b block w.below.control) (stored dual_design b block w.below n) r w.below n t.below m
-    → IfOk r (λ stored. HasStored stored b block (holding_of dual_design w.below.control n) (holding_of dual_design t.below.control m))
+stores-by : (b : ℕ) (block : Block) (w t : Waiting Below) (n m : Device) → CanStore thynvm_design b w.below.control n → (r : Result Stored NvmError)
+    → IfOk r (λ stored. stored ≡ thynvm_parts.store_answer b w.below.control)
+    → Acts (thynvm_parts.store_action b block w.below.control) (stored thynvm_design b block w.below n) r w.below n t.below m
+    → IfOk r (λ stored. HasStored stored b block (holding_of thynvm_design w.below.control n) (holding_of thynvm_design t.below.control m))
 stores-by b block w t n m can (Ok x) answer acts =
-    subst (λ (stored : Stored). HasStored stored b block (holding_of dual_design w.below.control n) (holding_of dual_design t.below.control m)) (sym answer)
-    (subst (λ (s : Below). HasStored (dual_parts.store_answer b w.below.control) b block (holding_of dual_design w.below.control n) (holding_of dual_design s.control m)) (sym acts.control)
-    (subst (λ (d : Device). HasStored (dual_parts.store_answer b w.below.control) b block (holding_of dual_design w.below.control n) (holding_of dual_design (dual_parts.stored b block w.below.control n) d)) (sym acts.device)
+    subst (λ (stored : Stored). HasStored stored b block (holding_of thynvm_design w.below.control n) (holding_of thynvm_design t.below.control m)) (sym answer)
+    (subst (λ (s : Below). HasStored (thynvm_parts.store_answer b w.below.control) b block (holding_of thynvm_design w.below.control n) (holding_of thynvm_design s.control m)) (sym acts.control)
+    (subst (λ (d : Device). HasStored (thynvm_parts.store_answer b w.below.control) b block (holding_of thynvm_design w.below.control n) (holding_of thynvm_design (thynvm_parts.stored b block w.below.control n) d)) (sym acts.device)
     (are_parts.storing.store b block w.below.control n can).stored))
 stores-by b block w t n m can (Err x) answer acts = tt
 
-pub stores-then : (b : ℕ) (block : Block) (w t : Waiting Below) (n m : Device) → CanStore dual_design b w.below.control n → (r : Result Stored NvmError)
-    → IfOk r (λ stored. stored ≡ dual_parts.store_answer b w.below.control)
-    → Acts (dual_parts.store_action b block w.below.control) (with_below (stored dual_design b block w.below n) w) r w n t m
+pub stores-then : (b : ℕ) (block : Block) (w t : Waiting Below) (n m : Device) → CanStore thynvm_design b w.below.control n → (r : Result Stored NvmError)
+    → IfOk r (λ stored. stored ≡ thynvm_parts.store_answer b w.below.control)
+    → Acts (thynvm_parts.store_action b block w.below.control) (with_below (stored thynvm_design b block w.below n) w) r w n t m
     → IfOk r (λ stored. Stores waiting_scheme stored b block w n t m)
 stores-then b block w t n m can r answer acts =
     stores-by b block w t n m can r answer
-    (acts-below (dual_parts.store_action b block w.below.control) (stored dual_design b block w.below n) r w n t m acts)
+    (acts-below (thynvm_parts.store_action b block w.below.control) (stored thynvm_design b block w.below n) r w n t m acts)
 
 -- the NVM is up afterwards, unless it failed
 pub up-then : {C T : Type 0} (action : Action) (later : C) (r : Result T NvmError) (s : C) (n : Device) (t : C) (m : Device)
@@ -196,17 +196,17 @@ down-then action later (Err x) s n t m acts = fails-down action n m acts.failed
 
 -- ---- drains, merges, promotions and seals
 
-pub drains-on : (o : Origin) (k : CheckpointMarks) (w t : Waiting Below) (n : Device) → t ≡ with_below (drained dual_design w.below) w
+pub drains-on : (o : Origin) (k : CheckpointMarks) (w t : Waiting Below) (n : Device) → t ≡ with_below (drained thynvm_design w.below) w
     → 0 < w.below.control.dram.queued → Stands waiting_scheme o k w n → Drains waiting_scheme o k w n t
 drains-on o k w t n is some stands =
     subst (λ (x : Waiting Below). Drains waiting_scheme o k w n x) (sym is)
-    (drains-over dual_scheme lawful applies_nothing o k w n stands (drained dual_design w.below)
-    (drains_then dual_design are_parts o k w.below (drained dual_design w.below) n refl some (stands-below o k w n stands)))
+    (drains-over thynvm_scheme lawful applies_nothing o k w n stands (drained thynvm_design w.below)
+    (drains_then thynvm_design are_parts o k w.below (drained thynvm_design w.below) n refl some (stands-below o k w n stands)))
 
-pub boot-drains-on : (o : Origin) (w t : Waiting Below) (n : Device) → t ≡ with_below (drained dual_design w.below) w
+pub boot-drains-on : (o : Origin) (w t : Waiting Below) (n : Device) → t ≡ with_below (drained thynvm_design w.below) w
     → 0 < w.below.control.dram.queued → IsBooting waiting_scheme o w n → BootDrains waiting_scheme o w n t
 boot-drains-on o w t n is some booting =
-    let d : BootDrains dual_scheme o w.below n (drained dual_design w.below) = boot-drains dual_design are_parts o w.below n booting.boots.below some in
+    let d : BootDrains thynvm_scheme o w.below n (drained thynvm_design w.below) = boot-drains thynvm_design are_parts o w.below n booting.boots.below some in
     subst (λ (x : Waiting Below). BootDrains waiting_scheme o w n x) (sym is) (record {
       stays = record {
         boots = record { below = d.stays.boots; none = booting.boots.none };
@@ -218,22 +218,22 @@ boot-drains-on o w t n is some booting =
       queue = d.queue;
     })
 
-pub merges-on : (o : Origin) (k : CheckpointMarks) (w t : Waiting Below) (n : Device) → t ≡ with_below (merged dual_design w.below) w
-    → is_under_way dual_scheme w ≡ false → is_overlaid w.below.control ≡ true → Stands waiting_scheme o k w n → Merges waiting_scheme o k w n t
+pub merges-on : (o : Origin) (k : CheckpointMarks) (w t : Waiting Below) (n : Device) → t ≡ with_below (merged thynvm_design w.below) w
+    → is_under_way thynvm_scheme w ≡ false → is_overlaid w.below.control ≡ true → Stands waiting_scheme o k w n → Merges waiting_scheme o k w n t
 merges-on o k w t n is idle some stands =
-    let way : is_engine_under_way w.below.engine.stage ≡ false = (neither (dual_scheme.under_way w.below) (is_waiting w) idle).0 in
+    let way : is_engine_under_way w.below.engine.stage ≡ false = (neither (thynvm_scheme.under_way w.below) (is_waiting w) idle).0 in
     subst (λ (x : Waiting Below). Merges waiting_scheme o k w n x) (sym is)
-    (merges-over dual_scheme lawful applies_nothing o k w n stands (merged dual_design w.below)
-    (merges_then dual_design are_parts o k w.below (merged dual_design w.below) n refl way some (stands-below o k w n stands)))
+    (merges-over thynvm_scheme lawful applies_nothing o k w n stands (merged thynvm_design w.below)
+    (merges_then thynvm_design are_parts o k w.below (merged thynvm_design w.below) n refl way some (stands-below o k w n stands)))
 
 -- with no block to merge, or to promote, nothing changes
-pub merges-none : (w t : Waiting Below) → t ≡ with_below (merged dual_design w.below) w → is_overlaid w.below.control ≡ false → t ≡ w
+pub merges-none : (w t : Waiting Below) → t ≡ with_below (merged thynvm_design w.below) w → is_overlaid w.below.control ≡ false → t ≡ w
 merges-none w t is none =
-    is ∙ ap (λ (x : Bool). with_below (record w.below { control = if x then dual_parts.pages.merged w.below.control else w.below.control }) w) none
+    is ∙ ap (λ (x : Bool). with_below (record w.below { control = if x then thynvm_parts.pages.merged w.below.control else w.below.control }) w) none
 
-promoted-none : (w : Waiting Below) (n : Device) → is_promoting w.below.control ≡ false → with_below (promoted dual_design w.below n) w ≡ w
+promoted-none : (w : Waiting Below) (n : Device) → is_promoting w.below.control ≡ false → with_below (promoted thynvm_design w.below n) w ≡ w
 promoted-none w n none =
-    ap (λ (x : Bool). with_below (record w.below { control = if x then dual_parts.pages.promoted w.below.control n else w.below.control }) w) none
+    ap (λ (x : Bool). with_below (record w.below { control = if x then thynvm_parts.pages.promoted w.below.control n else w.below.control }) w) none
 
 makes-below : {T : Type 0} (later : Below) (r : Result T NvmError) (w t : Waiting Below) → MakesPromotion (with_below later w) r w t
     → MakesPromotion later r w.below t.below
@@ -241,25 +241,25 @@ makes-below later (Ok x) w t makes = record { made = ap (λ (v : Waiting Below).
 makes-below later (Err x) w t makes = record { made = tt; kept = ap (λ (v : Waiting Below). v.below) makes.kept }
 
 promotes-by : (o : Origin) (k : CheckpointMarks) (w t : Waiting Below) (n m : Device) (r : Result (Unit {0}) NvmError) → Stands waiting_scheme o k w n
-    → MakesPromotion (with_below (promoted dual_design w.below n) w) r w t → OnOk r (Promotes dual_scheme o k w.below n t.below m)
+    → MakesPromotion (with_below (promoted thynvm_design w.below n) w) r w t → OnOk r (Promotes thynvm_scheme o k w.below n t.below m)
     → OnOk r (Promotes waiting_scheme o k w n t m)
 promotes-by o k w t n m (Ok x) stands makes there =
-    let below : t.below ≡ promoted dual_design w.below n = ap (λ (v : Waiting Below). v.below) makes.made in
-    let now : Promotes dual_scheme o k w.below n (promoted dual_design w.below n) m
-    = subst (λ (s : Below). Promotes dual_scheme o k w.below n s m) below there in
+    let below : t.below ≡ promoted thynvm_design w.below n = ap (λ (v : Waiting Below). v.below) makes.made in
+    let now : Promotes thynvm_scheme o k w.below n (promoted thynvm_design w.below n) m
+    = subst (λ (s : Below). Promotes thynvm_scheme o k w.below n s m) below there in
     subst (λ (v : Waiting Below). Promotes waiting_scheme o k w n v m) (sym makes.made)
-    (promotes-over dual_scheme lawful applies_nothing o k w n stands (promoted dual_design w.below n) m now)
+    (promotes-over thynvm_scheme lawful applies_nothing o k w n stands (promoted thynvm_design w.below n) m now)
 promotes-by o k w t n m (Err x) stands makes there = tt
 
 pub promotes-on : (o : Origin) (k : CheckpointMarks) (w t : Waiting Below) (n m : Device) (r : Result (Unit {0}) NvmError)
-    → is_promoting w.below.control ≡ true → MakesPromotion (with_below (promoted dual_design w.below n) w) r w t → IsReading r n m
+    → is_promoting w.below.control ≡ true → MakesPromotion (with_below (promoted thynvm_design w.below n) w) r w t → IsReading r n m
     → Stands waiting_scheme o k w n → OnOk r (Promotes waiting_scheme o k w n t m)
 promotes-on o k w t n m r some makes reads stands =
     promotes-by o k w t n m r stands makes
-    (promotes_then dual_design are_parts o k w.below t.below n m r some (makes-below (promoted dual_design w.below n) r w t makes) reads (stands-below o k w n stands))
+    (promotes_then thynvm_design are_parts o k w.below t.below n m r some (makes-below (promoted thynvm_design w.below n) r w t makes) reads (stands-below o k w n stands))
 
 pub promotes-none : (w t : Waiting Below) (n m : Device) (r : Result (Unit {0}) NvmError) → is_promoting w.below.control ≡ false
-    → MakesPromotion (with_below (promoted dual_design w.below n) w) r w t → OnErr r (is_promoting w.below.control ≡ true) → IsReading r n m
+    → MakesPromotion (with_below (promoted thynvm_design w.below n) w) r w t → OnErr r (is_promoting w.below.control ≡ true) → IsReading r n m
     → TakesNoAction r w n t m
 promotes-none w t n m (Ok x) none makes some reads =
     record { done = tt; scheme = makes.made ∙ promoted-none w n none; nvm = reads.same }
@@ -279,14 +279,14 @@ promotion-stays w t later (Ok x) makes = tt
 promotion-stays w t later (Err x) makes = of-same w t makes.kept
 
 pub seals-on : (o : Origin) (k : CheckpointMarks) (cpu : CpuState) (epoch : ℕ) (w t : Waiting Below) (n : Device)
-    → t ≡ with_below (sealed dual_design cpu epoch w.below) w → is_under_way dual_scheme w ≡ false
+    → t ≡ with_below (sealed thynvm_design cpu epoch w.below) w → is_under_way thynvm_scheme w ≡ false
     → is_promoting w.below.control ≡ false → is_overlaid w.below.control ≡ false
     → Stands waiting_scheme o k w n → Seals waiting_scheme o k cpu epoch w n t
 seals-on o k cpu epoch w t n is idle whole bare stands =
-    let way : is_engine_under_way w.below.engine.stage ≡ false = (neither (dual_scheme.under_way w.below) (is_waiting w) idle).0 in
+    let way : is_engine_under_way w.below.engine.stage ≡ false = (neither (thynvm_scheme.under_way w.below) (is_waiting w) idle).0 in
     subst (λ (x : Waiting Below). Seals waiting_scheme o k cpu epoch w n x) (sym is)
-    (seals-over dual_scheme lawful applies_nothing o k w n stands cpu epoch (sealed dual_design cpu epoch w.below) idle
-    (seals_then dual_design are_parts o k cpu epoch w.below (sealed dual_design cpu epoch w.below) n refl way whole bare (stands-below o k w n stands)))
+    (seals-over thynvm_scheme lawful applies_nothing o k w n stands cpu epoch (sealed thynvm_design cpu epoch w.below) idle
+    (seals_then thynvm_design are_parts o k cpu epoch w.below (sealed thynvm_design cpu epoch w.below) n refl way whole bare (stands-below o k w n stands)))
 
 -- ---- a step of the engine
 
@@ -301,46 +301,46 @@ module _ (o : Origin) (k : CheckpointMarks) (w t : Waiting Below) (n m : Device)
       subst (λ (step : EngineStep). Engines waiting_scheme o k step w n t m) (sym makes.answer)
       (subst (λ (v : Waiting Below). Engines waiting_scheme o k Barrier w n v m) (sym makes.scheme)
       (subst (λ (d : Device). Engines waiting_scheme o k Barrier w n (waited w) d) (sym makes.nvm)
-      (waits-on dual_scheme lawful applies_nothing o k w n stands (lt-ltb 0 w.left some))))
+      (waits-on thynvm_scheme lawful applies_nothing o k w n stands (lt-ltb 0 w.left some))))
   barrier-on some (Err x) makes = tt
 
   barrier-fails : IsFramed n m → (r : Result EngineStep NvmError) → MakesBarrier w n r t m → OnErr r (EngineFails waiting_scheme o k n m)
   barrier-fails framed (Ok x) makes = tt
-  barrier-fails framed (Err x) makes = waiting-fails dual_scheme lawful applies_nothing o k w n stands m makes.err framed
+  barrier-fails framed (Err x) makes = waiting-fails thynvm_scheme lawful applies_nothing o k w n stands m makes.err framed
 
-  item-by : (r : Result EngineStep NvmError) → dual_scheme.under_way w.below ≡ true → IfOk r (λ step. t.left ≡ left_after step)
-      → IfOk r (λ step. Engines dual_scheme o k step w.below n t.below m) → IfOk r (λ step. Engines waiting_scheme o k step w n t m)
+  item-by : (r : Result EngineStep NvmError) → thynvm_scheme.under_way w.below ≡ true → IfOk r (λ step. t.left ≡ left_after step)
+      → IfOk r (λ step. Engines thynvm_scheme o k step w.below n t.below m) → IfOk r (λ step. Engines waiting_scheme o k step w n t m)
   item-by (Ok step) on left there =
       subst (λ (l : ℕ). Engines waiting_scheme o k step w n (record { below = t.below; left = l }) m) (sym left)
-      (engines-over dual_scheme lawful applies_nothing o k w n stands step t.below m on there)
+      (engines-over thynvm_scheme lawful applies_nothing o k w n stands step t.below m on there)
   item-by (Err x) on left there = tt
 
-  item-fails-by : (r : Result EngineStep NvmError) → OnErr r (EngineFails dual_scheme o k n m) → OnErr r (EngineFails waiting_scheme o k n m)
+  item-fails-by : (r : Result EngineStep NvmError) → OnErr r (EngineFails thynvm_scheme o k n m) → OnErr r (EngineFails waiting_scheme o k n m)
   item-fails-by (Ok step) there = tt
-  item-fails-by (Err x) there = engine-fails-over dual_scheme lawful applies_nothing o k w n stands m there
+  item-fails-by (Err x) there = engine-fails-over thynvm_scheme lawful applies_nothing o k w n stands m there
 
-  item-on : dual_scheme.under_way w.below ≡ true → (r : Result EngineStep NvmError) → TakesItemBelow w n r t m
+  item-on : thynvm_scheme.under_way w.below ≡ true → (r : Result EngineStep NvmError) → TakesItemBelow w n r t m
       → IfOk r (λ step. Engines waiting_scheme o k step w n t m)
   item-on on r takes =
       item-by r on takes.left
-      (engines_then dual_design are_parts o k w.below t.below n m on (stands-below o k w n stands) r takes.answer takes.acts)
+      (engines_then thynvm_design are_parts o k w.below t.below n m on (stands-below o k w n stands) r takes.answer takes.acts)
 
-  item-fails : dual_scheme.under_way w.below ≡ true → (r : Result EngineStep NvmError) → TakesItemBelow w n r t m
+  item-fails : thynvm_scheme.under_way w.below ≡ true → (r : Result EngineStep NvmError) → TakesItemBelow w n r t m
       → OnErr r (EngineFails waiting_scheme o k n m)
   item-fails on r takes =
-      item-fails-by r (engine_fails_then dual_design are_parts o k w.below t.below n m on (stands-below o k w n stands) r takes.acts)
+      item-fails-by r (engine_fails_then thynvm_design are_parts o k w.below t.below n m on (stands-below o k w n stands) r takes.acts)
 
-  on-below : is_under_way dual_scheme w ≡ true → w.left ≡ 0 → dual_scheme.under_way w.below ≡ true
-  on-below on none = way-below (dual_scheme.under_way w.below) w.left on (omega (arith, none))
+  on-below : is_under_way thynvm_scheme w ≡ true → w.left ≡ 0 → thynvm_scheme.under_way w.below ≡ true
+  on-below on none = way-below (thynvm_scheme.under_way w.below) w.left on (omega (arith, none))
 
-  pub engines-on : is_under_way dual_scheme w ≡ true → (r : Result EngineStep NvmError) → TakesTurn w n r t m
+  pub engines-on : is_under_way thynvm_scheme w ≡ true → (r : Result EngineStep NvmError) → TakesTurn w n r t m
       → IfOk r (λ step. Engines waiting_scheme o k step w n t m)
   engines-on on r takes = by_left w.left refl where
     by_left : (left : ℕ) → w.left ≡ left → IfOk r (λ step. Engines waiting_scheme o k step w n t m)
     by_left zero is = item-on (on-below on is) r (takes.goes is)
     by_left (suc left) is = barrier-on (omega (arith, is)) r (takes.waits (omega (arith, is)))
 
-  pub engine-fails-on : is_under_way dual_scheme w ≡ true → IsFramed n m → (r : Result EngineStep NvmError) → TakesTurn w n r t m
+  pub engine-fails-on : is_under_way thynvm_scheme w ≡ true → IsFramed n m → (r : Result EngineStep NvmError) → TakesTurn w n r t m
       → OnErr r (EngineFails waiting_scheme o k n m)
   engine-fails-on on framed r takes = by_left w.left refl where
     by_left : (left : ℕ) → w.left ≡ left → OnErr r (EngineFails waiting_scheme o k n m)
@@ -354,7 +354,7 @@ barrier-stays w t n m (Err x) makes = of-same w t makes.kept
 
 item-stays : (w t : Waiting Below) (n m : Device) (r : Result EngineStep NvmError) → TakesItemBelow w n r t m → OnErr r (StaysOf waiting_scheme w t)
 item-stays w t n m (Ok x) takes = tt
-item-stays w t n m (Err x) takes = λ p of. subst (λ (s : Below). dual_scheme.is_of p s) (sym takes.acts.kept) of
+item-stays w t n m (Err x) takes = λ p of. subst (λ (s : Below). thynvm_scheme.is_of p s) (sym takes.acts.kept) of
 
 pub engine-stays : (w t : Waiting Below) (n m : Device) (r : Result EngineStep NvmError) → TakesTurn w n r t m → OnErr r (StaysOf waiting_scheme w t)
 engine-stays w t n m r takes = by_left w.left refl where
@@ -366,32 +366,32 @@ engine-stays w t n m r takes = by_left w.left refl where
 
 module _ (o : Origin) (start : Start) (w t : Waiting Below) (n m : Device) (begins : Begins o start) (booting : IsBooting waiting_scheme o w n)
     (sound : AreSoundTables t.below.control) where
-  boots-by : (r : Result BootStep NvmError) → IfOk r (λ step. t.left ≡ left_booted step) → IfOk r (λ step. BootsOn dual_scheme o step w.below n t.below m)
+  boots-by : (r : Result BootStep NvmError) → IfOk r (λ step. t.left ≡ left_booted step) → IfOk r (λ step. BootsOn thynvm_scheme o step w.below n t.below m)
       → IfOk r (λ step. BootsOn waiting_scheme o step w n t m)
   boots-by (Ok step) left there =
       subst (λ (l : ℕ). BootsOn waiting_scheme o step w n (record { below = t.below; left = l }) m) (sym left)
-      (boots-over dual_scheme lawful o step w n t.below m there)
+      (boots-over thynvm_scheme lawful o step w n t.below m there)
   boots-by (Err x) left there = tt
 
-  boot-fails-by : (r : Result BootStep NvmError) → OnErr r (BootFails dual_scheme o w.below n m) → OnErr r (BootFails waiting_scheme o w n m)
+  boot-fails-by : (r : Result BootStep NvmError) → OnErr r (BootFails thynvm_scheme o w.below n m) → OnErr r (BootFails waiting_scheme o w n m)
   boot-fails-by (Ok step) there = tt
-  boot-fails-by (Err x) there = boot-fails-over dual_scheme lawful o w n m there
+  boot-fails-by (Err x) there = boot-fails-over thynvm_scheme lawful o w n m there
 
   pub boots-on : (r : Result BootStep NvmError) → TakesBoot start w n r t m → IfOk r (λ step. BootsOn waiting_scheme o step w n t m)
   boots-on r takes =
       boots-by r takes.left
-      (boots_then dual_design are_parts o start w.below t.below n m r begins (below-boots dual_scheme o w n booting) takes.below sound)
+      (boots_then thynvm_design are_parts o start w.below t.below n m r begins (below-boots thynvm_scheme o w n booting) takes.below sound)
 
   pub boot-fails-on : (r : Result BootStep NvmError) → TakesBoot start w n r t m → OnErr r (BootFails waiting_scheme o w n m)
   boot-fails-on r takes =
       boot-fails-by r
-      (boot_fails_then dual_design are_parts o start w.below t.below n m r begins (below-boots dual_scheme o w n booting) takes.below sound)
+      (boot_fails_then thynvm_design are_parts o start w.below t.below n m r begins (below-boots thynvm_scheme o w n booting) takes.below sound)
 
 -- if a checkpoint was found and is not migrated, it writes nothing
 pub boot-writes : {T : Type 0} (start : Start) (w : Waiting Below) (n : Device) (r : Result T NvmError) (old new : ℕ)
-    → Counts (action_of filling_dual (state_of start.state) w.below.boot w.below.control) r old new → WritesNothing waiting_scheme w n old new
+    → Counts (action_of filling_thynvm (state_of start.state) w.below.boot w.below.control) r old new → WritesNothing waiting_scheme w n old new
 boot-writes start w n r old new counts = λ o m boots done rests.
-    writes_nothing filling_dual (reading dual_layouts) o n m r old new (state_of start.state) w.below.boot w.below.control w.below.boot.stage done rests counts
+    writes_nothing filling_thynvm (reading thynvm_layouts) o n m r old new (state_of start.state) w.below.boot w.below.control w.below.boot.stage done rests counts
 
 -- a step of the boot that failed leaves the scheme one of its geometry
 pub boot-stays : (start : Start) (w t : Waiting Below) (n m : Device) (r : Result BootStep NvmError) → TakesBoot start w n r t m
@@ -408,9 +408,9 @@ boot-stays start w t n m (Err x) takes = λ p of.
 -- ---- power comes on
 
 pub powers : {E : Type 0} (p : Parameters) (dram : Contents) → IsDramOf p dram → (r : Result (Waiting Below) E)
-    → IfOk r (λ w. w ≡ new_waiting p dram) → IfOk r (λ w. IsPowered dual_scheme p w)
+    → IfOk r (λ w. w ≡ new_waiting p dram) → IfOk r (λ w. IsPowered thynvm_scheme p w)
 powers p dram sized (Ok w) made =
-    subst (λ (v : Waiting Below). IsPowered dual_scheme p v) (sym made) (record {
+    subst (λ (v : Waiting Below). IsPowered thynvm_scheme p v) (sym made) (record {
       below = record {
         dram = dram;
         is_dram = sized;
@@ -437,7 +437,7 @@ made-barrier w t n m (Ok step) makes = record { answer_is = makes.answer; scheme
 made-barrier w t n m (Err x) makes = tt
 
 made-item : (w t : Waiting Below) (n m : Device) (r : Result EngineStep NvmError) → TakesItemBelow w n r t m
-    → IfOk r (λ step. Makes (item_below (dual_scheme.calls.engine w.below n)) step n t m)
+    → IfOk r (λ step. Makes (item_below (thynvm_scheme.calls.engine w.below n)) step n t m)
 made-item w t n m (Ok step) takes = record {
   answer_is = takes.answer;
   scheme_is = ap₂ (λ (s : Below) (left : ℕ). record w { below = s; left = left }) takes.acts.control (takes.left ∙ ap left_after takes.answer);
@@ -446,7 +446,7 @@ made-item w t n m (Ok step) takes = record {
 made-item w t n m (Err x) takes = tt
 
 made-by : (w t : Waiting Below) (n m : Device) (r : Result EngineStep NvmError) → TakesTurn w n r t m → (waits : Bool) → nat_lt 0 w.left ≡ waits
-    → IfOk r (λ step. Makes (if waits then barrier_made w else item_below (dual_scheme.calls.engine w.below n)) step n t m)
+    → IfOk r (λ step. Makes (if waits then barrier_made w else item_below (thynvm_scheme.calls.engine w.below n)) step n t m)
 made-by w t n m r takes true is = made-barrier w t n m r (takes.waits (ltb-true 0 w.left is))
 made-by w t n m r takes false is = made-item w t n m r (takes.goes (let none = ltb-false 0 w.left is in omega (arith, none)))
 
@@ -456,5 +456,5 @@ engine-made w t n m r takes = made-by w t n m r takes (nat_lt 0 w.left) refl
 
 pub boot-made : (start : Start) (w t : Waiting Below) (n m : Device) (r : Result BootStep NvmError) → TakesBoot start w n r t m
     → IfOk r (λ step. waiting_scheme.calls.boot (state_of start.state) w n step t m)
-boot-made start w t n m (Ok step) takes = (booted_then dual_design start w.below t.below n m (Ok step) takes.below, takes.left)
+boot-made start w t n m (Ok step) takes = (booted_then thynvm_design start w.below t.below n m (Ok step) takes.below, takes.left)
 boot-made start w t n m (Err x) takes = tt

@@ -19,7 +19,7 @@ use Rattle.thy_layout.specs.declared.start.Start.{Start}
 use Rattle.thy_view.specs.Booting.{found_first}
 use Rattle.thy_view.specs.Kind.{KindOf, IsLawful, IsFittedFor, IsStep}
 use Rattle.thy_view.specs.Origin.{Origin, IsOrigin, StartsFrom, setting_of}
-use Rattle.thy_view.specs.Told.{HasTurn, IsThere}
+use Rattle.thy_view.specs.WithTurns.{HasTurn, IsThere}
 use Rattle.thy_view.specs.declared.did.Stepped.{Stepped}
 use Rattle.thy_view.proofs.AgainLaws.{goes_on_after_cut}
 use Rattle.thy_view.proofs.OneHartLaws.{has-turn}

@@ -13,10 +13,10 @@ use Rattle.thy_layout.specs.declared.start.Start.{Start}
 use Rattle.thy_view.specs.declared.boot_step.BootStep.{BootStep}
 use Rattle.thy_parts.specs.Calls.{TakesBootStep, powered_on, step_of, taken}
 use Rattle.thy_parts.specs.Design.{Composed}
-use Rattle.thy_dual_parts.specs.Filling.{filling_dual}
+use Rattle.thy_thynvm_parts.specs.Filling.{filling_thynvm}
 use Rattle.thy_scheme.specs.Scheme.{SchemeOf}
-use Rattle.thy_dual_parts.specs.Design.{items_dual, dual_design}
-use Rattle.thy_dual_parts.specs.Scheme.{dual_scheme}
+use Rattle.thy_thynvm_parts.specs.Design.{items_thynvm, thynvm_design}
+use Rattle.thy_thynvm_parts.specs.Scheme.{thynvm_scheme}
 use Rattle.thy_waiting_laws.specs.Waiting.{Waiting, left_after, left_booted}
 use Rattle.thy_waiting_laws.specs.Scheme.{waits_over}
 
@@ -25,11 +25,11 @@ abbrev pub Below : Type 0
 Below = Composed State
 
 abbrev pub waiting_scheme : SchemeOf (Waiting Below)
-waiting_scheme = waits_over dual_scheme
+waiting_scheme = waits_over thynvm_scheme
 
 -- a new one has a new one below, and no barrier is left
 abbrev pub new_waiting : Parameters → Contents → Waiting Below
-new_waiting p dram = record { below = powered_on dual_design p dram; left = 0 }
+new_waiting p dram = record { below = powered_on thynvm_design p dram; left = 0 }
 
 -- the scheme with this one below, and the same number of barriers left
 abbrev pub with_below : Below → Waiting Below → Waiting Below
@@ -51,8 +51,8 @@ pub record MakesBarrier (w : Waiting Below) (n : Device)
 -- the scheme below takes its next item; if it is a commit, barriers are left after it
 pub record TakesItemBelow (w : Waiting Below) (n : Device)
     (result : Result EngineStep NvmError) (t : Waiting Below) (new : Device) : Type 0 where
-  pub answer : IfOk result (λ step. step ≡ step_of dual_design w.below)
-  pub acts : Acts (action_next filling_dual items_dual w.below.engine w.below.control n) (taken dual_design w.below) result w.below n t.below new
+  pub answer : IfOk result (λ step. step ≡ step_of thynvm_design w.below)
+  pub acts : Acts (action_next filling_thynvm items_thynvm w.below.engine w.below.control n) (taken thynvm_design w.below) result w.below n t.below new
   pub left : IfOk result (λ step. t.left ≡ left_after step)
   pub kept : OnErr result (t.left ≡ w.left)
 
@@ -65,6 +65,6 @@ pub record TakesTurn (w : Waiting Below) (n : Device)
 -- a step of the boot is the scheme below's; if it is a restart, barriers are left after it
 pub record TakesBoot (start : Start) (w : Waiting Below) (n : Device)
     (result : Result BootStep NvmError) (t : Waiting Below) (new : Device) : Type 0 where
-  pub below : TakesBootStep dual_design start w.below n result t.below new
+  pub below : TakesBootStep thynvm_design start w.below n result t.below new
   pub left : IfOk result (λ step. t.left ≡ left_booted step)
   pub kept : OnErr result (t.left ≡ w.left)

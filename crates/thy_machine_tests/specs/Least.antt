@@ -43,4 +43,4 @@ off p dram n cuts = record { p = p; dram = dram; nvm = n; cuts = cuts }
 -- what a boot returned says that it continues
 abbrev pub goes_on : BootStep → Bool
 goes_on GoesOn = true
-goes_on told = false
+goes_on reported = false

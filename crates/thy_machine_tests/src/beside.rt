@@ -280,11 +280,11 @@ impl Versions {
     pub(crate) fn compare_found(
         &mut self,
         rt: &impl Abort,
-        told: BootStep,
+        reported: BootStep,
         pick: u64,
         seen: &mut Seen,
     ) {
-        match told {
+        match reported {
             BootStep::Restarted(cpu, epoch) => {
                 self.found(rt, epoch, pick, seen);
                 let want = if epoch == 0 {

@@ -2,13 +2,13 @@
 //! shadow paging, by their calls. They promise nothing that is proved; they show what no contract says: ends,
 //! checkpoints and restarts compared with the plain machine's, and what is found after a cut, beside plain lists.
 //!
-//! `WaitingScheme` is the scheme of both tables, but the hart may not run while a checkpoint is under way, and after
+//! `WaitingScheme` is the scheme thynvm, but the hart may not run while a checkpoint is under way, and after
 //! each commit and each restart the engine makes three barriers before the hart runs: an example of a scheme of another
 //! kind. No program runs on it, only tests.
 //!
 //! Open src/machine.rt first, then src/log/random.rt and src/log/parts.rt; src/pool is as src/log; of the scheme that
 //! waits src/waiting.rt, specs/Calls.antt and src/scheme.rt. specs/ has what is asked of the values that tests pass on.
-//! It depends on thy_core, thy_dual, thy_waiting_laws, thy_journal, thy_shadow and thy_plain, with their dependencies;
+//! It depends on thy_core, thy_thynvm, thy_waiting_laws, thy_journal, thy_shadow and thy_plain, with their dependencies;
 //! nothing depends on it.
 #![tactic(auto)]
 

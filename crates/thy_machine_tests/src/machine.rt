@@ -20,11 +20,11 @@ use std::process::Abort;
 use thy_base::{Bytes, EndCause, Geometry, Lcg, Mark, Mix, Nvm, Parameters, SchemeName, Shape};
 use thy_core::Machine;
 use thy_dram::Dram;
-use thy_dual::DualScheme;
 use thy_isa::{CpuState, MachState, Status};
 use thy_layout::{EngineStep, Start};
 use thy_nvm::MemNvm;
-use thy_plain::{Plain, are_bytes, start_of};
+use thy_plain::{Plain, recall_are_bytes, start_of};
+use thy_thynvm::Thynvm;
 use thy_view::{Computer, Did, Stepped};
 
 /// A program, and the result of its run without cuts.
@@ -129,7 +129,7 @@ fn start_for(rt: &impl Abort, alloc: Global, geometry: &Geometry, words: &[u32])
 {
     let _numbers = geometry.numbers();
     let input = Bytes::new(alloc);
-    are_bytes(input.as_slice());
+    recall_are_bytes(input.as_slice());
     Start {
         state: start_of(alloc, image_of(rt, alloc, words), geometry),
         kept: None,
@@ -590,85 +590,85 @@ fn survives_once_loaded<M: Computer>(rt: &impl Abort, alloc: Global, row: &Row, 
 
 #[test]
 fn epochs_of_one_survive_every_cut_by_schedule_0(rt: HostRuntime) {
-    survives::<Machine<DualScheme>>(&rt, rt.alloc(), &EPOCH_OF_ONE, 0);
+    survives::<Machine<Thynvm>>(&rt, rt.alloc(), &EPOCH_OF_ONE, 0);
 }
 
 #[test]
 fn epochs_of_one_survive_every_cut_by_schedule_1(rt: HostRuntime) {
-    survives::<Machine<DualScheme>>(&rt, rt.alloc(), &EPOCH_OF_ONE, 1);
+    survives::<Machine<Thynvm>>(&rt, rt.alloc(), &EPOCH_OF_ONE, 1);
 }
 
 #[test]
 fn epochs_of_one_survive_every_cut_by_schedule_2(rt: HostRuntime) {
-    survives::<Machine<DualScheme>>(&rt, rt.alloc(), &EPOCH_OF_ONE, 2);
+    survives::<Machine<Thynvm>>(&rt, rt.alloc(), &EPOCH_OF_ONE, 2);
 }
 
 #[test]
 fn epochs_of_one_survive_every_cut_by_schedule_3(rt: HostRuntime) {
-    survives::<Machine<DualScheme>>(&rt, rt.alloc(), &EPOCH_OF_ONE, 3);
+    survives::<Machine<Thynvm>>(&rt, rt.alloc(), &EPOCH_OF_ONE, 3);
 }
 
 #[test]
 fn epochs_of_one_survive_every_cut_by_schedule_4(rt: HostRuntime) {
-    survives::<Machine<DualScheme>>(&rt, rt.alloc(), &EPOCH_OF_ONE, 4);
+    survives::<Machine<Thynvm>>(&rt, rt.alloc(), &EPOCH_OF_ONE, 4);
 }
 
 #[test]
 fn epochs_of_one_survive_every_cut_by_schedule_5(rt: HostRuntime) {
-    survives::<Machine<DualScheme>>(&rt, rt.alloc(), &EPOCH_OF_ONE, 5);
+    survives::<Machine<Thynvm>>(&rt, rt.alloc(), &EPOCH_OF_ONE, 5);
 }
 
 #[test]
 fn epochs_of_one_survive_every_cut_by_schedule_6(rt: HostRuntime) {
-    survives::<Machine<DualScheme>>(&rt, rt.alloc(), &EPOCH_OF_ONE, 6);
+    survives::<Machine<Thynvm>>(&rt, rt.alloc(), &EPOCH_OF_ONE, 6);
 }
 
 #[test]
 fn epochs_of_one_survive_every_cut_by_schedule_7(rt: HostRuntime) {
-    survives::<Machine<DualScheme>>(&rt, rt.alloc(), &EPOCH_OF_ONE, 7);
+    survives::<Machine<Thynvm>>(&rt, rt.alloc(), &EPOCH_OF_ONE, 7);
 }
 
 #[test]
 fn epochs_of_one_survive_every_cut_by_schedule_8(rt: HostRuntime) {
-    survives::<Machine<DualScheme>>(&rt, rt.alloc(), &EPOCH_OF_ONE, 8);
+    survives::<Machine<Thynvm>>(&rt, rt.alloc(), &EPOCH_OF_ONE, 8);
 }
 
 #[test]
 fn nine_stores_survive_every_cut_by_schedule_0(rt: HostRuntime) {
-    survives::<Machine<DualScheme>>(&rt, rt.alloc(), &NINE_STORES, 0);
+    survives::<Machine<Thynvm>>(&rt, rt.alloc(), &NINE_STORES, 0);
 }
 
 #[test]
 fn nine_stores_survive_every_cut_by_schedule_1(rt: HostRuntime) {
-    survives::<Machine<DualScheme>>(&rt, rt.alloc(), &NINE_STORES, 1);
+    survives::<Machine<Thynvm>>(&rt, rt.alloc(), &NINE_STORES, 1);
 }
 
 #[test]
 fn nine_stores_survive_every_cut_by_schedule_2(rt: HostRuntime) {
-    survives::<Machine<DualScheme>>(&rt, rt.alloc(), &NINE_STORES, 2);
+    survives::<Machine<Thynvm>>(&rt, rt.alloc(), &NINE_STORES, 2);
 }
 
 #[test]
 fn nine_stores_survive_every_cut_by_schedule_3(rt: HostRuntime) {
-    survives::<Machine<DualScheme>>(&rt, rt.alloc(), &NINE_STORES, 3);
+    survives::<Machine<Thynvm>>(&rt, rt.alloc(), &NINE_STORES, 3);
 }
 
 #[test]
 fn nine_stores_survive_every_cut_by_schedule_4(rt: HostRuntime) {
-    survives::<Machine<DualScheme>>(&rt, rt.alloc(), &NINE_STORES, 4);
+    survives::<Machine<Thynvm>>(&rt, rt.alloc(), &NINE_STORES, 4);
 }
 
 #[test]
 fn nine_stores_survive_every_cut_by_schedule_5(rt: HostRuntime) {
-    survives::<Machine<DualScheme>>(&rt, rt.alloc(), &NINE_STORES, 5);
+    survives::<Machine<Thynvm>>(&rt, rt.alloc(), &NINE_STORES, 5);
 }
 
 #[test]
 fn nine_stores_survive_every_cut_by_schedule_6(rt: HostRuntime) {
-    survives::<Machine<DualScheme>>(&rt, rt.alloc(), &NINE_STORES, 6);
+    survives::<Machine<Thynvm>>(&rt, rt.alloc(), &NINE_STORES, 6);
 }
 
 #[test]
 fn nine_stores_survive_every_cut_by_schedule_7(rt: HostRuntime) {
-    survives::<Machine<DualScheme>>(&rt, rt.alloc(), &NINE_STORES, 7);
+    survives::<Machine<Thynvm>>(&rt, rt.alloc(), &NINE_STORES, 7);
 }

@@ -3,25 +3,25 @@ use crate::waiting::WaitingScheme;
 use std::alloc::{AllocError, Global};
 use thy_block::{Block, Geometry, Nvm, NvmError, Stored};
 use thy_dram::Dram;
-use thy_dual::DualScheme;
 use thy_isa::CpuState;
 use thy_layout::{EngineStep, Start};
 use thy_scheme::Scheme;
+use thy_thynvm::Thynvm;
 use thy_view::BootStep;
 
 /// Each call makes of scheme and NVM exactly what one call of the scheme below makes of them, and answers the same. A
 /// step of the engine is one barrier instead if one is left. After a commit and after a restart three barriers are left;
 /// no call but these and such a step changes the number.
 impl Scheme for WaitingScheme {
-    ghost use Rattle.thy_dual_parts.proofs.LawLemmas.{applies_nothing, lawful as laws_below};
-    ghost use Rattle.thy_dual_parts.specs.Scheme.{dual_scheme};
+    ghost use Rattle.thy_thynvm_parts.proofs.LawLemmas.{applies_nothing, lawful as laws_below};
+    ghost use Rattle.thy_thynvm_parts.specs.Scheme.{thynvm_scheme};
     ghost use Rattle.thy_waiting_laws.proofs.LawfulLemmas.{lawful as laws_over};
     ghost use Rattle.thy_machine_tests.specs.Calls.{waiting_scheme};
 
     ghost scheme = { waiting_scheme };
 
     fn nvm_blocks(geometry: &Geometry) -> u64 {
-        DualScheme::nvm_blocks(geometry)
+        Thynvm::nvm_blocks(geometry)
     }
 
     fn new(alloc: Global, geometry: &Geometry, dram: Dram) -> Result<WaitingScheme, AllocError> {
@@ -37,7 +37,7 @@ impl Scheme for WaitingScheme {
     }
 
     fn store<N: Nvm>(&mut self, b: u64, block: &Block, nvm: &mut N) -> Result<Stored, NvmError> {
-        self.sound();
+        self.recall_sound();
         self.store_block(b, block, nvm)
     }
 
@@ -97,5 +97,5 @@ impl Scheme for WaitingScheme {
         self.is_loading()
     }
 
-    ghost lawful = { laws_over dual_scheme laws_below applies_nothing };
+    ghost lawful = { laws_over thynvm_scheme laws_below applies_nothing };
 }

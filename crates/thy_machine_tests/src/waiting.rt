@@ -7,14 +7,14 @@ ghost use Rattle.thy_checkpoint.specs.Steps.{CanStep, action_of};
 ghost use Rattle.thy_parts.specs.Seen.{loads_at};
 ghost use Rattle.thy_control.specs.State.{AreSoundTables};
 ghost use Rattle.thy_dram.specs.Contents.{lost};
-ghost use Rattle.thy_dual_parts.specs.Design.{items_dual, dual_parts, dual_design, is_overlaid, is_promoting, penults};
-ghost use Rattle.thy_dual_parts.specs.Scheme.{dual_scheme};
+ghost use Rattle.thy_thynvm_parts.specs.Design.{items_thynvm, thynvm_parts, thynvm_design, is_overlaid, is_promoting, penults};
+ghost use Rattle.thy_thynvm_parts.specs.Scheme.{thynvm_scheme};
 ghost use Rattle.thy_checkpoint.specs.Progress.{Acts, Fits, is_under_way as is_engine_under_way};
 ghost use Rattle.thy_isa.specs.Step.{state_of};
 ghost use Rattle.thy_parts.specs.Calls.{IsReading, Promotes, drained, merged, promoted, sealed, stored};
 ghost use Rattle.thy_parts.specs.Storing.{CanStore};
 ghost use Rattle.thy_table.specs.Places.{image_blocks};
-ghost use Rattle.thy_dual_parts.specs.Filling.{filling_dual, loads};
+ghost use Rattle.thy_thynvm_parts.specs.Filling.{filling_thynvm, loads};
 ghost use Rattle.thy_view.specs.Kind.{IsDramOf};
 ghost use Rattle.thy_waiting_laws.specs.Scheme.{is_under_way};
 ghost use Rattle.thy_waiting_laws.specs.Waiting.{left_after, left_booted};
@@ -24,20 +24,20 @@ use std::alloc::{AllocError, Global};
 use std::marker::Model;
 use thy_block::{Block, Geometry, Nvm, NvmError, Stored};
 use thy_dram::Dram;
-use thy_dual::DualScheme;
 use thy_isa::CpuState;
 use thy_layout::{EngineStep, Start};
 use thy_scheme::Scheme;
+use thy_thynvm::Thynvm;
 use thy_view::BootStep;
 
 /// How many barriers follow a commit or a restart.
 const BARRIERS: u64 = 3;
 
-/// The scheme of both tables, whose checkpoints the hart waits for: it may not run until the epoch that is sealed is
+/// The scheme thynvm, whose checkpoints the hart waits for: it may not run until the epoch that is sealed is
 /// committed and three more barriers are made. After a restart, too, it waits for three barriers.
 #[derive(Drop)]
 pub struct WaitingScheme {
-    pub(crate) below: DualScheme,
+    pub(crate) below: Thynvm,
     /// The barriers that are left.
     pub(crate) left: u64,
 }
@@ -103,7 +103,7 @@ impl WaitingScheme {
         requires { IsDramOf geometry.now dram }
         ensures { IfOk result (λ w. w ≡ new_waiting geometry.now dram) }
     {
-        let below = DualScheme::power_on(alloc, geometry, dram)?;
+        let below = Thynvm::power_on(alloc, geometry, dram)?;
         Ok(WaitingScheme { below, left: 0 })
     }
 
@@ -115,10 +115,10 @@ impl WaitingScheme {
     }
 
     /// The controller's tables are sound. The call does nothing.
-    pub fn sound(&self)
+    pub fn recall_sound(&self)
         ensures { AreSoundTables self.now.below.control }
     {
-        self.below.sound();
+        self.below.recall_sound();
     }
 
     /// Loads block `b`, as it was stored last.
@@ -128,7 +128,7 @@ impl WaitingScheme {
         requires up { (N.device nvm.old).down ≡ false }
         ensures ok { let held = loads self.now.below.control (N.device nvm.old) in
             IfOk result (λ block. block ≡ block_at held b) }
-        ensures side { OnErr result (dual_parts.load_reads self.now.below.control b ≡ true) }
+        ensures side { OnErr result (thynvm_parts.load_reads self.now.below.control b ≡ true) }
         ensures reads { IsReading result (N.device nvm.old) (N.device nvm.new) }
         ensures same_writes { N.writes nvm.new ≡ N.writes nvm.old }
     {
@@ -155,11 +155,11 @@ impl WaitingScheme {
         block: &Block,
         nvm: &mut N,
     ) -> Result<Stored, NvmError>
-        requires { CanStore dual_design b self.old.below.control (N.device nvm.old) }
-        ensures answer { IfOk result (λ stored. stored ≡ dual_parts.store_answer b self.old.below.control) }
+        requires { CanStore thynvm_design b self.old.below.control (N.device nvm.old) }
+        ensures answer { IfOk result (λ stored. stored ≡ thynvm_parts.store_answer b self.old.below.control) }
         ensures acts { let n = N.device nvm.old in let below = self.old.below in
-            let later = with_below (stored dual_design b block.now below n) self.old in
-            Acts (dual_parts.store_action b block.now below.control) later result self.old n self.new (N.device nvm.new) }
+            let later = with_below (stored thynvm_design b block.now below n) self.old in
+            Acts (thynvm_parts.store_action b block.now below.control) later result self.old n self.new (N.device nvm.new) }
     {
         self.below.store_block(b, block, nvm)
     }
@@ -167,14 +167,14 @@ impl WaitingScheme {
     /// Lets the oldest queued write of the DRAM land.
     pub fn drain_one(&mut self)
         requires { 0 < self.old.below.control.dram.queued }
-        ensures { self.new ≡ with_below (drained dual_design self.old.below) self.old }
+        ensures { self.new ≡ with_below (drained thynvm_design self.old.below) self.old }
     {
         self.below.drain_one();
     }
 
     /// Merges the next block that lies over its page, if there is one.
     pub fn merge_next(&mut self)
-        ensures { self.new ≡ with_below (merged dual_design self.old.below) self.old }
+        ensures { self.new ≡ with_below (merged thynvm_design self.old.below) self.old }
     {
         self.below.merge_next();
     }
@@ -183,7 +183,7 @@ impl WaitingScheme {
     pub fn promote_next<N: Nvm>(&mut self, nvm: &mut N) -> Result<(), NvmError>
         requires sized { length (N.device nvm.old).image ≡ image_blocks self.old.below.control.p }
         requires up { (N.device nvm.old).down ≡ false }
-        ensures promotes { let later = promoted dual_design self.old.below (N.device nvm.old) in
+        ensures promotes { let later = promoted thynvm_design self.old.below (N.device nvm.old) in
             Promotes (with_below later self.old) result self.old self.new }
         ensures some { OnErr result (is_promoting self.old.below.control ≡ true) }
         ensures reads { IsReading result (N.device nvm.old) (N.device nvm.new) }
@@ -198,14 +198,14 @@ impl WaitingScheme {
         requires whole { is_promoting self.old.below.control ≡ false }
         requires bare { is_overlaid self.old.below.control ≡ false }
         requires regs { length cpu.now.regs ≡ 32 }
-        ensures { self.new ≡ with_below (sealed dual_design cpu.now epoch self.old.below) self.old }
+        ensures { self.new ≡ with_below (sealed thynvm_design cpu.now epoch self.old.below) self.old }
     {
         self.below.seal_epoch(cpu, epoch);
     }
 
     /// Makes one of the barriers that are left; if there is none, takes the item of the engine that is next.
     pub fn take_turn<N: Nvm>(&mut self, nvm: &mut N) -> Result<EngineStep, NvmError>
-        requires fits { Fits filling_dual items_dual self.old.below.engine self.old.below.control }
+        requires fits { Fits filling_thynvm items_thynvm self.old.below.engine self.old.below.control }
         requires sized { length (N.device nvm.old).image ≡ image_blocks self.old.below.engine.p }
         requires up { (N.device nvm.old).down ≡ false }
         ensures made { TakesTurn self.old (N.device nvm.old) result self.new (N.device nvm.new) }
@@ -230,12 +230,12 @@ impl WaitingScheme {
         nvm: &mut N,
     ) -> Result<BootStep, NvmError>
         requires can { let s = state_of start.now.state in
-            CanStep filling_dual s (N.device nvm.old) self.old.below.boot self.old.below.control }
-        requires fits { IsBoot filling_dual self.old.below.boot }
+            CanStep filling_thynvm s (N.device nvm.old) self.old.below.boot self.old.below.control }
+        requires fits { IsBoot filling_thynvm self.old.below.boot }
         requires up { (N.device nvm.old).down ≡ false }
         ensures takes { TakesBoot start.now self.old (N.device nvm.old) result self.new (N.device nvm.new) }
         ensures sound { AreSoundTables self.new.below.control }
-        ensures writes { let action = action_of filling_dual (state_of start.now.state) self.old.below.boot self.old.below.control in
+        ensures writes { let action = action_of filling_thynvm (state_of start.now.state) self.old.below.boot self.old.below.control in
             Counts action result (N.writes nvm.old) (N.writes nvm.new) }
     {
         let step = self.below.take_boot_step(start, nvm)?;
@@ -245,7 +245,7 @@ impl WaitingScheme {
 
     /// Whether the engine has something to do: the one below has, or barriers are left.
     pub fn is_under_way(&self) -> bool
-        ensures { result ≡ is_under_way dual_scheme self.now }
+        ensures { result ≡ is_under_way thynvm_scheme self.now }
     {
         self.below.under_way() || self.left > 0
     }

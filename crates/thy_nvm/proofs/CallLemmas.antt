@@ -7,7 +7,7 @@ use Rattle.thy_block.specs.declared.block.Block.{Block}
 use Rattle.thy_block.specs.declared.nvm.NvmError.{NvmError}
 use Rattle.thy_block.specs.Device.{Device, HoldsNoMore, HasFailed, HasFailedToWrite, IsFramed, applied, landed, drained, settled, with_queued}
 use Rattle.thy_block.proofs.DeviceLemmas.{length-applied, length-landed, applied-append, no_more-with_queued}
-use Rattle.thy_ring.specs.Held.{Held, as_device}
+use Rattle.thy_write_queue.specs.Held.{Held, as_device}
 use Rattle.thy_nvm.specs.declared.call_faults.Fault.{Fault}
 use Rattle.thy_nvm.specs.declared.call_faults.Fault.TheVariants.{Undone, Late}
 use Rattle.thy_nvm.specs.DeviceInMemory.{InMemory, left_after}
@@ -20,7 +20,7 @@ drained-landed k r =
     ap (λ i. record r { image = i; queue = drop 1 (drop k r.queue) }) image
     ∙ ap (λ q. record r { image = applied r.image (take (k + 1) r.queue); queue = q }) (drop-drop 1 k r.queue)
 
--- what a call leaves that fails, where it makes nothing more possible if it fails late
+-- what a call leaves that fails, if failing late makes nothing more possible
 pub HasFailed-left : {T : Type 0} (done : InMemory → InMemory) (late : Device → Device) (fault : Option Fault)
     (result : Result T NvmError) (old : Device) (m new : InMemory)
     → m.device ≡ old → ((n : Device) → HoldsNoMore n (late n)) → is_err result ≡ is_some fault → new ≡ left_after fault done late m

@@ -1,14 +1,14 @@
--- Blocks that were written over those of another image, and a device of them, after its calls.
+-- Blocks that were written over the blocks of another image, and a device of them, after its calls.
 use Rattle.std.proofs.Common.{◌≡◌, ℕ, suc, ◌+◌, ◌<◌, ◌==◌, if◌then◌else◌, Bool, true, false, List, [], ◌∷◌, ◌++◌, length, take, drop, slice_set, slice_index_or, refl, sym, ◌∙◌, ap, subst, inl, inr, arith}
 use Rattle.std.proofs.lemmas.Bool.{cases_lt, lt-ltb}
 use Rattle.std.proofs.lemmas.List.{get_or_default, get_or_past}
 use Rattle.thy_block.specs.declared.block.Block.{Block}
 use Rattle.thy_block.specs.declared.nvm.Write.{Write}
-use Rattle.thy_block.specs.Device.{Crash, IsLeftOf, MayLeave, zero_block, block_at, queued_for, newest_over, applied, newest, landed, settled, surplus, written_to, write_of}
+use Rattle.thy_block.specs.Device.{Crash, IsCrashOf, CrashAt, zero_block, block_at, queued_for, newest_over, applied, newest, landed, settled, surplus, written_to, write_of}
 use Rattle.thy_block.proofs.CrashLemmas.{Crash-image}
-use Rattle.thy_ring.specs.Held.{Held, device_of, as_device, put_at}
-use Rattle.thy_ring.specs.Merged.{merged, is_marked, AreMarked}
-use Rattle.thy_ring.proofs.MergedLemmas.{length-merged, block_at-merged, merged-write, merged-applied, merged-copy, AreMarked-append, AreMarked-take, AreMarked-drop, queued_for-unmarked, newest_over-unmarked}
+use Rattle.thy_write_queue.specs.Held.{Held, device_of, as_device, put_at}
+use Rattle.thy_write_queue.specs.Merged.{merged, is_marked, AreMarked}
+use Rattle.thy_write_queue.proofs.MergedLemmas.{length-merged, block_at-merged, merged-write, merged-applied, merged-copy, AreMarked-append, AreMarked-take, AreMarked-drop, queued_for-unmarked, newest_over-unmarked}
 use Rattle.thy_nvm.specs.Overlaid.{over_below}
 use Rattle.thy_nvm.specs.Pick.{drawn_block, drawn_seed, drawn, torn_block, torn_seed, torn, left_by_draws, picked, left_by, landing}
 
@@ -127,21 +127,21 @@ over-left whole pick held ms below same marked =
 -- a block that was possible already
 over-stands : (whole : Bool) (held : Held) (ms : List Bool) (below g : List Block) (x : ℕ)
     → block_at (merged ms held.image below) x ≡ block_at (merged ms g below) x
-    → MayLeave (landing whole (over_below held ms below)) x (block_at (merged ms g below) x)
+    → CrashAt (landing whole (over_below held ms below)) x (block_at (merged ms g below) x)
 over-stands whole held ms below g x same =
-    subst (MayLeave (landing whole (over_below held ms below)) x) same ((Crash-image (landing whole (over_below held ms below))).each x)
+    subst (CrashAt (landing whole (over_below held ms below)) x) same ((Crash-image (landing whole (over_below held ms below))).each x)
 
 -- at a place that is marked, or is not
 over-place : (whole : Bool) (held : Held) (ms : List Bool) (below g : List Block) (x : ℕ) (t : Bool) → is_marked ms x ≡ t → x < length ms
-    → MayLeave (landing whole held) x (block_at g x)
-    → MayLeave (landing whole (over_below held ms below)) x (block_at (merged ms g below) x)
+    → CrashAt (landing whole held) x (block_at g x)
+    → CrashAt (landing whole (over_below held ms below)) x (block_at (merged ms g below) x)
 over-place whole held ms below g x true is l left =
     let here : block_at held.image x ≡ block_at (merged ms held.image below) x
     = sym (block_at-merged ms held.image below x l ∙ ap (λ t. if t then block_at held.image x else block_at below x) is) in
     let there : block_at g x ≡ block_at (merged ms g below) x
     = sym (block_at-merged ms g below x l ∙ ap (λ t. if t then block_at g x else block_at below x) is) in
-    subst (λ (b : Block). IsLeftOf whole (b ∷ queued_for held.queue x) (block_at (merged ms g below) x)) here
-    (subst (IsLeftOf whole (block_at held.image x ∷ queued_for held.queue x)) there left)
+    subst (λ (b : Block). IsCrashOf whole (b ∷ queued_for held.queue x) (block_at (merged ms g below) x)) here
+    (subst (IsCrashOf whole (block_at held.image x ∷ queued_for held.queue x)) there left)
 over-place whole held ms below g x false is l left =
     let here : block_at (merged ms held.image below) x ≡ block_at below x
     = block_at-merged ms held.image below x l ∙ ap (λ t. if t then block_at held.image x else block_at below x) is in
@@ -155,7 +155,7 @@ pub Crash-over : (whole : Bool) (held : Held) (ms : List Bool) (below g : List B
 Crash-over whole held ms below g left = record {
   same_length = length-merged ms g below ∙ sym (length-merged ms held.image below);
   each = λ x. elim (cases_lt x (length ms))
-      as (λ _. MayLeave (landing whole (over_below held ms below)) x (block_at (merged ms g below) x)) [
+      as (λ _. CrashAt (landing whole (over_below held ms below)) x (block_at (merged ms g below) x)) [
         | inl l ↦ over-place whole held ms below g x (is_marked ms x) refl l (left.each x)
         | inr past ↦
             over-stands whole held ms below g x

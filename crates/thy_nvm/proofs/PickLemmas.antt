@@ -13,7 +13,7 @@ use Rattle.thy_block.proofs.BlockLemmas.{overwritten-long}
 use Rattle.thy_block.proofs.CrashLemmas.{Contains-stands, Crash-of_blocks}
 use Rattle.thy_block.proofs.MadeLemmas.{IsMadeOf-one}
 use Rattle.thy_block.proofs.WrittenLemmas.{drop-written, take-written_behind, take-drop_take}
-use Rattle.thy_ring.specs.Held.{Held, device_of, put_at}
+use Rattle.thy_write_queue.specs.Held.{Held, device_of, put_at}
 use Rattle.thy_nvm.specs.Pick.{drawn_block, drawn_seed, drawn, with_word, torn_on, torn_block, after_draws, torn_seed, torn, torn_at, landing, picked}
 
 -- ---- whole blocks
@@ -62,7 +62,7 @@ Crash-drawn seed n =
     let at : 0 + x ≡ x = omega arith in
     subst (λ (y : ℕ). Contains (block_at n.image x ∷ queued_for n.queue y) (block_at (drawn seed 0 n.image n.queue) x)) at (Contains-drawn seed 0 n.image n.queue x))
 
--- ---- one word of a block over that of another
+-- ---- one word of a block over the same word of another
 
 -- of the words of bytes with eight others written at word k that is these
 word_here : (xs piece : List ℕ) (k : ℕ) → length xs ≡ 64 → length piece ≡ 8 → k < 8 → take 8 (drop (8 * k) (written xs (8 * k) piece)) ≡ piece

@@ -2,11 +2,11 @@
 ghost use Rattle.std.specs.Prelude.{◌≡◌, ◌<◌, [], true, length, replicate, slice_set};
 ghost use Rattle.thy_block.specs.Counts.{next};
 ghost use Rattle.thy_block.specs.Device.{block_at};
-ghost use Rattle.thy_ring.specs.Held.{put_at};
-ghost use Rattle.thy_ring.specs.Merged.{merged, AreMarked};
+ghost use Rattle.thy_write_queue.specs.Held.{put_at};
+ghost use Rattle.thy_write_queue.specs.Merged.{merged, AreMarked};
 
 use thy_block::Block;
-use thy_ring::Ring;
+use thy_write_queue::Ring;
 
 /// A count with one more, if it is not at its last value.
 pub(crate) fn one_more(count: u64) -> u64

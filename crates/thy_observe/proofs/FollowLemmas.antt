@@ -20,7 +20,7 @@ use Rattle.thy_view.specs.CoreStep.{BootsTo, CoreStep, EngineTo, MovesTo, phase_
 use Rattle.thy_view.specs.Kind.{KindOf}
 use Rattle.thy_view.specs.Origin.{Origin, at, by_turns, runs_at, setting_of}
 use Rattle.thy_view.specs.Safe.{ceiling}
-use Rattle.thy_view.specs.Told.{told, AgreeBelow, count_of, reach}
+use Rattle.thy_view.specs.WithTurns.{with_turns, AgreeBelow, count_of, reach}
 use Rattle.thy_view.specs.Views.{is_boot}
 use Rattle.thy_view.proofs.ReachLaws.{reach-boot, reach-count, runs_behind, stays-there}
 use Rattle.thy_view.proofs.TurnLaws.{turn_late}
@@ -28,7 +28,7 @@ use Rattle.thy_run.specs.Laws.{marks_of}
 use Rattle.thy_run.specs.Watching.{Taken, IsListed, taken_in}
 use Rattle.thy_run.specs.World.{World, Given, IsCutOff, Ran, TakesStep, is_due, line, seen, tear}
 use Rattle.thy_run.proofs.CutLaws.{cut_below}
-use Rattle.thy_run.proofs.RetellLaws.{late_of}
+use Rattle.thy_run.proofs.AgreeingTurnsLaws.{late_of}
 use Rattle.thy_run.proofs.StepAlong.{core_of}
 use Rattle.thy_run.proofs.WorldLaws.{Coheres, Coheres-stepped, Good-ran, first_reach}
 use Rattle.thy_observe.specs.declared.changes.Change.{Change}
@@ -183,7 +183,7 @@ found_boots o kept = image_boots o.start.count (found_first o kept)
 agree_from : (o : Origin) (turns : List ℕ) (k i : ℕ) → AgreeBelow o turns k → i < k - o.start.count → get_or turns i 0 ≡ get_or o.turns i 0
 agree_from o turns k i agree less =
     let back : o.start.count + i - o.start.count ≡ i = omega arith in
-    sym (ap (λ (n : ℕ). get_or turns n 0) back) ∙ sym (turn_late (told o turns) (o.start.count + i) (omega arith))
+    sym (ap (λ (n : ℕ). get_or turns n 0) back) ∙ sym (turn_late (with_turns o turns) (o.start.count + i) (omega arith))
     ∙ agree (o.start.count + i) (omega (arith, less)) ∙ turn_late o (o.start.count + i) (omega arith) ∙ ap (λ (n : ℕ). get_or o.turns n 0) back
 
 abbrev harts_of : Origin → List Taken → List ℕ

@@ -6,7 +6,7 @@ use Rattle.thy_observe.specs.declared.kinds.Kind.{Kind}
 use Rattle.thy_observe.specs.declared.kinds.Kind.TheVariants.{Boot, NvmDrain, DramDrain, Moved, Retired, Flushed, Merged, Promoted, Sealed, Copied, Page, State, Table, Barrier, Commit, Committed, Nothing}
 use Rattle.thy_observe.specs.Kinds.{kind_of, index_of, is_at, how_many, KindsAddUp}
 
--- sums of equal numbers are equal, and a sum of sums is that of both
+-- sums of equal numbers are equal, and a sum of sums is the sum of both
 module _ (f g : ℕ → ℕ) where
   pub sum-same : ((i : ℕ) → f i ≡ g i) → (is : List ℕ) → sum_by f is ≡ sum_by g is
   sum-same same [] = refl

@@ -71,15 +71,15 @@ one-at ks a i l false e =
     ∙ (let z : slice_index_or ks i 0 ≡ slice_index_or ks i 0 + 0 = omega arith in z)
 
 -- a cycle that is not listed made no event
-untold : (told : ℕ) (e : EventCycle) (b : Bool) → (told == 0) ≡ b → (if b then [] else e ∷ []) ≡ [] → told ≡ 0
-untold told e true is none = eqb-true told 0 is
-untold told e false is none = absurd (cc)
+unlisted : (reported : ℕ) (e : EventCycle) (b : Bool) → (reported == 0) ≡ b → (if b then [] else e ∷ []) ≡ [] → reported ≡ 0
+unlisted reported e true is none = eqb-true reported 0 is
+unlisted reported e false is none = absurd (cc)
 
 -- a tally with one cycle more
 pub IsTally-one : (t new : Tally) (seen : List Taken) (x : Taken) → IsTally t seen → index_of (kind_of x.stepped.did) < 17
     → new.cycles ≡ length seen + 1 → new.kinds ≡ slice_set t.kinds (index_of (kind_of x.stepped.did)) (slice_index_or t.kinds (index_of (kind_of x.stepped.did)) 0 + 1)
     → new.waiting ≡ t.waiting + cond (has_waited x) 1 0 → new.retired ≡ retired_after_cut (retired_after_step t.retired x.stepped.did) x.fell
-    → new.shares ≡ shares_after_cut (shares_after_step t.shares x.stepped.did) x.fell → (x.told ≡ 0 → new.lost ≡ t.lost)
+    → new.shares ≡ shares_after_cut (shares_after_step t.shares x.stepped.did) x.fell → (x.reported ≡ 0 → new.lost ≡ t.lost)
     → (new.lost ≡ false → (t.lost ≡ false) × (new.event_cycles.items ≡ t.event_cycles.items ++ event_cycle_of (length seen + 1) t.retired x))
     → IsTally new (seen ++ x ∷ [])
 IsTally-one t new seen x h within cycles kinds waiting retired shares stays event_cycles =
@@ -103,7 +103,7 @@ IsTally-one t new seen x h within cycles kinds waiting retired shares stays even
           let parts : event_cycles_from 1 None seen ++ event_cycle_of (1 + length seen) (retired_after None seen) x ≡ []
           = sym (event-cycles-one 1 None seen x) ∙ none in
           let last = last_empty (event_cycles_from 1 None seen) (event_cycle_of (1 + length seen) (retired_after None seen) x) parts in
-          stays (untold x.told _ (x.told == 0) refl last)
+          stays (unlisted x.reported _ (x.reported == 0) refl last)
           ∙ h.whole (first_empty (event_cycles_from 1 None seen) (event_cycle_of (1 + length seen) (retired_after None seen) x) parts);
     }
 

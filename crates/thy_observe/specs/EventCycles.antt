@@ -31,7 +31,7 @@ retired_after retired (t ∷ seen) = retired_after (retired_after_cut (retired_a
 -- a cycle by its number and how many events it made; none if it made no events
 abbrev pub event_cycle_of : ℕ → Option RetiredCount → Taken → List EventCycle
 event_cycle_of cycle retired t =
-    if t.told == 0 then [] else record { cycle = cycle; retired = retired_after_step retired t.stepped.did; told = t.told; fell = t.fell } ∷ []
+    if t.reported == 0 then [] else record { cycle = cycle; retired = retired_after_step retired t.stepped.did; reported = t.reported; fell = t.fell } ∷ []
 
 -- the cycles among these that made events, if the first has this number
 abbrev pub event_cycles_from : ℕ → Option RetiredCount → List Taken → List EventCycle

@@ -1,4 +1,4 @@
--- What each hart did. A move is that of the hart that retires the instruction. It is no hart's if the epoch is sealed before,
+-- What each hart did. A move belongs to the hart that retires the instruction. It is no hart's if the epoch is sealed before,
 -- as too few entries were free, or power is cut.
 use Rattle.std.specs.Prelude.{◌≡◌, ℕ, ◌+◌, ◌==◌, ◌≤◌, if◌then◌else◌, Bool, List, [], ◌∷◌}
 use Rattle.thy_view.specs.declared.did.Did.{Did}

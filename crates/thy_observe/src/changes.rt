@@ -89,7 +89,7 @@ impl Changes {
     /// Adds the cycle of a step, whatever events were made in it, after which a cut fell or not.
     fn add(&mut self, stepped: &Stepped, fell: bool, cycle: u64)
         requires { CanSee AreChanges self.old cycle }
-        ensures { (told : ℕ) → Sees AreChanges self.old self.new (taken stepped.now told fell) }
+        ensures { (reported : ℕ) → Sees AreChanges self.old self.new (taken stepped.now reported fell) }
     {
         let listed = listed_with(self.listed.take(), cycle, change_of(stepped.did));
         self.listed = listed_with(listed, cycle, lost_in(fell));
@@ -124,7 +124,7 @@ impl Observer for Changes {
 
     ghost keeps = { KeepsChanges };
 
-    fn see(&mut self, stepped: &Stepped, _told: usize, cycle: u64) {
+    fn see(&mut self, stepped: &Stepped, _reported: usize, cycle: u64) {
         self.add(stepped, false, cycle);
     }
 
@@ -132,7 +132,7 @@ impl Observer for Changes {
         self.kept = Some(*stepped);
     }
 
-    fn see_cut(&mut self, _told: usize, cycle: u64) {
+    fn see_cut(&mut self, _reported: usize, cycle: u64) {
         if let Some(stepped) = self.kept {
             self.add(&stepped, true, cycle);
         }

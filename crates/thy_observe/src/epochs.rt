@@ -150,7 +150,7 @@ impl Epochs {
     /// Adds the cycle of a step, whatever events were made in it, after which a cut fell or not.
     fn add(&mut self, stepped: &Stepped, fell: bool, cycle: u64)
         requires { CanSee AreEpochs self.old cycle }
-        ensures { (told : ℕ) → Sees AreEpochs self.old self.new (taken stepped.now told fell) }
+        ensures { (reported : ℕ) → Sees AreEpochs self.old self.new (taken stepped.now reported fell) }
     {
         let cause = index_of(cause_of(self.under_way, kind_of(stepped.did)));
         let row = with_cycle(self.open_row, cycle, cause, waiting_in(stepped.stall));
@@ -196,7 +196,7 @@ impl Observer for Epochs {
 
     ghost keeps = { KeepsEpochs };
 
-    fn see(&mut self, stepped: &Stepped, _told: usize, cycle: u64) {
+    fn see(&mut self, stepped: &Stepped, _reported: usize, cycle: u64) {
         self.add(stepped, false, cycle);
     }
 
@@ -204,7 +204,7 @@ impl Observer for Epochs {
         self.kept = Some(*stepped);
     }
 
-    fn see_cut(&mut self, _told: usize, cycle: u64) {
+    fn see_cut(&mut self, _reported: usize, cycle: u64) {
         if let Some(stepped) = self.kept {
             self.add(&stepped, true, cycle);
         }

@@ -18,7 +18,7 @@ pub struct EventCycle {
     /// The count after the step; none in a boot.
     pub retired: Option<RetiredCount>,
     /// How many events were made.
-    pub told: usize,
+    pub reported: usize,
     /// A cut fell after the cycle.
     pub fell: bool,
 }

@@ -36,7 +36,7 @@ impl Ledger {
     /// Adds the cycle of a step, whatever events were made in it, after which a cut fell or not.
     fn add(&mut self, stepped: &Stepped, fell: bool, cycle: u64)
         requires { CanSee IsLedger self.old cycle }
-        ensures { (told : ℕ) → Sees IsLedger self.old self.new (taken stepped.now told fell) }
+        ensures { (reported : ℕ) → Sees IsLedger self.old self.new (taken stepped.now reported fell) }
     {
         let at = index_of(cause_of(self.under_way, kind_of(stepped.did)));
         self.causes[at] += 1;
@@ -61,7 +61,7 @@ impl Observer for Ledger {
 
     ghost keeps = { KeepsLedger };
 
-    fn see(&mut self, stepped: &Stepped, _told: usize, cycle: u64) {
+    fn see(&mut self, stepped: &Stepped, _reported: usize, cycle: u64) {
         self.add(stepped, false, cycle);
     }
 
@@ -69,7 +69,7 @@ impl Observer for Ledger {
         self.kept = Some(*stepped);
     }
 
-    fn see_cut(&mut self, _told: usize, cycle: u64) {
+    fn see_cut(&mut self, _reported: usize, cycle: u64) {
         if let Some(stepped) = self.kept {
             self.add(&stepped, true, cycle);
         }

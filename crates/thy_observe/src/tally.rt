@@ -53,12 +53,12 @@ pub(crate) fn waiting_in(stall: Option<Stall>) -> u64
 /// Adds a cycle if events were made in it, and returns whether one is lost, this one or an earlier one. None is lost if
 /// none was made.
 fn add_event_cycle(event_cycles: &mut Vec<EventCycle>, lost: bool, event_cycle: EventCycle) -> bool
-    ensures due { event_cycle.told ≡ 0 → result ≡ lost }
+    ensures due { event_cycle.reported ≡ 0 → result ≡ lost }
     ensures added { result ≡ false → (lost ≡ false)
         × (event_cycles.new.items ≡ event_cycles.old.items
-        ++ (if event_cycle.told == 0 then [] else event_cycle ∷ [])) }
+        ++ (if event_cycle.reported == 0 then [] else event_cycle ∷ [])) }
 {
-    if event_cycle.told != 0 && event_cycles.push(event_cycle).is_err() {
+    if event_cycle.reported != 0 && event_cycles.push(event_cycle).is_err() {
         return true;
     }
     lost
@@ -83,9 +83,9 @@ impl Tally {
     }
 
     /// Adds the cycle of a step, in which `told` events were made, and after which a cut fell or not.
-    fn add(&mut self, stepped: &Stepped, told: usize, fell: bool, cycle: u64)
+    fn add(&mut self, stepped: &Stepped, reported: usize, fell: bool, cycle: u64)
         requires { CanSee IsTally self.old cycle }
-        ensures { Sees IsTally self.old self.new (taken stepped.now told fell) }
+        ensures { Sees IsTally self.old self.new (taken stepped.now reported fell) }
     {
         self.cycles = cycle;
         let at = index_of(kind_of(stepped.did));
@@ -97,7 +97,7 @@ impl Tally {
         let event_cycle = EventCycle {
             cycle,
             retired,
-            told,
+            reported,
             fell,
         };
         self.lost = add_event_cycle(&mut self.event_cycles, self.lost, event_cycle);
@@ -169,17 +169,17 @@ impl Observer for Tally {
 
     ghost keeps = { KeepsTally };
 
-    fn see(&mut self, stepped: &Stepped, told: usize, cycle: u64) {
-        self.add(stepped, told, false, cycle);
+    fn see(&mut self, stepped: &Stepped, reported: usize, cycle: u64) {
+        self.add(stepped, reported, false, cycle);
     }
 
     fn keep(&mut self, stepped: &Stepped) {
         self.kept = Some(*stepped);
     }
 
-    fn see_cut(&mut self, told: usize, cycle: u64) {
+    fn see_cut(&mut self, reported: usize, cycle: u64) {
         if let Some(stepped) = self.kept {
-            self.add(&stepped, told, true, cycle);
+            self.add(&stepped, reported, true, cycle);
         }
     }
 

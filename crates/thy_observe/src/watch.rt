@@ -44,11 +44,11 @@ impl Observer for Watch {
 
     ghost keeps = { KeepsWatch };
 
-    fn see(&mut self, stepped: &Stepped, told: usize, cycle: u64) {
-        self.tally.see(stepped, told, cycle);
-        self.changes.see(stepped, told, cycle);
-        self.ledger.see(stepped, told, cycle);
-        self.epochs.see(stepped, told, cycle);
+    fn see(&mut self, stepped: &Stepped, reported: usize, cycle: u64) {
+        self.tally.see(stepped, reported, cycle);
+        self.changes.see(stepped, reported, cycle);
+        self.ledger.see(stepped, reported, cycle);
+        self.epochs.see(stepped, reported, cycle);
     }
 
     fn keep(&mut self, stepped: &Stepped) {
@@ -58,11 +58,11 @@ impl Observer for Watch {
         self.epochs.keep(stepped);
     }
 
-    fn see_cut(&mut self, told: usize, cycle: u64) {
-        self.tally.see_cut(told, cycle);
-        self.changes.see_cut(told, cycle);
-        self.ledger.see_cut(told, cycle);
-        self.epochs.see_cut(told, cycle);
+    fn see_cut(&mut self, reported: usize, cycle: u64) {
+        self.tally.see_cut(reported, cycle);
+        self.changes.see_cut(reported, cycle);
+        self.ledger.see_cut(reported, cycle);
+        self.epochs.see_cut(reported, cycle);
     }
 
     fn forget(&mut self) {

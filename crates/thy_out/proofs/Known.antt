@@ -10,25 +10,25 @@ use Rattle.thy_block.specs.declared.outside.FetchError.TheVariants.{TooLong}
 use Rattle.thy_out.specs.Spring.{LosesAtMost}
 
 -- known bytes with more after them
-pub Appends-told : (b c : Option (List ℕ)) (known more : List ℕ) → b ≡ Some known → Appends b c more → c ≡ Some (known ++ more)
-Appends-told None c known more told h = cc
-Appends-told (Some x) None known more told h = absurd h
-Appends-told (Some x) (Some y) known more told h = cc
+pub Appends-shown : (b c : Option (List ℕ)) (known more : List ℕ) → b ≡ Some known → Appends b c more → c ≡ Some (known ++ more)
+Appends-shown None c known more shown h = cc
+Appends-shown (Some x) None known more shown h = absurd h
+Appends-shown (Some x) (Some y) known more shown h = cc
 
 -- known bytes that stay
-pub Keeps-told : (b c : Option (List ℕ)) (known : List ℕ) → b ≡ Some known → Keeps b c → c ≡ Some known
-Keeps-told None c known told h = cc
-Keeps-told (Some x) None known told h = absurd h
-Keeps-told (Some x) (Some y) known told h = cc
+pub Keeps-shown : (b c : Option (List ℕ)) (known : List ℕ) → b ≡ Some known → Keeps b c → c ≡ Some known
+Keeps-shown None c known shown h = cc
+Keeps-shown (Some x) None known shown h = absurd h
+Keeps-shown (Some x) (Some y) known shown h = cc
 
 -- some bytes came, then more
 pub Grew-appends : (a b c : Option (List ℕ)) (some more : List ℕ) → Grew a b some → Appends b c more → Grew a c (some ++ more)
 Grew-appends a b c some more grew h = λ had e.
-    Appends-told b c (had ++ some) more (grew had e) h ∙ ap Some (append_assoc had some more)
+    Appends-shown b c (had ++ some) more (grew had e) h ∙ ap Some (append_assoc had some more)
 
 -- some bytes came, then none
 pub Grew-keeps : (a b c : Option (List ℕ)) (some : List ℕ) → Grew a b some → Keeps b c → Grew a c some
-Grew-keeps a b c some grew h = λ had e. Keeps-told b c (had ++ some) (grew had e) h
+Grew-keeps a b c some grew h = λ had e. Keeps-shown b c (had ++ some) (grew had e) h
 
 -- the first bytes of a piece came, then the first of the rest
 pub Grew-take : (a b c : Option (List ℕ)) (piece : List ℕ) (done more sum : ℕ) → sum ≡ done + more → Grew a b (take done piece) → Appends b c (take more (take (length piece - done) (drop done piece))) → Grew a c (take sum piece)

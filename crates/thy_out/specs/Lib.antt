@@ -3,5 +3,5 @@ pub mod Rack
 pub mod Replacing
 pub mod Spring
 pub mod Tape
-pub mod Untold
+pub mod Unknown
 pub mod Written

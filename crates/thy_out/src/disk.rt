@@ -30,7 +30,7 @@ impl<R> Model for Disk<R> {
     ghost view = { λ s. record { puts = s.puts; failures = s.failures } };
 }
 
-/// What came of a put by a new file.
+/// The outcome of a put by a new file.
 #[derive(Clone, Copy, PartialEq, Eq)]
 pub enum Replaced {
     /// The name has the new file.

@@ -5,7 +5,7 @@ ghost use Rattle.std.specs.Io.KnownBytes.{IsAtEnd};
 ghost use Rattle.thy_block.specs.Outside.{Fetched, FetchCounts, PutCounts};
 ghost use Rattle.thy_out.specs.Replacing.{counted};
 ghost use Rattle.thy_out.specs.Spring.{LosesAtMost, HasCause};
-ghost use Rattle.thy_out.specs.Untold.{untold, fetch_faults, put_faults};
+ghost use Rattle.thy_out.specs.Unknown.{unknown, fetch_faults, put_faults};
 
 use crate::counted_reader::CountedReader;
 use crate::disk::Disk;
@@ -26,7 +26,7 @@ pub struct FileShelf<R> {
 impl<R: Files> FileShelf<R> {
     /// The files of this runtime.
     pub fn new(rt: R) -> FileShelf<R>
-        ensures { ⟦<FileShelf<R> as Shelf>⟧.stock result ≡ untold 0 }
+        ensures { ⟦<FileShelf<R> as Shelf>⟧.stock result ≡ unknown 0 }
     {
         FileShelf {
             disk: Disk::over(rt),
@@ -100,11 +100,11 @@ fn read_file<R: Files>(
 }
 
 impl<R: Files> Shelf for FileShelf<R> {
-    ghost stock = { λ s. untold s.faults };
+    ghost stock = { λ s. unknown s.faults };
 
     fn fetch(&mut self, alloc: Global, name: &str, limit: u64) -> Result<Vec<u8>, FetchError>
         ensures within { IfOk result (λ bytes. length bytes.items ≤ limit) }
-        ensures faults { FetchCounts name.now (untold self.old.faults) (untold self.new.faults) result }
+        ensures faults { FetchCounts name.now (unknown self.old.faults) (unknown self.new.faults) result }
         ensures after { self.new.faults ≡ fetch_faults self.old.faults result }
     {
         match read_file(&self.disk, alloc, name, limit) {
@@ -121,7 +121,7 @@ impl<R: Files> Shelf for FileShelf<R> {
     /// there. It makes a new file if the name refers to nothing or to a file with no other name, and the system lets a
     /// file be made there.
     fn put(&mut self, _alloc: Global, name: &str, bytes: &[u8]) -> Result<(), PutError>
-        ensures faults { PutCounts name.now (untold self.old.faults) (untold self.new.faults) result }
+        ensures faults { PutCounts name.now (unknown self.old.faults) (unknown self.new.faults) result }
         ensures failed { IfErr result (λ e. e ≡ PutError.Failed) }
         ensures after { self.new.faults ≡ put_faults self.old.faults result }
         ensures done { self.new.disk ≡ counted self.old.disk result }

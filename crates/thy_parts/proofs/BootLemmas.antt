@@ -14,7 +14,7 @@ use Rattle.thy_view.specs.declared.view.View.{View}
 use Rattle.thy_view.specs.Origin.{Origin, IsOrigin}
 use Rattle.thy_view.specs.Safe.{ceiling, Safe}
 use Rattle.thy_view.specs.Views.{doubt_of, loads}
-use Rattle.thy_view.specs.Keeps.{Tells}
+use Rattle.thy_view.specs.Keeps.{HasKept}
 use Rattle.thy_parts.proofs.SlotLemmas.{is_long-own}
 use Rattle.thy_checkpoint.specs.declared.boot_stage.Stage.TheVariants.{Reads}
 use Rattle.thy_checkpoint.specs.declared.boot_stage.ReadStage.TheVariants.{Unread}
@@ -135,7 +135,7 @@ module _ {C : Type 0} (D : DesignOf C) (w : AreParts D) where
   -- ---- power comes on
 
   module _ (o : Origin) (s : Composed C) (n : Device) (origin : IsOrigin o) (powered : IsPowered D o.geometry s) (found : IsFound (scheme_of D) o n) where
-    own : (kept : Option Mark) × Tells o (layout_for D.filling o) n.image kept
+    own : (kept : Option Mark) × HasKept o (layout_for D.filling o) n.image kept
     own = own_has_mark F (reading F.layouts) o n is_read found.sized found.own
 
     abbrev first : BootImages

@@ -111,7 +111,7 @@ module _ {C : Type 0} (D : DesignOf C) (o : Origin) (m : Mark) (before : List Bl
       stated = stated;
       sealed = refl;
       keeping = subst (λ x. Keeps o (layout_by D o) n x (Some m) None) (sym saved) keeps;
-      told = ends.keeps s.engine.epoch;
+      meant = ends.keeps s.engine.epoch;
       written = written_stage D q q s.engine c n written;
       made = λ way. let no : true ≡ false = sym way ∙ sealing in absurd cc;
     };
@@ -348,7 +348,7 @@ module _ {C : Type 0} (D : DesignOf C) (w : AreParts D) where
         let made_state : state_from o.geometry cpu (F.loads e new) ≡ at o m.count
         = ap (λ (p : Parameters). state_from p cpu (F.loads e new)) (sym moved.sound.geometry) ∙ made in
         let count : cpu.count ≡ m.count
-        = sym (count-state_from d.p cpu (F.loads e new)) ∙ ap (λ (x : Plain). x.count) made ∙ keeps.told.counted in
+        = sym (count-state_from d.p cpu (F.loads e new)) ∙ ap (λ (x : Plain). x.count) made ∙ keeps.meant.counted in
         let is_mark : m ≡ mark epoch cpu.count
         = ap (λ (x : ℕ). mark x m.count) r.2 ∙ ap (mark epoch) (sym count) in
         let ended = restored_sound D w.powering o m h.before new d s e unsealed moved.sound.geometry far.before_is far.read.settled keeps stated found made in

@@ -13,7 +13,7 @@ use Rattle.thy_layout.specs.Decoded.{Decoded, Nothing, Refused, At}
 use Rattle.thy_view.specs.Kind.{IsDramOf}
 use Rattle.thy_view.specs.Origin.{Origin}
 use Rattle.thy_view.specs.Safe.{ceiling}
-use Rattle.thy_view.specs.Keeps.{Tells}
+use Rattle.thy_view.specs.Keeps.{HasKept}
 use Rattle.thy_layout.specs.Layout.{Layout, decode_by}
 use Rattle.thy_checkpoint.specs.Boot.{IsBoot, new_boot}
 use Rattle.thy_checkpoint.specs.Filling.{FillingOf, layout_at}
@@ -23,7 +23,7 @@ use Rattle.thy_parts.specs.BootLaws.{OwnHasMark}
 
 -- the mark of an image that is the run's own
 own-mark : (o : Origin) (l : Layout) (n : Device) (d : Decoded) → decode_by l ceiling n.image ≡ d → IsOwn o d
-    → (kept : Option Mark) × Tells o l n.image kept
+    → (kept : Option Mark) × HasKept o l n.image kept
 own-mark o l n Nothing is own = (None, (is, own))
 own-mark o l n (Refused bad) is own = absurd own
 own-mark o l n (At epoch state) is own = (

@@ -4,12 +4,12 @@ use Rattle.thy_block.specs.declared.cause.EndCause.{EndCause}
 use Rattle.thy_block.specs.Device.{Device}
 use Rattle.thy_cache.specs.Contents.{dirty_count}
 use Rattle.thy_hart.specs.declared.hand.Hand.{Hand}
-use Rattle.thy_hart.specs.declared.hand.Hand.TheVariants.{Nothing, Reading, Reserving, Writing, Retiring}
+use Rattle.thy_hart.specs.declared.hand.Hand.TheVariants.{Nothing, Reading, Securing, Writing, Retiring}
 use Rattle.thy_hart.specs.HartState.{blocks_of}
 use Rattle.thy_hart.proofs.HandLemmas.{blocks_of-most}
 use Rattle.thy_view.specs.declared.view.Phase.{Phase}
 use Rattle.thy_view.specs.Origin.{Origin}
-use Rattle.thy_view.specs.Turn.{Shortage}
+use Rattle.thy_view.specs.NextActor.{Shortage}
 use Rattle.thy_scheme.specs.CheckpointMarks.{CheckpointMarks}
 use Rattle.thy_scheme.specs.Scheme.{SchemeOf}
 use Rattle.thy_scheme.specs.Machine.{short_of}
@@ -24,7 +24,7 @@ no-shortage : (free dirty : ℕ) (storeless : Bool) (h : Hand) → IsFresh h dir
     → short_of free dirty h ≡ None
 no-shortage free dirty storeless Nothing fresh room = refl
 no-shortage free dirty storeless (Reading e from to) fresh room = refl
-no-shortage free dirty storeless (Reserving e to) fresh room = by_room (nat_lt free (dirty + blocks_of to)) refl
+no-shortage free dirty storeless (Securing e to) fresh room = by_room (nat_lt free (dirty + blocks_of to)) refl
   where
     by_room : (less : Bool) → nat_lt free (dirty + blocks_of to) ≡ less
         → (if less then Some (shortage free dirty (blocks_of to)) else None) ≡ None

@@ -2,7 +2,7 @@
 use Rattle.std.proofs.Common.{◌≡◌, ◌⊎◌, ℕ, ◌+◌, ◌<◌, ◌≤◌, ◌||◌, ◌&&◌, not, Bool, true, false, List, [], ◌∷◌, ◌++◌, length, Some, refl, sym, ◌∙◌, ap, subst, inl, inr, arith}
 use Rattle.std.proofs.lemmas.List.Elements.{Contains-append_cases, Contains-append_right}
 use Rattle.thy_block.specs.declared.parameters.Parameters.{Parameters}
-use Rattle.thy_block.specs.Device.{Device, MayLeave, newest, drained}
+use Rattle.thy_block.specs.Device.{Device, CrashAt, newest, drained}
 use Rattle.thy_block.specs.Geometry.{memory_blocks}
 use Rattle.thy_block.proofs.BasicLemmas.{not_some}
 use Rattle.thy_layout.specs.Saved.{guarded}
@@ -82,7 +82,7 @@ sealed_at D c n d m q way stays = stays
 spares_both : (a b : List ℕ) (n m : Device) → Spares (1 ∷ a) n m → Spares (1 ∷ b) n m → Spares (1 ∷ (a ++ b)) n m
 spares_both a b n m x y = record {
   as_long = x.as_long;
-  no_more = λ p inside block h. elim (Contains-append_cases (1 ∷ a) b p inside) as (λ _. MayLeave n p block) [
+  no_more = λ p inside block h. elim (Contains-append_cases (1 ∷ a) b p inside) as (λ _. CrashAt n p block) [
     | inl left ↦ x.no_more p left block h
     | inr right ↦ y.no_more p (Contains-append_right (1 ∷ []) b p right) block h
   ];
@@ -195,7 +195,7 @@ module _ {C : Type 0} (D : DesignOf C) (w : AreParts D) where
     spares_kept : Spares (1 ∷ looked_by l g.before) n m
     spares_kept =
         subst (λ (p : Parameters). Spares (1 ∷ looked_by (layout_at D.filling p) g.before) n m) h.held.geometry
-        (over.kept g.before h.checkpoints.told)
+        (over.kept g.before h.checkpoints.meant)
 
     makes_at : (q : EngineStage) → is_settled q ≡ true → D.parts.makes s.engine.epoch s.control g.next → MakesAt D (phase_of q) s.engine.epoch s.control g.next
     makes_at (InRound r) settled made = made
@@ -285,7 +285,7 @@ module _ {C : Type 0} (D : DesignOf C) (w : AreParts D) where
           stated = h.checkpoints.stated;
           sealed = h.checkpoints.sealed;
           keeping = keeping_then;
-          told = up.keeps h.images.before h.checkpoints.told;
+          meant = up.keeps h.images.before h.checkpoints.meant;
           written = written_then s.engine.stage refl h.held.fits.inside h.checkpoints.written;
           made = λ way.
               let old = h.checkpoints.made way in

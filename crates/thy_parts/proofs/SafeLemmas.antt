@@ -16,7 +16,7 @@ use Rattle.thy_layout.specs.declared.engine_step.EngineStep.TheVariants.{Copied,
 use Rattle.thy_view.specs.Origin.{Origin, at}
 use Rattle.thy_view.specs.Safe.{ceiling, Safe}
 use Rattle.thy_view.specs.Action.{FailsTo}
-use Rattle.thy_view.specs.Keeps.{Tells, doubt_in as doubt_of_saved}
+use Rattle.thy_view.specs.Keeps.{HasKept, doubt_in as doubt_of_saved}
 use Rattle.thy_view.specs.Moves.{standing, IsKeeping, Seals, Goes, LeavesAlone}
 use Rattle.thy_view.proofs.KeepsLemmas.{IsKeeping-move, Safe-kept, Spares-failed_action}
 use Rattle.thy_view.specs.Issuing.{AreIssued}
@@ -35,7 +35,7 @@ use Rattle.thy_parts.specs.Calls.{sealed}
 use Rattle.thy_parts.specs.Laws.{IsNext, SameReadsKeep, FailedItemsAreSafe, SoundIsSafe}
 use Rattle.thy_parts.specs.Moments.{IsMoment, SealsTo, MakesAt, Carries, ReadsSame, parts_at}
 use Rattle.thy_parts.specs.Sound.{layout_for, IsSound, IsHeld, HasState, HasCheckpoints}
-use Rattle.thy_parts.proofs.SoundLemmas.{made_with, moment_at, told_at, keeping_at, can, not_looked, some_image, at_round, at_first, keeping_failed}
+use Rattle.thy_parts.proofs.SoundLemmas.{made_with, moment_at, stall_at, keeping_at, can, not_looked, some_image, at_round, at_first, keeping_failed}
 use Rattle.thy_parts.proofs.SameLemmas.{issued_same}
 use Rattle.thy_parts.proofs.SlotLemmas.{placed, slot_as}
 
@@ -70,10 +70,10 @@ module _ {C : Type 0} (D : DesignOf C) (w : IsDesign D) (o : Origin) (k : Checkp
   -- the image that is kept is of the committed epoch
   kept_epoch : epoch_of (block_at sg.before 1) ≡ k.done.epoch
   kept_epoch =
-      let told : Tells o (layout_for D o) sg.before (Some k.done)
-      = subst (λ (x : Option Mark). Tells o (layout_for D o) sg.before x) h.checkpoints.kept keeping_idle.told in
+      let meant : HasKept o (layout_for D o) sg.before (Some k.done)
+      = subst (λ (x : Option Mark). HasKept o (layout_for D o) sg.before x) h.checkpoints.kept keeping_idle.meant in
       let whole : IsWhole (layout_for D o) ceiling sg.before k.done.epoch (at o k.done.count)
-      = decode_by-whole_back (layout_for D o) ceiling sg.before k.done.epoch (at o k.done.count) told.decodes in
+      = decode_by-whole_back (layout_for D o) ceiling sg.before k.done.epoch (at o k.done.count) meant.decodes in
       whole.of_epoch
 
   pub seal_keeps_sound : IsSound D o (record k { sealed = Some m }) (sealed D cpu epoch s) n
@@ -91,7 +91,7 @@ module _ {C : Type 0} (D : DesignOf C) (w : IsDesign D) (o : Origin) (k : Checkp
       stated = h.checkpoints.stated;
       sealed = refl;
       keeping = IsKeeping-move o (layout_for D o) _ _ (Seals n sg.before sg.kept m) keeping_idle;
-      told = to.keeps sg.before (t.next ∙ ap (λ x. x + 1) (sym kept_epoch)) (told_at D w o k s n h Idle nothing);
+      meant = to.keeps sg.before (t.next ∙ ap (λ x. x + 1) (sym kept_epoch)) (stall_at D w o k s n h Idle nothing);
       written = tt;
       made = λ way. record {
         mark = m;
@@ -171,7 +171,7 @@ module _ {C : Type 0} (D : DesignOf C) (w : IsDesign D) (o : Origin) (k : Checkp
       stated = h.checkpoints.stated;
       sealed = h.checkpoints.sealed;
       keeping = keeping;
-      told = on.keeps h.images.before h.checkpoints.told;
+      meant = on.keeps h.images.before h.checkpoints.meant;
       written = written;
       made = λ way.
           let old = h.checkpoints.made way in
@@ -316,7 +316,7 @@ module _ {C : Type 0} (D : DesignOf C) (w : IsDesign D) (o : Origin) (k : Checkp
       let on = w.items.body_onwards c from j first.stands next in
       fails_kept (Body from) (BodyItem j) is refl
       (not_looked D w o k s n h (I.body_place e.epoch c j)
-      (w.body_spared e.epoch c n j g.before passed.moment on.0 (passed.keeps g.before (told_at D w o k s n h (Body from) is)))) failed
+      (w.body_spared e.epoch c n j g.before passed.moment on.0 (passed.keeps g.before (stall_at D w o k s n h (Body from) is)))) failed
 
   tail_alone : (from : ℕ) (x : Option ℕ) → s.engine.stage ≡ Tail from → I.tail_next c from ≡ x
       → LeavesAlone (1 ∷ looked_by l g.before) (action_of F I e (tail_or_release x) c n)
@@ -326,7 +326,7 @@ module _ {C : Type 0} (D : DesignOf C) (w : IsDesign D) (o : Origin) (k : Checkp
       let passed = w.tail_passes e.epoch c n from j first next in
       let on = w.items.tail_onwards c from j first.stands next in
       not_looked D w o k s n h (I.tail_place c j)
-      (w.tail_spared e.epoch c n j g.before passed.moment on.1 (passed.keeps g.before (told_at D w o k s n h (Tail from) is)))
+      (w.tail_spared e.epoch c n j g.before passed.moment on.1 (passed.keeps g.before (stall_at D w o k s n h (Tail from) is)))
 
   fails : (q : EngineStage) → s.engine.stage ≡ q → is_under_way q ≡ true → FailsTo (action_of F I e (item I q c) c n) n m
       → IsKeeping o l (standing m (saved_failed q g) g.kept g.sealed)

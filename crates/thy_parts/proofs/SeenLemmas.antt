@@ -10,7 +10,7 @@ use Rattle.thy_view.specs.Booting.{view_of_image, boot_view, loading_view}
 use Rattle.thy_view.specs.Origin.{Origin}
 use Rattle.thy_view.specs.Safe.{ceiling, IsOneOf}
 use Rattle.thy_view.specs.Views.{loads}
-use Rattle.thy_view.specs.Keeps.{Tells, finding_view, TellsAll}
+use Rattle.thy_view.specs.Keeps.{HasKept, finding_view, HasMarks}
 use Rattle.thy_layout.specs.Layout.{Layout, decode_by, reading}
 use Rattle.thy_view.specs.Moves.{IsKeeping, standing}
 use Rattle.thy_layout.proofs.LayoutLemmas.{decode_by-nothing_back}
@@ -29,8 +29,8 @@ use Rattle.thy_parts.specs.BootLaws.{IsReadBy, LoadsIfNone, ViewIsKept, FoundIsS
 use Rattle.thy_block.specs.Marks.{mark}
 use Rattle.thy_block.proofs.CrashLemmas.{Crash-image}
 use Rattle.thy_view.proofs.SafeLemmas.{Safe-same}
-use Rattle.thy_view.specs.Told.{told}
-use Rattle.thy_view.proofs.KeepsLemmas.{finding_view-told, Safe-sealed}
+use Rattle.thy_view.specs.WithTurns.{with_turns}
+use Rattle.thy_view.proofs.KeepsLemmas.{finding_view-meant, Safe-sealed}
 use Rattle.thy_view.specs.declared.round.Round.{Round}
 use Rattle.thy_view.specs.declared.round.Round.TheVariants.{Write, Settle, Commit, Confirm}
 use Rattle.thy_view.specs.Round.{is_written, round_action}
@@ -54,7 +54,7 @@ use Rattle.thy_checkpoint.proofs.SafeLemmas.{read_failed}
 
 -- the view of a boot depends on the image, and on no turn
 pub alike_at : (read : Reading) (o : Origin) (turns : List ℕ) (stage : Stage) (n : Device)
-    → view_at read (told o turns) stage n ≡ view_at read o stage n
+    → view_at read (with_turns o turns) stage n ≡ view_at read o stage n
 alike_at read o turns (Reads r) n = refl
 alike_at read o turns (Loads r) n = refl
 alike_at read o turns (Migrates r) n = refl
@@ -63,9 +63,9 @@ alike_at read o turns (Over end) n = refl
 -- ---- it is a view of a boot
 
 module _ (o : Origin) (l : Layout) (g : BootImages) where
-  shown-finding : (kept : Option Mark) → Tells o l g.before kept → IsBootView o (finding_view o.start.count kept)
-  shown-finding None tells = inr (tells.1, inl refl)
-  shown-finding (Some m) tells = inl (m, refl)
+  shown-finding : (kept : Option Mark) → HasKept o l g.before kept → IsBootView o (finding_view o.start.count kept)
+  shown-finding None means_mark = inr (means_mark.1, inl refl)
+  shown-finding (Some m) means_mark = inl (m, refl)
 
   shown-loading : (r : Round) → o.kept ≡ None → IsBootView o (record (loading_view o.start.count) { written = is_written r })
   shown-loading (Write k) none = inr (none, inl refl)
@@ -74,20 +74,20 @@ module _ (o : Origin) (l : Layout) (g : BootImages) where
   shown-loading Confirm none = inr (none, inr refl)
 
   -- in a round the image that was found is kept
-  tells-at : (r : Round) (kept sealed : Option Mark) → TellsAll o l (saved_in r g.before g.next) kept sealed → Tells o l g.before kept
-  tells-at (Write k) kept sealed told = told
-  tells-at Settle kept sealed told = told
-  tells-at Commit kept sealed told = told.0
-  tells-at Confirm kept sealed told = told.0
+  means_mark-at : (r : Round) (kept sealed : Option Mark) → HasMarks o l (saved_in r g.before g.next) kept sealed → HasKept o l g.before kept
+  means_mark-at (Write k) kept sealed with_turns = with_turns
+  means_mark-at Settle kept sealed with_turns = with_turns
+  means_mark-at Commit kept sealed with_turns = with_turns.0
+  means_mark-at Confirm kept sealed with_turns = with_turns.0
 
   -- a run that loads began without a checkpoint
-  pub loads-first : (r : Round) → TellsAll o l (saved_in r g.before g.next) None (Some (start_mark o)) → o.kept ≡ None
-  loads-first r told = let none = tells-at r None (Some (start_mark o)) told in none.1
+  pub loads-first : (r : Round) → HasMarks o l (saved_in r g.before g.next) None (Some (start_mark o)) → o.kept ≡ None
+  loads-first r with_turns = let none = means_mark-at r None (Some (start_mark o)) with_turns in none.1
 
   shown-at : (n : Device) (q : Stage) → IsGoing q → IsKeeping o l (standing_in_boot o q g n) → IsBootView o (seen_at o g.kept q)
-  shown-at n (Reads r) going keeps = shown-finding g.kept keeps.told
-  shown-at n (Loads r) going keeps = shown-loading r (loads-first r keeps.told)
-  shown-at n (Migrates r) going keeps = shown-finding g.kept (tells-at r g.kept g.kept keeps.told)
+  shown-at n (Reads r) going keeps = shown-finding g.kept keeps.meant
+  shown-at n (Loads r) going keeps = shown-loading r (loads-first r keeps.meant)
+  shown-at n (Migrates r) going keeps = shown-finding g.kept (means_mark-at r g.kept g.kept keeps.meant)
   shown-at n (Over end) going keeps = absurd going
 
   -- the image has its length
@@ -114,12 +114,12 @@ view-kept o m (At epoch state) h = elim h.0 as (λ _. boot_view (Some (mark epoc
 module _ {C : Type 0} (F : FillingOf C) where
   -- while it reads, what the image means is the mark that is kept
   pub view-reading : (read : Reading) (o : Origin) (g : BootImages) (n : Device) (b : Booting) (c : C)
-      → IsReadBy F read → IsRecovering F g n b c → length n.image ≡ (layout_for F o).image_blocks → Tells o (layout_for F o) g.before g.kept
+      → IsReadBy F read → IsRecovering F g n b c → length n.image ≡ (layout_for F o).image_blocks → HasKept o (layout_for F o) g.before g.kept
       → view_of_image o.start.count (read o.geometry ceiling n.image) ≡ finding_view o.start.count g.kept
-  view-reading read o g n b c reads recovering sized tells =
+  view-reading read o g n b c reads recovering sized means_mark =
       ap (view_of_image o.start.count) (reads o.geometry n.image sized)
       ∙ ap (λ (x : List Block). view_of_image o.start.count (decode_by (layout_for F o) ceiling x)) (sym recovering.before_is)
-      ∙ finding_view-told o (layout_for F o) g.before g.kept o.start.count tells
+      ∙ finding_view-meant o (layout_for F o) g.before g.kept o.start.count means_mark
 
   -- while a boot migrates, what the image means is the mark that is kept
   pub view-migrating : (read : Reading) (o : Origin) (g : BootImages) (n : Device) (b : Booting) (c : C) (r : Round)
@@ -135,7 +135,7 @@ module _ {C : Type 0} (F : FillingOf C) where
   view-at : (read : Reading) (o : Origin) (g : BootImages) (n : Device) (b : Booting) (c : C) (q : Stage)
       → IsReadBy F read → IsGoing q → IsKeeping o (layout_for F o) (standing_in_boot o q g n) → IsSoundAt F o q g n b c
       → view_at read o q n ≡ seen_at o g.kept q
-  view-at read o g n b c (Reads r) reads going keeps far = view-reading read o g n b c reads far keeps.sized keeps.told
+  view-at read o g n b c (Reads r) reads going keeps far = view-reading read o g n b c reads far keeps.sized keeps.meant
   view-at read o g n b c (Loads r) reads going keeps far = refl
   view-at read o g n b c (Migrates r) reads going keeps far =
       view-migrating read o g n b c r reads keeps far ∙ ap (finding_view o.start.count) (sym far.kept)
@@ -174,11 +174,11 @@ unread-at (Migrates r) h = cc
 unread-at (Over end) h = cc
 
 -- an image with a commit block has a checkpoint
-kept-some : (o : Origin) (l : Layout) (g : BootImages) (n : Device) (kept : Option Mark) → g.before ≡ n.image → Tells o l g.before kept
+kept-some : (o : Origin) (l : Layout) (g : BootImages) (n : Device) (kept : Option Mark) → g.before ≡ n.image → HasKept o l g.before kept
     → is_zero (block_at n.image 1) ≡ false → loads (finding_view o.start.count kept) ≡ false
-kept-some o l g n (Some m) before tells committed = refl
-kept-some o l g n None before tells committed =
-    let zero : is_zero (block_at g.before 1) ≡ true = decode_by-nothing_back l ceiling g.before tells.0 in
+kept-some o l g n (Some m) before means_mark committed = refl
+kept-some o l g n None before means_mark committed =
+    let zero : is_zero (block_at g.before 1) ≡ true = decode_by-nothing_back l ceiling g.before means_mark.0 in
     let both : false ≡ true = sym committed ∙ ap (λ (x : List Block). is_zero (block_at x 1)) (sym before) ∙ zero in
     cc
 
@@ -201,26 +201,26 @@ module _ {C : Type 0} (F : FillingOf C) where
   has-commit (Refusing bad) n b c h = tt
 
 module _ {C : Type 0} (F : FillingOf C) (read : Reading) (reads : IsReadBy F read) (o : Origin) (g : BootImages) (n : Device) (b : Booting) (c : C) where
-  not-loading : IsRecovering F g n b c → length n.image ≡ (layout_for F o).image_blocks → Tells o (layout_for F o) g.before g.kept
+  not-loading : IsRecovering F g n b c → length n.image ≡ (layout_for F o).image_blocks → HasKept o (layout_for F o) g.before g.kept
       → is_zero (block_at n.image 1) ≡ false → loads (view_of_image o.start.count (read o.geometry ceiling n.image)) ≡ false
-  not-loading recovering sized tells committed =
-      ap loads (view-reading F read o g n b c reads recovering sized tells)
-      ∙ kept-some o (layout_for F o) g n g.kept recovering.before_is tells committed
+  not-loading recovering sized means_mark committed =
+      ap loads (view-reading F read o g n b c reads recovering sized means_mark)
+      ∙ kept-some o (layout_for F o) g n g.kept recovering.before_is means_mark committed
 
   reading-at : (r : ReadStage) → ((bad : BadImage) → Reads r ≢ Reads (Refusing bad)) → length n.image ≡ (layout_for F o).image_blocks
-      → Tells o (layout_for F o) g.before g.kept → IsRecovering F g n b c → HasCommitAt r n
+      → HasKept o (layout_for F o) g.before g.kept → IsRecovering F g n b c → HasCommitAt r n
       → false ≡ (has_read_at (Reads r) && loads (view_at read o (Reads r) n))
-  reading-at Unread good sized tells far has = refl
-  reading-at Header good sized tells far has = sym (not-loading far sized tells has)
-  reading-at (Slot next) good sized tells far has = sym (not-loading far sized tells has)
-  reading-at (Fills k) good sized tells far has = sym (not-loading far sized tells has)
-  reading-at (Refusing bad) good sized tells far has = absurd (good bad refl)
+  reading-at Unread good sized means_mark far has = refl
+  reading-at Header good sized means_mark far has = sym (not-loading far sized means_mark has)
+  reading-at (Slot next) good sized means_mark far has = sym (not-loading far sized means_mark has)
+  reading-at (Fills k) good sized means_mark far has = sym (not-loading far sized means_mark has)
+  reading-at (Refusing bad) good sized means_mark far has = absurd (good bad refl)
 
   loading-at : (q : Stage) → b.stage ≡ q → IsGoing q → ((bad : BadImage) → q ≢ Reads (Refusing bad))
       → IsKeeping o (layout_for F o) (standing_in_boot o q g n) → IsSoundAt F o q g n b c
       → loads_at q ≡ (has_read_at q && loads (view_at read o q n))
   loading-at (Reads r) is going good keeps far =
-      reading-at r good keeps.sized keeps.told far (has-commit F r n b c (subst (λ (q : Stage). HasReadAt F q n b c) is far.read.so_far))
+      reading-at r good keeps.sized keeps.meant far (has-commit F r n b c (subst (λ (q : Stage). HasReadAt F q n b c) is far.read.so_far))
   loading-at (Loads r) is going good keeps far = refl
   loading-at (Migrates r) is going good keeps far = sym (ap loads (view-migrating F read o g n b c r reads keeps far))
   loading-at (Over end) is going good keeps far = absurd going
@@ -258,7 +258,7 @@ pub was-loading : (o : Origin) (l : Layout) (g : BootImages) (n : Device) (q : S
     → IsKeeping o l (standing_in_boot o q g n) → WasLoading o g q
 was-loading o l g n (Reads r) going w keeps = absurd (unwritten o.start.count g.kept w)
 was-loading o l g n (Loads r) going w keeps =
-    (loads-first o l g r keeps.told, ap (λ (t : Bool). record (loading_view o.start.count) { written = t }) w)
+    (loads-first o l g r keeps.meant, ap (λ (t : Bool). record (loading_view o.start.count) { written = t }) w)
 was-loading o l g n (Migrates r) going w keeps = absurd (unwritten o.start.count g.kept w)
 was-loading o l g n (Over end) going w keeps = absurd going
 

@@ -126,8 +126,8 @@ module _ {C : Type 0} (D : DesignOf C) (w : IsDesign D) (o : Origin) (k : Checkp
   pub moment_at : (q : EngineStage) → e.stage ≡ q → IsMoment D (phase_of q) e.epoch c n
   moment_at q is = subst (λ r. IsMoment D (phase_of r) e.epoch c n) is h.held.moment
 
-  pub told_at : (q : EngineStage) → e.stage ≡ q → D.parts.keeps (phase_of q) e.epoch c g.before
-  told_at q is = subst (λ r. D.parts.keeps (phase_of r) e.epoch c g.before) is h.checkpoints.told
+  pub stall_at : (q : EngineStage) → e.stage ≡ q → D.parts.keeps (phase_of q) e.epoch c g.before
+  stall_at q is = subst (λ r. D.parts.keeps (phase_of r) e.epoch c g.before) is h.checkpoints.meant
 
   written_at : (q : EngineStage) → e.stage ≡ q → HasWrittenBefore D q e c n
   written_at q is = subst (λ r. HasWrittenBefore D r e c n) is h.checkpoints.written
@@ -202,7 +202,7 @@ module _ {C : Type 0} (D : DesignOf C) (w : IsDesign D) (o : Origin) (k : Checkp
       stated = h.checkpoints.stated;
       sealed = h.checkpoints.sealed;
       keeping = keeping;
-      told = on.keeps g.before h.checkpoints.told;
+      meant = on.keeps g.before h.checkpoints.meant;
       written = written_stage D q q e d m written;
       made = λ way. made_with D o e q c d n m g next (h.checkpoints.made (sym sealing ∙ way)) on.sealed makes;
     };
@@ -237,7 +237,7 @@ module _ {C : Type 0} (D : DesignOf C) (w : IsDesign D) (o : Origin) (k : Checkp
       let passed = w.body_passes e.epoch c n from j first next in
       let on = w.items.body_onwards c from j first.stands next in
       let wrote = w.body_carries e.epoch c n j passed.moment on.0 in
-      let free = w.body_spared e.epoch c n j g.before passed.moment on.0 (passed.keeps g.before (told_at (Body from) is)) in
+      let free = w.body_spared e.epoch c n j g.before passed.moment on.0 (passed.keeps g.before (stall_at (Body from) is)) in
       goes (Body (j + 1)) (I.body_after c j) m
       (from_stage (Body from) (Making (j + 1)) (I.body_after c j) m is
       (Carries-both D e.epoch (Making from) (Making j) (Making (j + 1)) c c (I.body_after c j) n n m passed wrote))
@@ -312,7 +312,7 @@ module _ {C : Type 0} (D : DesignOf C) (w : IsDesign D) (o : Origin) (k : Checkp
     header_e = subst (λ (p : Parameters). header_bad (layout_at F p) (newest n 0) true ≡ None) (sym p_is) h.header
 
     pub free : (j : ℕ) → j < slot_blocks F e → IsSpared D c g.before (slot_place F e j)
-    free j below = w.slot_spared e c n g.before j moment_r (can here.way) (here.into.keeps g.before h.checkpoints.told) below
+    free j below = w.slot_spared e c n g.before j moment_r (can here.way) (here.into.keeps g.before h.checkpoints.meant) below
 
     -- with the whole slot issued the next image is the checkpoint that is made
     module _ (whole : HasWrittenSlot D e c n (slot_blocks F e)) where
@@ -460,7 +460,7 @@ module _ {C : Type 0} (D : DesignOf C) (w : IsDesign D) (o : Origin) (k : Checkp
         stated = old_d.commit (here.settled refl) ∙ ap commit_of (sym old_d.of_epoch ∙ ap (λ (m : Mark). m.epoch) (sym done_is));
         sealed = refl;
         keeping = subst (λ x. IsKeeping o l (standing (settled n) x g.sealed None)) (sym saved) keeping_d;
-        told = on.keeps g.next ((over Confirm here).makes g.next (old_d.makes (here.settled refl)));
+        meant = on.keeps g.next ((over Confirm here).makes g.next (old_d.makes (here.settled refl)));
         written = written_stage D q q e (I.committed c) (settled n) written;
         made = λ way. let no : true ≡ false = sym way ∙ unsealed in absurd cc;
       };
@@ -501,7 +501,7 @@ module _ {C : Type 0} (D : DesignOf C) (w : IsDesign D) (o : Origin) (k : Checkp
       let passed = w.tail_passes e.epoch c n from j first next in
       let on = w.items.tail_onwards c from j first.stands next in
       let wrote = w.tail_carries e.epoch c n j passed.moment on.1 in
-      let free = w.tail_spared e.epoch c n j g.before passed.moment on.1 (passed.keeps g.before (told_at (Tail from) is)) in
+      let free = w.tail_spared e.epoch c n j g.before passed.moment on.1 (passed.keeps g.before (stall_at (Tail from) is)) in
       goes (Tail (j + 1)) (I.tail_after c j) m
       (from_stage (Tail from) (Applying (j + 1)) (I.tail_after c j) m is
       (Carries-both D e.epoch (Applying from) (Applying j) (Applying (j + 1)) c c (I.tail_after c j) n n m passed wrote))

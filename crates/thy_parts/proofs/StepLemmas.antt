@@ -40,7 +40,7 @@ use Rattle.thy_parts.specs.Sound.{IsSound}
 use Rattle.thy_parts.proofs.SameLemmas.{Carries-both, opens_both, settled_same}
 use Rattle.thy_parts.proofs.HeldLemmas.{moment_held, Keeping, keeping_carried, keeps_by}
 use Rattle.thy_parts.proofs.SafeLemmas.{failed_items_are_safe, seal_keeps_sound, idle_stage}
-use Rattle.thy_parts.proofs.SoundLemmas.{IsAt, moment_at, told_at, at_round, at_first, free, on_round, items_keep_sound}
+use Rattle.thy_parts.proofs.SoundLemmas.{IsAt, moment_at, stall_at, at_round, at_first, free, on_round, items_keep_sound}
 
 -- ---- what an item is
 
@@ -112,7 +112,7 @@ module _ {C : Type 0} (D : DesignOf C) (w : IsDesign D) (o : Origin) (k : Checkp
   body_free : (from j : ℕ) → e.stage ≡ Body from → I.body_next c from ≡ Some j → IsSpared D c g.before (I.body_place e.epoch c j)
   body_free from j is next =
       let pass = passed from j is next in
-      w.body_spared e.epoch c n j g.before pass.moment (again from j is next) (pass.keeps g.before (told_at D w o k s n sound (Body from) is))
+      w.body_spared e.epoch c n j g.before pass.moment (again from j is next) (pass.keeps g.before (stall_at D w o k s n sound (Body from) is))
 
   abbrev Here : Round → Type 0
   Here r = IsAt D o k s n g r
@@ -126,7 +126,7 @@ module _ {C : Type 0} (D : DesignOf C) (w : IsDesign D) (o : Origin) (k : Checkp
   tail_free : (from j : ℕ) → e.stage ≡ Tail from → I.tail_next c from ≡ Some j → IsSpared D c g.before (I.tail_place c j)
   tail_free from j is next =
       let pass = passed_tail from j is next in
-      w.tail_spared e.epoch c n j g.before pass.moment (again_tail from j is next) (pass.keeps g.before (told_at D w o k s n sound (Tail from) is))
+      w.tail_spared e.epoch c n j g.before pass.moment (again_tail from j is next) (pass.keeps g.before (stall_at D w o k s n sound (Tail from) is))
 
   -- ---- an item asks for the action that its result names, and writes if it is reported so
 

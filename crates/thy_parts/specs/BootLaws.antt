@@ -9,7 +9,7 @@ use Rattle.thy_view.specs.Action.{FailsTo}
 use Rattle.thy_view.specs.Origin.{Origin}
 use Rattle.thy_view.specs.Safe.{ceiling}
 use Rattle.thy_view.specs.Views.{loads}
-use Rattle.thy_view.specs.Keeps.{Tells}
+use Rattle.thy_view.specs.Keeps.{HasKept}
 use Rattle.thy_layout.specs.Layout.{decode_by}
 use Rattle.thy_checkpoint.specs.declared.boot_stage.Stage.{Stage}
 use Rattle.thy_checkpoint.specs.Boot.{Booting}
@@ -65,4 +65,4 @@ abbrev pub OwnHasMark : {C : Type 0} → FillingOf C → Type 0
 OwnHasMark F =
     (read : Reading) (o : Origin) (n : Device)
     → IsReadBy F read → length n.image ≡ (layout_for F o).image_blocks → IsOwn o (read o.geometry ceiling n.image)
-    → (kept : Option Mark) × Tells o (layout_for F o) n.image kept
+    → (kept : Option Mark) × HasKept o (layout_for F o) n.image kept

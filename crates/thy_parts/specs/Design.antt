@@ -1,5 +1,5 @@
 -- Part of the claim.
--- What is seen of controllers of a type as those of a scheme: what its boot fills, what its engine writes, and the rest.
+-- What is seen of controllers of a type as a scheme's: what its boot fills, what its engine writes, and the rest.
 use Rattle.std.specs.Prelude.{◌≡◌, ℕ, Bool, true, false, List, length, Option}
 use Rattle.thy_block.specs.declared.block.Block.{Block}
 use Rattle.thy_block.specs.declared.parameters.Parameters.{Parameters}

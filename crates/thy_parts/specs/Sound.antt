@@ -40,7 +40,7 @@ pub record HasCheckpoints {C : Type 0} (D : DesignOf C) (o : Origin) (k : Checkp
   pub stated : block_at g.before commit_place ≡ commit_of k.done.epoch
   pub sealed : g.sealed ≡ k.sealed
   pub keeping : IsKeeping o (layout_for D o) (standing_at e.stage n g)
-  pub told : D.parts.keeps (phase_of e.stage) e.epoch c g.before
+  pub meant : D.parts.keeps (phase_of e.stage) e.epoch c g.before
   pub written : HasWrittenBefore D e.stage e c n
   pub made : is_sealing e.stage ≡ true → IsMadeFor D o e c n g
 

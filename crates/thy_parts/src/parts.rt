@@ -31,7 +31,7 @@ pub trait Parts: Checkpoints {
         ensures { result ≡ lost (Self.filling.dram control) pick };
 
     /// The controller's tables and its DRAM are sound. The call does nothing.
-    fn sound(control: &Self::Control)
+    fn recall_sound(control: &Self::Control)
         ensures { parts.sound control.now };
 
     /// Block `b` of memory. It fails only if that block is in the NVM.

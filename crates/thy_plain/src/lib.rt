@@ -13,4 +13,4 @@ mod start;
 mod window;
 
 pub use plain::Plain;
-pub use start::{are_bytes, start_of};
+pub use start::{recall_are_bytes, start_of};

@@ -64,7 +64,7 @@ fn start_other(geometry: &Geometry, entry: u64) -> Option<OtherHart>
 }
 
 /// Does nothing: a proof learns here what the type says of each byte.
-pub fn are_bytes(bytes: &[u8])
+pub fn recall_are_bytes(bytes: &[u8])
     ensures { All IsByte bytes.now }
 {
     let _ = bytes;
@@ -83,7 +83,7 @@ pub(crate) fn state_over(
     ensures storable { IsStorable (length (bytes_of memory)) (state_of result) }
     ensures room { room_of result.console ≡ room_of console }
 {
-    are_bytes(memory.as_slice());
+    recall_are_bytes(memory.as_slice());
     MachState {
         pc: entry,
         regs: start_regs(geometry),

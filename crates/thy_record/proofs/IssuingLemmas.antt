@@ -11,7 +11,7 @@ use Rattle.thy_table.specs.Places.{table_blocks, count_blocks, blocks_one, image
 use Rattle.thy_record.specs.VersionSlots.{blocks_of_slot, place_of_slot}
 use Rattle.thy_layout.specs.Files.{blocks_of}
 use Rattle.thy_layout.specs.Layout.{is_length, slot_places, looked_by}
-use Rattle.thy_record.specs.DualLayouts.{older_of, dual_layouts}
+use Rattle.thy_record.specs.ThynvmLayouts.{older_of, thynvm_layouts}
 use Rattle.thy_record.specs.Slots.{count_byte, tables_in}
 use Rattle.thy_layout.proofs.FileLemmas.{block_at-blocks_of}
 use Rattle.thy_block.specs.Words.{word_of}
@@ -25,11 +25,11 @@ use Rattle.thy_table.specs.declared.place.Place.TheVariants.{Home, AlternateBloc
 use Rattle.thy_block.specs.Device.{Device, zero_block, block_at, newest}
 use Rattle.thy_block.specs.Geometry.{memory_blocks}
 use Rattle.thy_block.specs.Store.{page_of}
-use Rattle.thy_table.proofs.PlaceLemmas.{numbers_tell, between_slots}
+use Rattle.thy_table.proofs.PlaceLemmas.{numbers_name, between_slots}
 use Rattle.thy_block.proofs.BasicLemmas.{Contains-range}
 use Rattle.thy_layout.proofs.LookedLemmas.{not_looked}
 use Rattle.thy_record.specs.Images.{slot_in, memory_numbers}
-use Rattle.thy_record.specs.Issuing.{Target, SlotBlock, PlaceBlock, target_number, IsTarget, IsUnused, IsFree, IsToldBy, memory_read, HasMemory}
+use Rattle.thy_record.specs.Issuing.{Target, SlotBlock, PlaceBlock, target_number, IsTarget, IsUnused, IsFree, HoldsCheckpoint, memory_read, HasMemory}
 use Rattle.thy_layout.specs.Entries.{entry_at, Lists, entry_of}
 use Rattle.thy_record.specs.Tables.{Tables, place_by_entries, place_of, IsTables}
 use Rattle.thy_layout.proofs.EntryLemmas.{entry_of-Some, entry_of-None}
@@ -142,7 +142,7 @@ unused_apart : (p : Parameters) (t : Tables) (x : Place) → IsTables p t → Is
     → Contains (memory_numbers p t) (number_of p x) → ⊥
 unused_apart p t x s there nvm unused inside =
     let of = memory_number_of p t (number_of p x) inside in
-    unused.none of.0 of.1 (numbers_tell p (place_of t of.0) x (IsPlace-place_of p t of.0 s of.1) there (in_dram-place_of t of.0 ∙ sym nvm) of.2)
+    unused.none of.0 of.1 (numbers_name p (place_of t of.0) x (IsPlace-place_of p t of.0 s of.1) there (in_dram-place_of t of.0 ∙ sym nvm) of.2)
 
 -- slots of version 1 lie before the homes, slots of version 2 after all places
 pub old_slot_before : (p : Parameters) (s k : ℕ) → s < 2 → k < blocks_of_slot VersionOne p
@@ -237,21 +237,21 @@ free_of_memory p VersionOne epoch t (PlaceBlock x) tables there free inside = un
 free_of_memory p VersionTwo epoch t (PlaceBlock x) tables there free inside = unused_apart p t x tables there.0 there.1 free inside
 
 module _ (p : Parameters) (image : List Block) (version : LayoutVersion) (epoch : ℕ) (t : Tables) (x : Target)
-    (told : IsToldBy p image version epoch t) (there : IsTarget p x) (free : IsFree p version epoch t x) where
-  not_in_slot : Contains (slot_places (dual_layouts p) (block_at image 1)) (target_number p x) → ⊥
+    (meant : HoldsCheckpoint p image version epoch t) (there : IsTarget p x) (free : IsFree p version epoch t x) where
+  not_in_slot : Contains (slot_places (thynvm_layouts p) (block_at image 1)) (target_number p x) → ⊥
   not_in_slot inside =
       let of = Contains-range (place_of_slot (version_of scheme_number p (block_at image 1)) p (epoch_of (block_at image 1) % 2)) (blocks_of_slot (version_of scheme_number p (block_at image 1)) p)
       (target_number p x) inside in
-      free_of_slot p version epoch t x there free of.0 (subst (λ f. of.0 < blocks_of_slot f p) told.of_version of.1)
-      (sym (ap (λ f. place_of_slot f p (epoch_of (block_at image 1) % 2) + of.0) told.of_version
-      ∙ ap (λ e. place_of_slot version p (e % 2) + of.0) told.of_epoch) ∙ of.2)
+      free_of_slot p version epoch t x there free of.0 (subst (λ f. of.0 < blocks_of_slot f p) meant.of_version of.1)
+      (sym (ap (λ f. place_of_slot f p (epoch_of (block_at image 1) % 2) + of.0) meant.of_version
+      ∙ ap (λ e. place_of_slot version p (e % 2) + of.0) meant.of_epoch) ∙ of.2)
 
   not_in_memory : Contains (memory_numbers p (tables_in p (slot_in p image))) (target_number p x) → ⊥
   not_in_memory inside =
-      free_of_memory p version epoch t x told.whole there free (subst (λ u. Contains (memory_numbers p u) (target_number p x)) told.tables inside)
+      free_of_memory p version epoch t x meant.whole there free (subst (λ u. Contains (memory_numbers p u) (target_number p x)) meant.tables inside)
 
-  pub free_not_looked : Contains (1 ∷ looked_by (dual_layouts p) image) (target_number p x) → ⊥
-  free_not_looked inside = not_looked (dual_layouts p) image (target_number p x) (target_behind p x there) not_in_slot not_in_memory inside
+  pub free_not_looked : Contains (1 ∷ looked_by (thynvm_layouts p) image) (target_number p x) → ⊥
+  free_not_looked inside = not_looked (thynvm_layouts p) image (target_number p x) (target_behind p x there) not_in_slot not_in_memory inside
 
 -- ---- how memory is read
 
@@ -302,7 +302,7 @@ after_commit p VersionTwo s = omega arith
 record_fits : (records tables slot : ℕ) → records + tables ≤ slot → records ≤ slot
 record_fits records tables slot l = omega arith
 
-has_slot : (p : Parameters) (commit : Block) → HasSlot (dual_layouts p) commit
+has_slot : (p : Parameters) (commit : Block) → HasSlot (thynvm_layouts p) commit
 has_slot p commit = record {
   record_inside = record_fits _ _ _ (least_slot p commit);
   most = slot_most p (version_of scheme_number p commit);
@@ -328,7 +328,7 @@ slot_apart : (p : Parameters) (version : LayoutVersion) (s k x : ℕ) → s < 2 
 slot_apart p VersionOne s k x l m low high = λ e. let before = (old_slot_before p s k l m).1 in omega (arith, before, low, e)
 slot_apart p VersionTwo s k x l m low high = λ e. let behind = slot_behind p s k in omega (arith, behind, high, e)
 
-has_places : (p : Parameters) (commit : Block) (slot : List Block) → Fits (dual_layouts p) commit slot → HasPlaces (dual_layouts p) commit slot
+has_places : (p : Parameters) (commit : Block) (slot : List Block) → Fits (thynvm_layouts p) commit slot → HasPlaces (thynvm_layouts p) commit slot
 has_places p commit slot fits =
     let t : Tables = tables_in p slot in
     let tables : IsTables p (tables_in p slot)
@@ -341,12 +341,12 @@ has_places p commit slot fits =
           slot_apart p (version_of scheme_number p commit) (epoch_of commit % 2) k (number_of p (place_of t b)) (half (epoch_of commit)) m
           (place_between p t b tables l).0 (place_between p t b tables l).1;
       once = λ a b l m e.
-          place_of-own t a b (numbers_tell p (place_of t a) (place_of t b) (IsPlace-place_of p t a tables l) (IsPlace-place_of p t b tables m)
+          place_of-own t a b (numbers_name p (place_of t a) (place_of t b) (IsPlace-place_of p t a tables l) (IsPlace-place_of p t b tables m)
           (in_dram-place_of t a ∙ sym (in_dram-place_of t b)) e);
     }
 
-pub dual_are_layouts : AreLayouts dual_layouts
-dual_are_layouts = record {
+pub thynvm_are_layouts : AreLayouts thynvm_layouts
+thynvm_are_layouts = record {
   of = λ p. refl;
   number = λ p. omega arith;
   slot = has_slot;

@@ -6,4 +6,4 @@ pub mod IssuingLemmas
 pub mod CheckLemmas
 pub mod IndexLemmas
 pub mod MigratedLemmas
-pub mod DualPartsLemmas
+pub mod ThynvmPartsLemmas

@@ -42,7 +42,7 @@ use Rattle.thy_layout.specs.Layout.{blocks_at}
 use Rattle.thy_record.specs.Number.{scheme_number}
 use Rattle.thy_layout.proofs.AskingLemmas.{block_at-numbers, status_fault-higher}
 use Rattle.thy_layout.proofs.LayoutLemmas.{sized_if_long, decode_by-whole, decoded_parts}
-use Rattle.thy_record.specs.DualLayouts.{dual_layouts, decode_image}
+use Rattle.thy_record.specs.ThynvmLayouts.{thynvm_layouts, decode_image}
 use Rattle.thy_record.specs.Images.{slot_in, memory_numbers}
 
 -- eight entries of the tables are a block of them
@@ -267,10 +267,10 @@ decode-written p ceiling cpu t counts epoch image r recordable s are most below 
     let of_epoch : epoch_of (block_at image 1) ≡ epoch = ap epoch_of has.commit ∙ epoch_of-commit_of epoch fits in
     let version : version_of scheme_number p (block_at image 1) ≡ VersionTwo = ap (version_of scheme_number p) has.commit ∙ version_of-commit_of scheme_number p epoch in
     let slot = IsSlotOf-written p cpu t counts epoch image fits has in
-    decode_by-whole (dual_layouts p) ceiling image epoch (state_from p cpu (blocks_at image (memory_numbers p t))) (record {
+    decode_by-whole (thynvm_layouts p) ceiling image epoch (state_from p cpu (blocks_at image (memory_numbers p t))) (record {
       committed = ap is_zero has.commit ∙ is_zero-commit_of epoch;
       faultless = all_none _ _ _
-          (ap (header_fault scheme_number (block_at image 0) p) (sized_if_long (dual_layouts p) image has.long) ∙ has.header_fits)
+          (ap (header_fault scheme_number (block_at image 0) p) (sized_if_long (thynvm_layouts p) image has.long) ∙ has.header_fits)
           (ap (λ b. commit_fault (block_at image 0) b ceiling) has.commit ∙ commit_fault-commit_of (block_at image 0) epoch ceiling below most)
           (ap (λ f. slot_fault f p ceiling (epoch_of (block_at image 1)) (slot_in p image)) version
           ∙ ap (λ e. slot_fault VersionTwo p ceiling e (slot_in p image)) of_epoch
@@ -316,7 +316,7 @@ cpu_of_slot version p ceiling epoch slot none =
 pub tables_of_decoded : (p : Parameters) (ceiling : ℕ) (image : List Block) (epoch : ℕ) (state : State)
     → decode_image p ceiling image ≡ At epoch state → IsTables p (tables_in p (slot_in p image))
 tables_of_decoded p ceiling image epoch state h =
-    let fits = decoded_parts (dual_layouts p) ceiling image epoch state h in
+    let fits = decoded_parts (thynvm_layouts p) ceiling image epoch state h in
     tables_of_slot (version_of scheme_number p (block_at image 1)) p ceiling (epoch_of (block_at image 1)) (slot_in p image) fits.2
 
 -- ---- a higher ceiling

@@ -17,7 +17,7 @@ use Rattle.thy_isa.specs.OnBlocks.{state_from}
 use Rattle.thy_record.specs.Number.{scheme_number}
 use Rattle.thy_layout.specs.Header.{header_fault}
 use Rattle.thy_layout.specs.Layout.{blocks_at}
-use Rattle.thy_record.specs.DualLayouts.{decode_image}
+use Rattle.thy_record.specs.ThynvmLayouts.{decode_image}
 use Rattle.thy_record.specs.Images.{slot_in, memory_numbers}
 use Rattle.thy_record.specs.Slots.{slot_block_of, byte_in, AreCounts, IsSlotOf, tables_in, counts_in, slot_fault}
 use Rattle.thy_layout.specs.Entries.{entry_word}

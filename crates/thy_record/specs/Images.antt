@@ -7,12 +7,12 @@ use Rattle.thy_block.specs.declared.parameters.Parameters.{Parameters}
 use Rattle.thy_block.specs.Geometry.{memory_blocks}
 use Rattle.thy_table.specs.Places.{number_of}
 use Rattle.thy_layout.specs.Layout.{slot_in as slot_by}
-use Rattle.thy_record.specs.DualLayouts.{dual_layouts}
+use Rattle.thy_record.specs.ThynvmLayouts.{thynvm_layouts}
 use Rattle.thy_record.specs.Tables.{Tables, place_of}
 
 -- the slot of an image's checkpoint
 abbrev pub slot_in : Parameters → List Block → List Block
-slot_in p image = slot_by (dual_layouts p) image
+slot_in p image = slot_by (thynvm_layouts p) image
 
 -- the numbers of the blocks in which tables have memory's blocks, in the order of these
 abbrev pub memory_numbers : Parameters → Tables → List ℕ

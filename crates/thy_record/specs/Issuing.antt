@@ -14,7 +14,7 @@ use Rattle.thy_table.specs.Places.{in_dram, number_of, IsPlace, slot_blocks, slo
 use Rattle.thy_block.specs.Store.{page_of}
 use Rattle.thy_layout.specs.Commit.{epoch_of, version_of, slot_of_epoch}
 use Rattle.thy_layout.specs.Layout.{looked_by}
-use Rattle.thy_record.specs.DualLayouts.{dual_layouts}
+use Rattle.thy_record.specs.ThynvmLayouts.{thynvm_layouts}
 use Rattle.thy_record.specs.Images.{slot_in, memory_numbers}
 use Rattle.thy_record.specs.Number.{scheme_number}
 use Rattle.thy_record.specs.Slots.{tables_in}
@@ -43,7 +43,7 @@ pub record IsUnused (p : Parameters) (t : Tables) (x : Place) : Type 0 where
   pub none : (b : ℕ) → b < memory_blocks p → place_of t b ≢ x
 
 -- the checkpoint of an epoch with these tables has nothing there: another slot, also where its own is of version 1, or a
--- place that it does not use
+-- place that it does not use (places 3 and 4 in docs/CONTROLLER.md)
 abbrev pub IsFree : Parameters → LayoutVersion → ℕ → Tables → Target → Type 0
 IsFree p VersionOne epoch t (SlotBlock s k) = Unit {0}
 IsFree p VersionTwo epoch t (SlotBlock s k) = s ≢ slot_of_epoch epoch
@@ -64,7 +64,7 @@ abbrev pub EmptyPageIsUnused : Type 0
 EmptyPageIsUnused = (p : Parameters) (t : Tables) (j k : ℕ) → entry_at t.ptt j ≡ None → IsUnused p t (AlternatePage j k)
 
 -- an image has the checkpoint of this epoch, in a slot of this version, with these tables
-pub record IsToldBy (p : Parameters) (image : List Block) (version : LayoutVersion) (epoch : ℕ) (t : Tables) : Type 0 where
+pub record HoldsCheckpoint (p : Parameters) (image : List Block) (version : LayoutVersion) (epoch : ℕ) (t : Tables) : Type 0 where
   pub of_version : version_of scheme_number p (block_at image commit_place) ≡ version
   pub of_epoch : epoch_of (block_at image commit_place) ≡ epoch
   pub tables : tables_in p (slot_in p image) ≡ t
@@ -74,8 +74,8 @@ pub record IsToldBy (p : Parameters) (image : List Block) (version : LayoutVersi
 abbrev pub FreeIsNotLooked : Type 0
 FreeIsNotLooked =
     (p : Parameters) (image : List Block) (version : LayoutVersion) (epoch : ℕ) (t : Tables) (x : Target)
-    → IsToldBy p image version epoch t → IsTarget p x → IsFree p version epoch t x
-    → ¬ Contains (commit_place ∷ looked_by (dual_layouts p) image) (target_number p x)
+    → HoldsCheckpoint p image version epoch t → IsTarget p x → IsFree p version epoch t x
+    → ¬ Contains (commit_place ∷ looked_by (thynvm_layouts p) image) (target_number p x)
 
 -- ---- how memory is read
 

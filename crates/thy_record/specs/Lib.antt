@@ -4,13 +4,13 @@ pub mod TableBlocks
 pub mod TableFaults
 pub mod TableRefusals
 pub mod Slots
-pub mod DualLayouts
+pub mod ThynvmLayouts
 pub mod Images
 pub mod BackLaws
 pub mod ImageLaws
 pub mod Issuing
 pub mod Index
 pub mod Migrated
-pub mod DualParts
+pub mod ThynvmParts
 pub mod Migration
 pub mod VersionSlots

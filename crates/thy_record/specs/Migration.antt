@@ -14,12 +14,12 @@ use Rattle.thy_layout.specs.Decoded.{At}
 use Rattle.thy_layout.specs.Header.{header_fault}
 use Rattle.thy_record.specs.Number.{scheme_number}
 use Rattle.thy_record.specs.Images.{slot_in, memory_numbers}
-use Rattle.thy_record.specs.Issuing.{IsToldBy}
+use Rattle.thy_record.specs.Issuing.{HoldsCheckpoint}
 use Rattle.thy_record.specs.Slots.{tables_in, counts_in, slot_fault}
 use Rattle.thy_layout.specs.Saved.{IsIssued, next_image}
 use Rattle.thy_view.specs.Issuing.{CheckpointParts, AreIssued}
 use Rattle.thy_layout.specs.Layout.{decode_by, looked_by}
-use Rattle.thy_record.specs.DualLayouts.{dual_layouts}
+use Rattle.thy_record.specs.ThynvmLayouts.{thynvm_layouts}
 
 -- where the parts of a migrated checkpoint go: the slot of its epoch in version 2 gets the blocks of this slot of
 -- version 1, and then zeros; memory's blocks stay where they are
@@ -34,10 +34,10 @@ migrated_parts p slot epoch = record {
 -- with the commit block of that epoch in version 2 the next image is the same checkpoint, has the same tables and
 -- counts of 0, and lacks no other write
 pub record IsMigrated (p : Parameters) (ceiling : ℕ) (n : Device) (slot : List Block) (epoch : ℕ) (memory : List Block) : Type 0 where
-  pub told : IsToldBy p (next_image n (commit_of epoch)) VersionTwo epoch (tables_in p slot)
+  pub meant : HoldsCheckpoint p (next_image n (commit_of epoch)) VersionTwo epoch (tables_in p slot)
   pub counted : counts_in VersionTwo p (slot_in p (next_image n (commit_of epoch))) ≡ replicate p.pages 0
-  pub decodes : decode_by (dual_layouts p) ceiling (next_image n (commit_of epoch)) ≡ At epoch (state_from p (cpu_of_record p slot) memory)
-  pub issued : IsIssued (looked_by (dual_layouts p)) n (next_image n (commit_of epoch))
+  pub decodes : decode_by (thynvm_layouts p) ceiling (next_image n (commit_of epoch)) ≡ At epoch (state_from p (cpu_of_record p slot) memory)
+  pub issued : IsIssued (looked_by (thynvm_layouts p)) n (next_image n (commit_of epoch))
 
 -- a migration decodes once its whole slot was issued, after a header that has no fault, from a slot that has none
 abbrev pub MigrationDecodes : Type 0

@@ -67,7 +67,7 @@ abbrev pub count_fault : LayoutVersion → Parameters → List Block → Option 
 count_fault VersionOne p slot = None
 count_fault VersionTwo p slot = option_map Count (position (is_bad_count p slot) (range_with_len 0 (64 * count_blocks p)))
 
--- what is wrong with record and tables, which both versions begin with, besides the other hart's words
+-- what is wrong with record and tables, which both versions begin with, apart from the other hart's words
 abbrev pub head_fault : Parameters → ℕ → ℕ → List Block → Option BadImage
 head_fault p ceiling epoch slot =
     option_or (epoch_fault epoch slot) (option_or (tables_fault p (tables_in p slot)) (status_fault p ceiling slot))

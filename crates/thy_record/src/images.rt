@@ -2,7 +2,7 @@
 ghost use Rattle.std.specs.Prelude.{◌≡◌, IfOk};
 ghost use Rattle.thy_isa.specs.Step.{state_of};
 ghost use Rattle.thy_layout.specs.Files.{found_in, decode_file, HasCheckpointOf, HasState};
-ghost use Rattle.thy_record.specs.DualLayouts.{dual_layouts};
+ghost use Rattle.thy_record.specs.ThynvmLayouts.{thynvm_layouts};
 
 use crate::header::{SCHEME, version_of};
 use crate::index::places;
@@ -22,7 +22,7 @@ use thy_table::{blocks, blocks_one};
 pub struct ThynvmImages;
 
 impl ImageLayout for ThynvmImages {
-    ghost layouts = { dual_layouts };
+    ghost layouts = { thynvm_layouts };
 
     fn scheme(geometry: &Geometry) -> u64 {
         SCHEME
@@ -81,7 +81,7 @@ impl ImageLayout for ThynvmImages {
 /// all zero; else the first of the refusals; else the checkpoint of an epoch. Epochs and counts have to be
 /// below the ceiling.
 pub fn check(image: &[u8], geometry: &Geometry, ceiling: u64) -> Result<Found, BadImage>
-    ensures { result ≡ found_in (decode_file (dual_layouts geometry.now) ceiling image.now) }
+    ensures { result ≡ found_in (decode_file (thynvm_layouts geometry.now) ceiling image.now) }
 {
     check_image::<ThynvmImages>(image, geometry, ceiling)
 }
@@ -89,8 +89,8 @@ pub fn check(image: &[u8], geometry: &Geometry, ceiling: u64) -> Result<Found, B
 /// The state of the checkpoint in the bytes of a file. A `check` of these bytes has found one. Both
 /// tables are gone through once.
 pub fn state(alloc: Global, image: &[u8], geometry: &Geometry) -> Result<MachState, AllocError>
-    requires { HasCheckpointOf (dual_layouts geometry.now) image.now }
-    ensures { IfOk result (λ m. HasState (dual_layouts geometry.now) image.now (state_of m)) }
+    requires { HasCheckpointOf (thynvm_layouts geometry.now) image.now }
+    ensures { IfOk result (λ m. HasState (thynvm_layouts geometry.now) image.now (state_of m)) }
 {
     state_of_image::<ThynvmImages>(alloc, image, geometry)
 }

@@ -6,7 +6,7 @@ ghost use Rattle.thy_record.specs.Issuing.{ListedHomeIsUnused, PagedHomeIsUnused
 ghost use Rattle.thy_record.specs.Migrated.{AnewMeansTheSame};
 ghost use Rattle.thy_record.specs.TableRefusals.{FoundIsSo, SoIsFound};
 ghost use Rattle.thy_record.specs.Migration.{MigrationDecodes};
-ghost use Rattle.thy_record.specs.DualParts.{IssuedDecodes};
+ghost use Rattle.thy_record.specs.ThynvmParts.{IssuedDecodes};
 
 /// Tables are those that a checkpoint may have exactly if no fault is found in them.
 pub fn faultless_tables()
@@ -77,7 +77,7 @@ pub fn memory_is_read_at_its_places()
 
 /// In version 2, with the whole slot issued, and after a header without a fault, whoever wrote it, the next image
 /// decodes to the checkpoint and has its tables and counts, and all that determines it was issued.
-pub fn dual_layouts_are_issued()
+pub fn thynvm_layouts_are_issued()
     ensures { IssuedDecodes }
 {}
 

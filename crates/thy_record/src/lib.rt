@@ -4,7 +4,7 @@
 //! the bytes of a file mean, and on `written_decodes` and `decoded_has_tables`: what was written decodes, and what decodes
 //! has tables that a checkpoint may have.
 //!
-//! Open specs/DualLayouts.antt first, then specs/Images.antt, specs/Slots.antt and src/images.rt. It depends on thy_layout and
+//! Open specs/ThynvmLayouts.antt first, then specs/Images.antt, specs/Slots.antt and src/images.rt. It depends on thy_layout and
 //! thy_view and their dependencies; all from thy_control on depend on it.
 #![tactic(auto)]
 
@@ -19,10 +19,10 @@ mod version_slots;
 pub use header::{header_block, header_fault, version_of};
 pub use images::{ThynvmImages, check, state};
 pub use laws::{
-    a_migration_decodes, a_slot_anew_means_the_same, decoded_has_tables, dual_layouts_are_issued,
-    each_block_has_its_place, faultless_tables, free_is_not_looked_at,
-    memory_is_read_at_its_places, refusals_name_the_first_entries, slot_reads_back,
-    tables_read_back, unused_places, written_decodes,
+    a_migration_decodes, a_slot_anew_means_the_same, decoded_has_tables, each_block_has_its_place,
+    faultless_tables, free_is_not_looked_at, memory_is_read_at_its_places,
+    refusals_name_the_first_entries, slot_reads_back, tables_read_back, thynvm_layouts_are_issued,
+    unused_places, written_decodes,
 };
 pub use slot::{btt_in, head_fault, listed_block, listed_count, listed_page, slot_fault};
 pub use thy_layout::{

@@ -19,7 +19,7 @@ use Rattle.thy_view.specs.declared.view.View.{View}
 use Rattle.thy_view.specs.Booting.{view_of_image}
 use Rattle.thy_view.specs.Origin.{Begins, Origin, at}
 use Rattle.thy_view.specs.CoreStep.{CoreStep}
-use Rattle.thy_view.specs.Told.{AgreeBelow, reach, IsAtWork, IsThere, HasTurn}
+use Rattle.thy_view.specs.WithTurns.{AgreeBelow, reach, IsAtWork, IsThere, HasTurn}
 use Rattle.thy_view.specs.Views.{is_halt, halts, loads}
 use Rattle.thy_view.specs.Safe.{ceiling}
 use Rattle.thy_view.specs.declared.error.CoreError.{CoreError}
@@ -28,20 +28,20 @@ use Rattle.thy_view.specs.Kind.{HasFailedToRead, KindOf, IsLawful, IsStep, CanSt
 use Rattle.thy_view.proofs.AgainLaws.{goes_on_after_cut}
 use Rattle.thy_run.specs.Laws.{marks_of, released_of}
 use Rattle.thy_run.specs.Cuts.{is_end}
-use Rattle.thy_run.specs.Due.{due_of, is_told, shows_console, IsQuiet, IsTold}
-use Rattle.thy_run.specs.Unfinished.{TellingFailed, ReadFailed, LeftAlone}
-use Rattle.thy_run.specs.World.{World, seen, turns_kept, did_told, reload_told, end_told, events_of, after_step, TakesStep, is_due, IsCutOff, tear}
+use Rattle.thy_run.specs.Due.{due_of, is_reported, shows_console, IsQuiet, IsReported}
+use Rattle.thy_run.specs.Unfinished.{ReportingFailed, ReadFailed, LeftAlone}
+use Rattle.thy_run.specs.World.{World, seen, turns_kept, did_events, reload_events, end_events, events_of, after_step, TakesStep, is_due, IsCutOff, tear}
 use Rattle.thy_run.proofs.ConsoleLaws.{released-cut, released-stepped, released-part, length-released}
 use Rattle.thy_run.proofs.GatherLemmas.{due_hidden}
 use Rattle.thy_run.proofs.ListingLemmas.{last_none, listed_next, ends_with, list_room}
-use Rattle.thy_run.proofs.NoteLemmas.{events_due, told_or_halts}
-use Rattle.thy_run.proofs.TellLaws.{after_has, after_agrees, kept_agrees}
+use Rattle.thy_run.proofs.NoteLemmas.{events_due, report_or_halts}
+use Rattle.thy_run.proofs.TurnListLaws.{after_has, after_agrees, kept_agrees}
 use Rattle.thy_run.proofs.WorldLaws.{Good, Good-ran, events_end}
 use Rattle.thy_run.specs.declared.ending.Stop.TheVariants.{Nvm, Memory}
 use Rattle.thy_run.specs.declared.gather.Readings.{Readings}
 use Rattle.thy_run.specs.declared.plan.Plan.{Plan}
 use Rattle.thy_run.specs.declared.progress.Progress.{Progress}
-use Rattle.thy_run.specs.Going.{origin_of, line_of, turns_then, AreTold, last_turns, list_after, HasTurnsRoom, given_of, world_at, IsPlanned, GoesOn, HasRoomToList, IsStepped, IsStuck, CanGather, MadeSome, Restores, IsEnding, IsEnd, IsNoted, IsDone, IsBroken, Breaks, AwaitsCut, Passes, Finishes, CanCut, IsCutOffTo}
+use Rattle.thy_run.specs.Going.{origin_of, line_of, turns_then, HasItsTurns, last_turns, list_after, HasTurnsRoom, given_of, world_at, IsPlanned, GoesOn, HasRoomToList, IsStepped, IsStuck, CanGather, MadeSome, Restores, IsEnding, IsEnd, IsNoted, IsDone, IsBroken, Breaks, AwaitsCut, Passes, Finishes, CanCut, IsCutOffTo}
 use Rattle.thy_run.specs.Endings.{EndsWith}
 use Rattle.thy_run.specs.Promises.{EndsWithTurns, IsReady}
 use Rattle.thy_run.specs.Stopping.{stop_of}
@@ -102,14 +102,14 @@ image_retired count (RefusedImage bad) = refl
 image_retired count (At epoch state) = refl
 
 -- what a cycle that halts reports of the end
-end_told-halted : (o : Origin) (v next : View) (cycle : ℕ) → halts v next ≡ true
-    → end_told o v next cycle ≡ EndedEvent (at o next.count).status next.count cycle (at o next.count) ∷ []
-end_told-halted o v next cycle halt =
+end_events-halted : (o : Origin) (v next : View) (cycle : ℕ) → halts v next ≡ true
+    → end_events o v next cycle ≡ EndedEvent (at o next.count).status next.count cycle (at o next.count) ∷ []
+end_events-halted o v next cycle halt =
     ap (λ b. if b then EndedEvent (at o next.count).status next.count cycle (at o next.count) ∷ [] else []) halt
 
 module _ {M : Type 0} (K : KindOf M) (laws : IsLawful K) (plan : Plan) (p q : Progress M) (n m : Device) (k : ℕ) (turns : List ℕ) (r : Stepped) (ended : Option Status) (bytes : List ℕ) (noted : IsNoted K plan p q n m k turns r ended bytes) where
-  told_all : q.events ≡ p.events ++ events_of (line_of plan (turns_then plan turns r.did)) p.fresh (seen K (origin_of plan) (world_at p n k turns)) noted.steps.r.did (seen K (origin_of plan) (world_at q m (k + 1) (turns_then plan turns r.did))) (k + 1)
-  told_all = ap (λ (y : World M). y.events) noted.steps.next_is
+  listed_all : q.events ≡ p.events ++ events_of (line_of plan (turns_then plan turns r.did)) p.fresh (seen K (origin_of plan) (world_at p n k turns)) noted.steps.r.did (seen K (origin_of plan) (world_at q m (k + 1) (turns_then plan turns r.did))) (k + 1)
+  listed_all = ap (λ (y : World M). y.events) noted.steps.next_is
 
   passed_same : q.passed ≡ p.passed
   passed_same = ap (λ (y : World M). y.passed) noted.steps.next_is
@@ -128,7 +128,7 @@ module _ {M : Type 0} (K : KindOf M) (laws : IsLawful K) (plan : Plan) (p q : Pr
     has_fallen = due;
     released = noted.released;
     releases = noted.releases;
-    grew = (_, told_all);
+    grew = (_, listed_all);
     room = (TakesStep-framed K (origin_of plan) _ _ noted.steps).left_room;
     faults = noted.faults;
     on_terminal = noted.on_terminal;
@@ -143,15 +143,15 @@ module _ {M : Type 0} (K : KindOf M) (laws : IsLawful K) (plan : Plan) (p q : Pr
       let next : View = seen K (origin_of plan) (world_at q m (k + 1) (turns_then plan turns r.did)) in
       let end : IsEnd (line_of plan (turns_then plan turns r.did)) v next (Some status) = subst (IsEnd (line_of plan (turns_then plan turns r.did)) v next) is noted.is_end in
       let halt : is_halt next.phase ≡ true = halted_next (is_halt v.phase) (is_halt next.phase) end.0 in
-      let first : List Event = reload_told p.fresh next ++ did_told (line_of plan (turns_then plan turns r.did)) v noted.steps.r.did (k + 1) in
-      let told_last : end_told (line_of plan (turns_then plan turns r.did)) v next (k + 1) ≡ EndedEvent status next.count (k + 1) (at (line_of plan (turns_then plan turns r.did)) next.count) ∷ [] =
-      end_told-halted (line_of plan (turns_then plan turns r.did)) v next (k + 1) end.0 ∙ ap (λ x. EndedEvent x next.count (k + 1) (at (line_of plan (turns_then plan turns r.did)) next.count) ∷ []) (sym end.1) in
+      let first : List Event = reload_events p.fresh next ++ did_events (line_of plan (turns_then plan turns r.did)) v noted.steps.r.did (k + 1) in
+      let reported_last : end_events (line_of plan (turns_then plan turns r.did)) v next (k + 1) ≡ EndedEvent status next.count (k + 1) (at (line_of plan (turns_then plan turns r.did)) next.count) ∷ [] =
+      end_events-halted (line_of plan (turns_then plan turns r.did)) v next (k + 1) end.0 ∙ ap (λ x. EndedEvent x next.count (k + 1) (at (line_of plan (turns_then plan turns r.did)) next.count) ∷ []) (sym end.1) in
       let ends : EndsWith q.events status = record {
         before = p.events ++ first;
         count = next.count;
         cycle = k + 1;
         state = at (line_of plan (turns_then plan turns r.did)) next.count;
-        last = told_all ∙ ap (λ (l : List Event). p.events ++ (first ++ l)) told_last
+        last = listed_all ∙ ap (λ (l : List Event). p.events ++ (first ++ l)) reported_last
             ∙ sym (append_assoc p.events first (EndedEvent status next.count (k + 1) (at (line_of plan (turns_then plan turns r.did)) next.count) ∷ []));
       } in
       (done_uncut (halted_due (is_halt next.phase) _ halt), halt, ends)
@@ -234,7 +234,7 @@ module _ {M : Type 0} (K : KindOf M) (laws : IsLawful K) (plan : Plan) (p q : Pr
           has_fallen = is_cut;
           released = ap (λ (y : Progress M). y.released) cut.same ∙ noted.released ∙ ap length (sym releases);
           releases = releases ∙ noted.releases;
-          grew = (_, events ∙ ap (λ (l : List Event). l ++ Cut (q.passed + 1) cycle ∷ []) told_all ∙ append_assoc p.events _ (Cut (q.passed + 1) cycle ∷ []));
+          grew = (_, events ∙ ap (λ (l : List Event). l ++ Cut (q.passed + 1) cycle ∷ []) listed_all ∙ append_assoc p.events _ (Cut (q.passed + 1) cycle ∷ []));
           room = ap (λ (d : Device). d.left_room) device ∙ (TakesStep-framed K o _ _ noted.steps).left_room;
           faults = ap (λ (d : Device). d.faults) device ∙ noted.faults;
           on_terminal = ap (λ (y : Progress M). y.terminal_failed) cut.same ∙ noted.on_terminal;
@@ -250,12 +250,12 @@ module _ {M : Type 0} (K : KindOf M) (laws : IsLawful K) (plan : Plan) (p q : Pr
       let v : View = seen K (origin_of plan) (world_at p n k turns) in
       let next : View = seen K (origin_of plan) (world_at q m (k + 1) (turns_then plan turns r.did)) in
       let end : IsEnd (line_of plan (turns_then plan turns r.did)) v next None = subst (IsEnd (line_of plan (turns_then plan turns r.did)) v next) is noted.is_end in
-      let telling : TellingFailed K (origin_of plan) (world_at p n k turns) q.events (LeftAlone K (origin_of plan) plan.config.cuts m) = record {
+      let reporting : ReportingFailed K (origin_of plan) (world_at p n k turns) q.events (LeftAlone K (origin_of plan) plan.config.cuts m) = record {
         next = world_at q m (k + 1) (turns_then plan turns r.did);
         steps = noted.steps;
         part = _;
         rest = [];
-        grew = told_all;
+        grew = listed_all;
         split = sym (append-nil q.events);
         unended = events_end (line_of plan (turns_then plan turns r.did)) p.fresh v noted.steps.r.did next (k + 1) ∙ end;
         why = (refl, inr (due_both (is_halt next.phase) _ (going_on is) due));
@@ -263,11 +263,11 @@ module _ {M : Type 0} (K : KindOf M) (laws : IsLawful K) (plan : Plan) (p q : Pr
       let broken : IsBroken K plan p q n m k bytes = record {
         rest = [];
         releases = noted.releases ∙ sym (append-nil (released_of (origin_of plan) p.events ++ bytes));
-        grew = (_, told_all);
+        grew = (_, listed_all);
         on_terminal = noted.on_terminal;
         on_report = noted.on_report;
       } in
-      let here : IsBroken K plan p q n m k bytes × Breaks K plan p q n m k turns bytes Memory = (broken, (telling, noted.faults)) in
+      let here : IsBroken K plan p q n m k bytes × Breaks K plan p q n m k turns bytes Memory = (broken, (reporting, noted.faults)) in
       subst (λ (y : Progress M). IsBroken K plan p y n m' k bytes × Breaks K plan p y n m' k turns bytes Memory) (sym same)
       (subst (λ (d : Device). IsBroken K plan p q n d k bytes × Breaks K plan p q n d k turns bytes Memory) (sym device) here)
 
@@ -283,22 +283,22 @@ module _ {M : Type 0} (K : KindOf M) (laws : IsLawful K) (plan : Plan) (p q : Pr
 -- ---- a quiet cycle
 
 -- what has no event of its own reports none
-told_none : (o : Origin) (v : View) (did : Did) (cycle : ℕ) → is_told did ≡ false → did_told o v did cycle ≡ []
-told_none o v Loaded cycle h = absurd (cc)
-told_none o v (Restarted epoch count) cycle h = absurd (cc)
-told_none o v (Sealed epoch count cause) cycle h = absurd (cc)
-told_none o v (Committed epoch overlapped) cycle h = absurd (cc)
-told_none o v did cycle h = refl
+none_reported : (o : Origin) (v : View) (did : Did) (cycle : ℕ) → is_reported did ≡ false → did_events o v did cycle ≡ []
+none_reported o v Loaded cycle h = absurd (cc)
+none_reported o v (Restarted epoch count) cycle h = absurd (cc)
+none_reported o v (Sealed epoch count cause) cycle h = absurd (cc)
+none_reported o v (Committed epoch overlapped) cycle h = absurd (cc)
+none_reported o v did cycle h = refl
 
 -- what has no event of its own shows no console
-hidden_none : (did : Did) → is_told did ≡ false → shows_console did ≡ false
+hidden_none : (did : Did) → is_reported did ≡ false → shows_console did ≡ false
 hidden_none Loaded h = absurd (cc)
 hidden_none (Restarted epoch count) h = absurd (cc)
 hidden_none (Committed epoch overlapped) h = absurd (cc)
 hidden_none did h = refl
 
 -- what has no event of its own leaves the list of turns
-list_quiet : (did : Did) (l : List ℕ) → is_told did ≡ false → l ≡ list_after did l
+list_quiet : (did : Did) (l : List ℕ) → is_reported did ≡ false → l ≡ list_after did l
 list_quiet (Sealed epoch count cause) l h = absurd (cc)
 list_quiet did l h = refl
 
@@ -330,7 +330,7 @@ module _ {M : Type 0} (K : KindOf M) (laws : IsLawful K) (plan : Plan) (fitted :
       → StepsAlong K plan p n k turns pick next m r
   steps_of pick next m r few simulates =
       let v : View = seen K (origin_of plan) (world_at p n k turns) in
-      let all : AreTold (line_of plan turns) v = (good_of K plan fitted p n k turns planned g).stands.told_all in
+      let all : HasItsTurns (line_of plan turns) v = (good_of K plan fitted p n k turns planned g).stands.listed_all in
       let there : IsThere (line_of plan turns) v r.did = (simulates (line_of plan turns) k (begins_of turns) at_of few).0 in
       let agree : AgreeBelow (line_of plan turns) (turns_then plan turns r.did) (reach v) = after_agrees (origin_of plan) turns v r.did all there in
       let mine : HasTurn (line_of plan (turns_then plan turns r.did)) v r.did = after_has (origin_of plan) turns v r.did all there in
@@ -407,7 +407,7 @@ module _ {M : Type 0} (K : KindOf M) (laws : IsLawful K) (plan : Plan) (fitted :
         let good = good_of K plan fitted p n k turns planned g in
         let v : View = seen K (origin_of plan) (world_at p n k turns) in
         subst (EndsWithTurns (line_of plan (turns_then plan turns r.did)) v r.did) (sym s.listed)
-        (ends_with (origin_of plan) turns v (K.view (line_of plan (turns_then plan turns r.did)) q.machine m) (marks_of (origin_of plan) p.events) (bytes_of p.turns) good.stands.told_all good.stands.fits g.listed r.did
+        (ends_with (origin_of plan) turns v (K.view (line_of plan (turns_then plan turns r.did)) q.machine m) (marks_of (origin_of plan) p.events) (bytes_of p.turns) good.stands.listed_all good.stands.fits g.listed r.did
         good.stands.leads core_stepped)
 
     -- the turns that are listed after the cycle, if the list is cleared at an epoch's end, are the turns since the last
@@ -417,7 +417,7 @@ module _ {M : Type 0} (K : KindOf M) (laws : IsLawful K) (plan : Plan) (fitted :
         let good = good_of K plan fitted p n k turns planned g in
         let v : View = seen K (origin_of plan) (world_at p n k turns) in
         is ∙ ap (list_after r.did) s.listed
-        ∙ listed_next (origin_of plan) turns v (K.view (line_of plan (turns_then plan turns r.did)) q.machine m) (marks_of (origin_of plan) p.events) (bytes_of p.turns) good.stands.told_all good.stands.fits g.listed r.did core_stepped
+        ∙ listed_next (origin_of plan) turns v (K.view (line_of plan (turns_then plan turns r.did)) q.machine m) (marks_of (origin_of plan) p.events) (bytes_of p.turns) good.stands.listed_all good.stands.fits g.listed r.did core_stepped
 
     long_enough : (x y : ℕ) → x ≤ y → HasTurnsRoom plan.geometry x → HasTurnsRoom plan.geometry y
     long_enough x y le (inl one) = inl one
@@ -480,29 +480,29 @@ module _ {M : Type 0} (K : KindOf M) (laws : IsLawful K) (plan : Plan) (fitted :
         let all : List Event = events_of (line_of plan (turns_then plan turns r.did)) p.fresh v r.did after (k + 1) in
         let split : all ≡ some.part ++ some.rest = ap (λ b. events_of (line_of plan (turns_then plan turns r.did)) b v r.did after (k + 1)) (sym fresh_q) ∙ some.split in
         let next : World M = after_step K o (world_at p n k turns) q.machine m (turns_then plan turns r.did) r.did in
-        let did_told : t.events ≡ p.events ++ some.part = some.grew ∙ ap (λ (l : List Event). l ++ some.part) events_q in
+        let did_events : t.events ≡ p.events ++ some.part = some.grew ∙ ap (λ (l : List Event). l ++ some.part) events_q in
         let more = released-part K o (world_at p n k turns) next (epoch_least o.geometry planned.origin.geometry) good.stands takes_step some.part some.rest (sym split) in
-        let telling : TellingFailed K o (world_at p n k turns) t.events (LeftAlone K o plan.config.cuts m) = record {
+        let reporting : ReportingFailed K o (world_at p n k turns) t.events (LeftAlone K o plan.config.cuts m) = record {
           next = next;
           steps = takes_step;
           part = some.part;
           rest = some.rest;
-          grew = did_told;
-          split = ap (λ (l : List Event). p.events ++ l) split ∙ sym (append_assoc p.events some.part some.rest) ∙ ap (λ (l : List Event). l ++ some.rest) (sym did_told);
+          grew = did_events;
+          split = ap (λ (l : List Event). p.events ++ l) split ∙ sym (append_assoc p.events some.part some.rest) ∙ ap (λ (l : List Event). l ++ some.rest) (sym did_events);
           unended = some.unended;
           why = (refl, inl some.some);
         } in
         let broken : IsBroken K plan p t n m k [] = record {
           rest = more.0;
-          releases = ap (released_of o) did_told ∙ more.1 ∙ ap (λ (l : List ℕ). l ++ more.0) (sym (append-nil (released_of o p.events)));
-          grew = (some.part, did_told);
+          releases = ap (released_of o) did_events ∙ more.1 ∙ ap (λ (l : List ℕ). l ++ more.0) (sym (append-nil (released_of o p.events)));
+          grew = (some.part, did_events);
           on_terminal = ap (λ (y : Progress M). y.terminal_failed) same ∙ ap (λ (y : Progress M). y.terminal_failed) s.same;
           on_report = ap (λ (y : Progress M). y.report_failed) same ∙ ap (λ (y : Progress M). y.report_failed) s.same;
         } in
-        (broken, (telling, s.faults))
+        (broken, (reporting, s.faults))
 
     -- a read failed before any event was made
-    pub IsBroken-read : (m' : Device) (e : CoreError) → HasFailedToRead e m m' → IsFramed m m' → IsTold r
+    pub IsBroken-read : (m' : Device) (e : CoreError) → HasFailedToRead e m m' → IsFramed m m' → IsReported r
         → IsBroken K plan p q n m' k [] × Breaks K plan p q n m' k turns [] (stop_of e)
     IsBroken-read m' e failed framed due =
         let o : Origin = origin_of plan in
@@ -510,8 +510,8 @@ module _ {M : Type 0} (K : KindOf M) (laws : IsLawful K) (plan : Plan) (fitted :
         let after : View = K.view (line_of plan (turns_then plan turns r.did)) q.machine m in
         let next : World M = after_step K o (world_at p n k turns) q.machine m (turns_then plan turns r.did) r.did in
         let all : List Event = events_of (line_of plan (turns_then plan turns r.did)) p.fresh v r.did after (k + 1) in
-        let some : all ≢ [] = events_due (line_of plan (turns_then plan turns r.did)) p.fresh v after r.did (k + 1) (told_or_halts r (halts v after) ended_stepped due) in
-        let telling : (Why : World M → List Event → Type 0) → Why next all → TellingFailed K o (world_at p n k turns) q.events Why = λ Why why. record {
+        let some : all ≢ [] = events_due (line_of plan (turns_then plan turns r.did)) p.fresh v after r.did (k + 1) (report_or_halts r (halts v after) ended_stepped due) in
+        let reporting : (Why : World M → List Event → Type 0) → Why next all → ReportingFailed K o (world_at p n k turns) q.events Why = λ Why why. record {
           next = next;
           steps = takes_step;
           part = [];
@@ -528,18 +528,18 @@ module _ {M : Type 0} (K : KindOf M) (laws : IsLawful K) (plan : Plan) (fitted :
           on_terminal = ap (λ (y : Progress M). y.terminal_failed) s.same;
           on_report = ap (λ (y : Progress M). y.report_failed) s.same;
         } in
-        by_error e failed broken all some telling events_q
+        by_error e failed broken all some reporting events_q
       where
         by_error : (e : CoreError) → HasFailedToRead e m m' → IsBroken K plan p q n m' k []
             → (all : List Event) → all ≢ []
-            → ((Why : World M → List Event → Type 0) → Why (after_step K (origin_of plan) (world_at p n k turns) q.machine m (turns_then plan turns r.did) r.did) all → TellingFailed K (origin_of plan) (world_at p n k turns) q.events Why)
+            → ((Why : World M → List Event → Type 0) → Why (after_step K (origin_of plan) (world_at p n k turns) q.machine m (turns_then plan turns r.did) r.did) all → ReportingFailed K (origin_of plan) (world_at p n k turns) q.events Why)
             → q.events ≡ p.events
             → IsBroken K plan p q n m' k [] × Breaks K plan p q n m' k turns [] (stop_of e)
-        by_error NvmFailed f broken all some telling events = (
+        by_error NvmFailed f broken all some reporting events = (
           broken,
-          (inr (telling (ReadFailed (world_at p n k turns) q.events m') (record { due = some; nothing_told = events; failed = f.0; framed = framed; rose = f.1 })), record { events = events; none = refl; rose = subst (λ c. Rose c m'.faults) s.faults f.1 }),
+          (inr (reporting (ReadFailed (world_at p n k turns) q.events m') (record { due = some; nothing_reported = events; failed = f.0; framed = framed; rose = f.1 })), record { events = events; none = refl; rose = subst (λ c. Rose c m'.faults) s.faults f.1 }),
         )
-        by_error (NoMemory x) f broken all some telling events = (broken, (telling (LeftAlone K (origin_of plan) plan.config.cuts m') (f, inl some), ap (λ (d : Device). d.faults) f ∙ s.faults))
+        by_error (NoMemory x) f broken all some reporting events = (broken, (reporting (LeftAlone K (origin_of plan) plan.config.cuts m') (f, inl some), ap (λ (d : Device). d.faults) f ∙ s.faults))
 
     -- the console's bytes are few
     pub few_released : (bytes : List ℕ) → bytes ≡ due_of (line_of plan (turns_then plan turns r.did)) q.events r.did (K.view (line_of plan (turns_then plan turns r.did)) q.machine m) → q.released + length bytes < 2 ^ 64
@@ -566,17 +566,17 @@ module _ {M : Type 0} (K : KindOf M) (laws : IsLawful K) (plan : Plan) (fitted :
         let v : View = seen K o (world_at p n k turns) in
         let next : View = K.view (line_of plan (turns_then plan turns r.did)) q.machine m in
         let going : halts v next ≡ false = sym ended_stepped ∙ quiet.going in
-        let reload : reload_told q.fresh next ≡ [] = ap (λ b. reload_told b next) quiet.later in
-        let end : end_told (line_of plan (turns_then plan turns r.did)) v next (k + 1) ≡ [] =
+        let reload : reload_events q.fresh next ≡ [] = ap (λ b. reload_events b next) quiet.later in
+        let end : end_events (line_of plan (turns_then plan turns r.did)) v next (k + 1) ≡ [] =
         ap (λ b. if b then EndedEvent (at (line_of plan (turns_then plan turns r.did)) next.count).status next.count (k + 1) (at (line_of plan (turns_then plan turns r.did)) next.count) ∷ [] else []) going in
         let none : events_of (line_of plan (turns_then plan turns r.did)) q.fresh v r.did next (k + 1) ≡ [] =
-        ap (λ (l : List Event). (l ++ did_told (line_of plan (turns_then plan turns r.did)) v r.did (k + 1)) ++ end_told (line_of plan (turns_then plan turns r.did)) v next (k + 1)) reload
-        ∙ ap (λ (l : List Event). l ++ end_told (line_of plan (turns_then plan turns r.did)) v next (k + 1)) (told_none (line_of plan (turns_then plan turns r.did)) v r.did (k + 1) quiet.untold) ∙ end in
+        ap (λ (l : List Event). (l ++ did_events (line_of plan (turns_then plan turns r.did)) v r.did (k + 1)) ++ end_events (line_of plan (turns_then plan turns r.did)) v next (k + 1)) reload
+        ∙ ap (λ (l : List Event). l ++ end_events (line_of plan (turns_then plan turns r.did)) v next (k + 1)) (none_reported (line_of plan (turns_then plan turns r.did)) v r.did (k + 1) quiet.unlisted) ∙ end in
         let noted : IsNoted K plan p q n m k turns r None [] =
         IsNoted-made q None []
         (sym (append-nil q.events) ∙ ap (λ (l : List Event). q.events ++ l) (sym none))
-        (ap (λ b. record q { fresh = b }) quiet.later) (omega arith) (list_quiet r.did (bytes_of q.turns) quiet.untold) (omega arith)
-        (due_hidden (line_of plan (turns_then plan turns r.did)) next r.did q.events [] (hidden_none r.did quiet.untold) refl) going in
+        (ap (λ b. record q { fresh = b }) quiet.later) (omega arith) (list_quiet r.did (bytes_of q.turns) quiet.unlisted) (omega arith)
+        (due_hidden (line_of plan (turns_then plan turns r.did)) next r.did q.events [] (hidden_none r.did quiet.unlisted) refl) going in
         done_going K laws plan p q n m k turns r None [] noted refl (k + 1) refl quiet.uncut
 
 -- the step itself failed
@@ -592,7 +592,7 @@ IsBroken-stuck {M = M} K plan fitted p q n m k turns g s =
         on_terminal = ap (λ (y : Progress M). y.terminal_failed) s.same;
         on_report = ap (λ (y : Progress M). y.report_failed) s.same;
       },
-      (inl (record { going = g.going; next = q.machine; leaves = s.leaves; framed = s.framed; rose = s.rose; nothing_told = events_q }), record { events = events_q; none = refl; rose = s.rose }),
+      (inl (record { going = g.going; next = q.machine; leaves = s.leaves; framed = s.framed; rose = s.rose; nothing_reported = events_q }), record { events = events_q; none = refl; rose = s.rose }),
     )
 
 -- ---- a step and all that was read for its events, from what the calls promise

@@ -6,8 +6,8 @@ use Rattle.std.proofs.Math.Seq.{drop-append_seam}
 use Rattle.thy_block.specs.declared.mark.Mark.{Mark}
 use Rattle.thy_isa.specs.Step.{State}
 use Rattle.thy_isa.proofs.StorableLaws.{step-console, step-room}
-use Rattle.thy_view.specs.Told.{told}
-use Rattle.thy_view.proofs.TurnLaws.{at-keeps, at-holds, IsOrigin-told}
+use Rattle.thy_view.specs.WithTurns.{with_turns}
+use Rattle.thy_view.proofs.TurnLaws.{at-keeps, at-holds, IsOrigin-with_turns}
 use Rattle.thy_view.specs.Kind.{KindOf}
 use Rattle.thy_text.specs.Event.{Event, Cut, Reload, Ended}
 use Rattle.thy_text.specs.Marks.{Marks, marks_from}
@@ -23,15 +23,15 @@ use Rattle.thy_view.specs.CoreStep.{CoreStep}
 use Rattle.thy_view.specs.Origin.{Origin, at, setting_of, IsOrigin}
 use Rattle.thy_run.specs.Due.{console_at, console_shown, shows_console, due_of}
 use Rattle.thy_run.specs.Laws.{first_marks, marks_of, released_of}
-use Rattle.thy_run.specs.World.{World, line, seen, did_told, reload_told, end_told, events_of, TakesStep}
+use Rattle.thy_run.specs.World.{World, line, seen, did_events, reload_events, end_events, events_of, TakesStep}
 use Rattle.thy_run.proofs.CoverLaws.{Covers-sealed, marks-part}
 use Rattle.thy_run.proofs.Fitting.{BootFits, RunFits, FitsIn, Fits}
 use Rattle.thy_run.proofs.EventLaws.{marks-events}
 use Rattle.thy_run.proofs.CutLaws.{Rises-fits}
 use Rattle.thy_run.proofs.Leading.{LeadsTo, Leads, state_there}
-use Rattle.thy_run.proofs.LeadingLaws.{Leads-told}
-use Rattle.thy_run.proofs.StepAlong.{core_of, events_told}
-use Rattle.thy_run.proofs.WorldLaws.{Coheres, fits_before, leads_before, told_before, Coheres-stepped}
+use Rattle.thy_run.proofs.LeadingLaws.{Leads-reported}
+use Rattle.thy_run.proofs.StepAlong.{core_of, events_of_step}
+use Rattle.thy_run.proofs.WorldLaws.{Coheres, fits_before, leads_before, reported_before, Coheres-stepped}
 use Rattle.thy_block.proofs.RangeLemmas.{console_most}
 use Rattle.thy_block.proofs.BasicLemmas.{some_same, or_false}
 
@@ -73,29 +73,29 @@ grown o (Some k) b g =
 
 module _ (o : Origin) (v next : View) (m : Marks) (h : Fits o v m) where
   -- the marks that a step's event leaves keep the committed one, or a later one
-  pub Grows-told : (did : Did) (cycle : ℕ) → CoreStep o v did next → Grows m.kept (marks_from o.start.count m (did_told o v did cycle)).kept
-  Grows-told Boot cycle s = grows_same m.kept m.kept refl
-  Grows-told Loaded cycle s = grows_none m.kept m.sealed ((Covers-sealed o v m h).nothing s.none)
-  Grows-told (Restarted epoch count) cycle s = λ k kept.
+  pub Grows-reported : (did : Did) (cycle : ℕ) → CoreStep o v did next → Grows m.kept (marks_from o.start.count m (did_events o v did cycle)).kept
+  Grows-reported Boot cycle s = grows_same m.kept m.kept refl
+  Grows-reported Loaded cycle s = grows_none m.kept m.sealed ((Covers-sealed o v m h).nothing s.none)
+  Grows-reported (Restarted epoch count) cycle s = λ k kept.
       elim ((Covers-sealed o v m h).of_done (mark epoch count) s.done) as (λ _. (later : Mark) × (Some (mark epoch count) ≡ Some later) × (k.count ≤ later.count)) [
         | inl same ↦ (mark epoch count, refl, (let e : k ≡ mark epoch count = some_same k (mark epoch count) (sym kept ∙ same) in let c : k.count ≡ count = ap (λ (x : Mark). x.count) e in omega arith))
         | inr sealed ↦ (mark epoch count, refl, Rises-fits o v m h k (mark epoch count) kept sealed)
       ]
-  Grows-told (Refused bad) cycle s = grows_same m.kept m.kept refl
-  Grows-told Moved cycle s = grows_same m.kept m.kept refl
-  Grows-told (Retired hart) cycle s = grows_same m.kept m.kept refl
-  Grows-told Flushed cycle s = grows_same m.kept m.kept refl
-  Grows-told Merged cycle s = grows_same m.kept m.kept refl
-  Grows-told Promoted cycle s = grows_same m.kept m.kept refl
-  Grows-told (Sealed epoch count cause) cycle s = grows_same m.kept m.kept refl
-  Grows-told (Engine step) cycle s = grows_same m.kept m.kept refl
-  Grows-told (Committed epoch overlapped) cycle s = λ k kept.
+  Grows-reported (Refused bad) cycle s = grows_same m.kept m.kept refl
+  Grows-reported Moved cycle s = grows_same m.kept m.kept refl
+  Grows-reported (Retired hart) cycle s = grows_same m.kept m.kept refl
+  Grows-reported Flushed cycle s = grows_same m.kept m.kept refl
+  Grows-reported Merged cycle s = grows_same m.kept m.kept refl
+  Grows-reported Promoted cycle s = grows_same m.kept m.kept refl
+  Grows-reported (Sealed epoch count cause) cycle s = grows_same m.kept m.kept refl
+  Grows-reported (Engine step) cycle s = grows_same m.kept m.kept refl
+  Grows-reported (Committed epoch overlapped) cycle s = λ k kept.
       let f : RunFits o v m = subst (FitsIn o v m) s.phase h in
       let sealed : m.sealed ≡ Some (mark epoch s.count) = f.sealed ∙ s.sealed in
       (mark epoch s.count, sealed, Rises-fits o v m h k (mark epoch s.count) kept sealed)
-  Grows-told NvmDrained cycle s = grows_same m.kept m.kept refl
-  Grows-told DramDrained cycle s = grows_same m.kept m.kept refl
-  Grows-told Nothing cycle s = grows_same m.kept m.kept refl
+  Grows-reported NvmDrained cycle s = grows_same m.kept m.kept refl
+  Grows-reported DramDrained cycle s = grows_same m.kept m.kept refl
+  Grows-reported Nothing cycle s = grows_same m.kept m.kept refl
 
   loading_sealed : v.done ≡ None → v.phase ≡ BootPhase → m.sealed ≡ v.sealed
   loading_sealed none boot =
@@ -106,24 +106,24 @@ module _ (o : Origin) (v next : View) (m : Marks) (h : Fits o v m) where
       ]
 
   -- after what shows a console the committed mark is the view's, after anything else it is the one before
-  pub kept-told : (did : Did) (cycle : ℕ) → CoreStep o v did next → (marks_from o.start.count m (did_told o v did cycle)).kept ≡ (if shows_console did then next.done else m.kept)
-  kept-told Boot cycle s = refl
-  kept-told Loaded cycle s = loading_sealed s.none s.phase ∙ sym (ap (λ w. w.done) s.becomes)
-  kept-told (Restarted epoch count) cycle s = sym s.done ∙ sym (ap (λ w. w.done) s.becomes)
-  kept-told (Refused bad) cycle s = refl
-  kept-told Moved cycle s = refl
-  kept-told (Retired hart) cycle s = refl
-  kept-told Flushed cycle s = refl
-  kept-told Merged cycle s = refl
-  kept-told Promoted cycle s = refl
-  kept-told (Sealed epoch count cause) cycle s = refl
-  kept-told (Engine step) cycle s = refl
-  kept-told (Committed epoch overlapped) cycle s =
+  pub kept-reported : (did : Did) (cycle : ℕ) → CoreStep o v did next → (marks_from o.start.count m (did_events o v did cycle)).kept ≡ (if shows_console did then next.done else m.kept)
+  kept-reported Boot cycle s = refl
+  kept-reported Loaded cycle s = loading_sealed s.none s.phase ∙ sym (ap (λ w. w.done) s.becomes)
+  kept-reported (Restarted epoch count) cycle s = sym s.done ∙ sym (ap (λ w. w.done) s.becomes)
+  kept-reported (Refused bad) cycle s = refl
+  kept-reported Moved cycle s = refl
+  kept-reported (Retired hart) cycle s = refl
+  kept-reported Flushed cycle s = refl
+  kept-reported Merged cycle s = refl
+  kept-reported Promoted cycle s = refl
+  kept-reported (Sealed epoch count cause) cycle s = refl
+  kept-reported (Engine step) cycle s = refl
+  kept-reported (Committed epoch overlapped) cycle s =
       let f : RunFits o v m = subst (FitsIn o v m) s.phase h in
       f.sealed ∙ sym (ap (λ w. w.done) s.becomes)
-  kept-told NvmDrained cycle s = refl
-  kept-told DramDrained cycle s = refl
-  kept-told Nothing cycle s = refl
+  kept-reported NvmDrained cycle s = refl
+  kept-reported DramDrained cycle s = refl
+  kept-reported Nothing cycle s = refl
 
 -- ---- what is released
 
@@ -136,21 +136,21 @@ shown_of o events = mark_if (list_any shows events) (marks_of o events).kept
 
 -- the console at each count, to which turns lead
 abbrev console_by : Origin → ℕ → List ℕ → List ℕ
-console_by o k turns = (at (told o turns) k).console
+console_by o k turns = (at (with_turns o turns) k).console
 
 -- the console of a mark is the run's own if the mark's turns reach it
-of_mark : (o : Origin) (t turns : List ℕ) (kept : Option Mark) → ((k : Mark) → kept ≡ Some k → LeadsTo (told o t) turns k.count)
-    → console_of (console_by o) kept turns ≡ console_shown (told o t) kept
+of_mark : (o : Origin) (t turns : List ℕ) (kept : Option Mark) → ((k : Mark) → kept ≡ Some k → LeadsTo (with_turns o t) turns k.count)
+    → console_of (console_by o) kept turns ≡ console_shown (with_turns o t) kept
 of_mark o t turns None leads = refl
-of_mark o t turns (Some k) leads = ap (λ (x : State). x.console) (state_there (told o t) turns k.count (leads k refl))
+of_mark o t turns (Some k) leads = ap (λ (x : State). x.console) (state_there (with_turns o t) turns k.count (leads k refl))
 
-released_if : (o : Origin) (t : List ℕ) (b : Bool) (m : Marks) → ((k : Mark) → m.kept ≡ Some k → LeadsTo (told o t) m.kept_turns k.count)
-    → (if b then console_kept (console_by o) m else []) ≡ console_shown (told o t) (mark_if b m.kept)
+released_if : (o : Origin) (t : List ℕ) (b : Bool) (m : Marks) → ((k : Mark) → m.kept ≡ Some k → LeadsTo (with_turns o t) m.kept_turns k.count)
+    → (if b then console_kept (console_by o) m else []) ≡ console_shown (with_turns o t) (mark_if b m.kept)
 released_if o t true m leads = of_mark o t m.kept_turns m.kept leads
 released_if o t false m leads = refl
 
-released_marks : (o : Origin) (t : List ℕ) (events : List Event) → ((k : Mark) → (marks_of o events).kept ≡ Some k → LeadsTo (told o t) (marks_of o events).kept_turns k.count)
-    → released_of o events ≡ console_shown (told o t) (shown_of o events)
+released_marks : (o : Origin) (t : List ℕ) (events : List Event) → ((k : Mark) → (marks_of o events).kept ≡ Some k → LeadsTo (with_turns o t) (marks_of o events).kept_turns k.count)
+    → released_of o events ≡ console_shown (with_turns o t) (shown_of o events)
 released_marks o t events leads = released_if o t (list_any shows events) (marks_of o events) leads
 
 -- what was shown stays shown
@@ -163,22 +163,22 @@ shown_on : (o : Origin) (vs ws : List Event) → list_any shows vs ≡ true → 
 shown_on o vs ws is = list_any-append shows vs ws ∙ ap (λ b. b || list_any shows ws) is
 
 -- which events of a step show a console
-told_shows : (o : Origin) (v : View) (did : Did) (cycle : ℕ) → list_any shows (did_told o v did cycle) ≡ shows_console did
-told_shows o v Boot cycle = refl
-told_shows o v Loaded cycle = refl
-told_shows o v (Restarted epoch count) cycle = refl
-told_shows o v (Refused bad) cycle = refl
-told_shows o v Moved cycle = refl
-told_shows o v (Retired hart) cycle = refl
-told_shows o v Flushed cycle = refl
-told_shows o v Merged cycle = refl
-told_shows o v Promoted cycle = refl
-told_shows o v (Sealed epoch count cause) cycle = refl
-told_shows o v (Engine step) cycle = refl
-told_shows o v (Committed epoch overlapped) cycle = refl
-told_shows o v NvmDrained cycle = refl
-told_shows o v DramDrained cycle = refl
-told_shows o v Nothing cycle = refl
+report_shows : (o : Origin) (v : View) (did : Did) (cycle : ℕ) → list_any shows (did_events o v did cycle) ≡ shows_console did
+report_shows o v Boot cycle = refl
+report_shows o v Loaded cycle = refl
+report_shows o v (Restarted epoch count) cycle = refl
+report_shows o v (Refused bad) cycle = refl
+report_shows o v Moved cycle = refl
+report_shows o v (Retired hart) cycle = refl
+report_shows o v Flushed cycle = refl
+report_shows o v Merged cycle = refl
+report_shows o v Promoted cycle = refl
+report_shows o v (Sealed epoch count cause) cycle = refl
+report_shows o v (Engine step) cycle = refl
+report_shows o v (Committed epoch overlapped) cycle = refl
+report_shows o v NvmDrained cycle = refl
+report_shows o v DramDrained cycle = refl
+report_shows o v Nothing cycle = refl
 
 reload_shows : (b : Bool) → list_any shows (if b then Reload ∷ [] else []) ≡ false
 reload_shows true = refl
@@ -191,12 +191,12 @@ end_shows o next cycle false = refl
 
 events_show : (o : Origin) (fresh : Bool) (v : View) (did : Did) (next : View) (cycle : ℕ) → list_any shows (events_of o fresh v did next cycle) ≡ shows_console did
 events_show o fresh v did next cycle =
-    list_any-append shows (reload_told fresh next ++ did_told o v did cycle) (end_told o v next cycle)
-    ∙ ap (λ b. list_any shows (reload_told fresh next ++ did_told o v did cycle) || b) (end_shows o next cycle (halts v next))
-    ∙ or_false (list_any shows (reload_told fresh next ++ did_told o v did cycle))
-    ∙ list_any-append shows (reload_told fresh next) (did_told o v did cycle)
-    ∙ ap (λ b. b || list_any shows (did_told o v did cycle)) (reload_shows (fresh && loads next))
-    ∙ told_shows o v did cycle
+    list_any-append shows (reload_events fresh next ++ did_events o v did cycle) (end_events o v next cycle)
+    ∙ ap (λ b. list_any shows (reload_events fresh next ++ did_events o v did cycle) || b) (end_shows o next cycle (halts v next))
+    ∙ or_false (list_any shows (reload_events fresh next ++ did_events o v did cycle))
+    ∙ list_any-append shows (reload_events fresh next) (did_events o v did cycle)
+    ∙ ap (λ b. b || list_any shows (did_events o v did cycle)) (reload_shows (fresh && loads next))
+    ∙ report_shows o v did cycle
 
 -- the mark that is shown after a step
 mark_next : (w es showing : Bool) (found before later : Option Mark) → es ≡ showing → later ≡ (if showing then found else before)
@@ -222,7 +222,7 @@ module _ {M : Type 0} (K : KindOf M) (o : Origin) (w next : World M) (least : 1 
   marks_more part = marks_from-append o.start.count (first_marks o) w.events part
 
   -- the marks after the first of a cycle's events are those before it, or those that what was done leaves
-  behind_part : (P : Marks → Type 0) → P (marks_of o w.events) → P (marks_from o.start.count (marks_of o w.events) (did_told (line o next) (seen K o w) step.r.did (w.cycles + 1)))
+  behind_part : (P : Marks → Type 0) → P (marks_of o w.events) → P (marks_from o.start.count (marks_of o w.events) (did_events (line o next) (seen K o w) step.r.did (w.cycles + 1)))
       → (part rest : List Event) → part ++ rest ≡ events_of (line o next) w.fresh (seen K o w) step.r.did (seen K o next) (w.cycles + 1) → P (marks_of o (w.events ++ part))
   behind_part P stood done part rest e =
       subst P (sym (marks_more part))
@@ -232,19 +232,19 @@ module _ {M : Type 0} (K : KindOf M) (o : Origin) (w next : World M) (least : 1 
         | inr all ↦ subst P (sym all) done
       ])
 
-  told_grows : Grows (marks_of o w.events).kept (marks_from o.start.count (marks_of o w.events) (did_told (line o next) (seen K o w) step.r.did (w.cycles + 1))).kept
-  told_grows = Grows-told (line o next) (seen K o w) (seen K o next) (marks_of o w.events) fits step.r.did (w.cycles + 1) core
+  report_grows : Grows (marks_of o w.events).kept (marks_from o.start.count (marks_of o w.events) (did_events (line o next) (seen K o w) step.r.did (w.cycles + 1))).kept
+  report_grows = Grows-reported (line o next) (seen K o w) (seen K o next) (marks_of o w.events) fits step.r.did (w.cycles + 1) core
 
   part_grows : (part rest : List Event) → part ++ rest ≡ events_of (line o next) w.fresh (seen K o w) step.r.did (seen K o next) (w.cycles + 1)
       → Grows (marks_of o w.events).kept (marks_of o (w.events ++ part)).kept
   part_grows part rest e =
-      behind_part (λ (x : Marks). Grows (marks_of o w.events).kept x.kept) (grows_same (marks_of o w.events).kept (marks_of o w.events).kept refl) told_grows part rest e
+      behind_part (λ (x : Marks). Grows (marks_of o w.events).kept x.kept) (grows_same (marks_of o w.events).kept (marks_of o w.events).kept refl) report_grows part rest e
 
   part_leads : (part rest : List Event) → part ++ rest ≡ events_of (line o next) w.fresh (seen K o w) step.r.did (seen K o next) (w.cycles + 1)
       → (k : Mark) → (marks_of o (w.events ++ part)).kept ≡ Some k → LeadsTo (line o next) (marks_of o (w.events ++ part)).kept_turns k.count
   part_leads part rest e =
       behind_part (λ (x : Marks). (k : Mark) → x.kept ≡ Some k → LeadsTo (line o next) x.kept_turns k.count) leads.kept
-      (Leads-told (line o next) (seen K o w) (seen K o next) (marks_of o w.events) fits leads step.r.did (w.cycles + 1) (told_before K o w least h next step) core).kept
+      (Leads-reported (line o next) (seen K o w) (seen K o next) (marks_of o w.events) fits leads step.r.did (w.cycles + 1) (reported_before K o w least h next step) core).kept
       part rest e
 
   shown_grows : (part rest : List Event) → part ++ rest ≡ events_of (line o next) w.fresh (seen K o w) step.r.did (seen K o next) (w.cycles + 1)
@@ -269,7 +269,7 @@ module _ {M : Type 0} (K : KindOf M) (o : Origin) (w next : World M) (least : 1 
       )
 
   all_events : next.events ≡ w.events ++ events_of (line o next) w.fresh (seen K o w) step.r.did (seen K o next) (w.cycles + 1)
-  all_events = events_told K o w next step
+  all_events = events_of_step K o w next step
 
   all_kept : (marks_of o next.events).kept ≡ (if shows_console step.r.did then (seen K o next).done else (marks_of o w.events).kept)
   all_kept =
@@ -277,7 +277,7 @@ module _ {M : Type 0} (K : KindOf M) (o : Origin) (w next : World M) (least : 1 
       ∙ ap (λ (x : Marks). x.kept)
       (marks_more (events_of (line o next) w.fresh (seen K o w) step.r.did (seen K o next) (w.cycles + 1))
       ∙ marks-events (line o next) (seen K o w) (seen K o next) (marks_of o w.events) step.r.did w.fresh (w.cycles + 1) least fits core)
-      ∙ kept-told (line o next) (seen K o w) (seen K o next) (marks_of o w.events) fits step.r.did (w.cycles + 1) core
+      ∙ kept-reported (line o next) (seen K o w) (seen K o next) (marks_of o w.events) fits step.r.did (w.cycles + 1) core
 
   all_shown : shown_of o next.events ≡ (if shows_console step.r.did then (seen K o next).done else shown_of o w.events)
   all_shown =
@@ -322,7 +322,7 @@ console-few o k origin =
 
 mark_few : (o : Origin) (turns : List ℕ) (kept : Option Mark) → IsOrigin o → length (console_of (console_by o) kept turns) < 2 ^ 64
 mark_few o turns None origin = omega arith
-mark_few o turns (Some m) origin = console-few (told o turns) m.count (IsOrigin-told o turns origin)
+mark_few o turns (Some m) origin = console-few (with_turns o turns) m.count (IsOrigin-with_turns o turns origin)
 
 few_if : (o : Origin) (b : Bool) (m : Marks) → IsOrigin o → length (if b then console_kept (console_by o) m else []) < 2 ^ 64
 few_if o true m origin = mark_few o m.kept_turns m.kept origin

@@ -15,10 +15,10 @@ use Rattle.thy_block.specs.Marks.{mark}
 use Rattle.thy_view.specs.Views.{loads, halts, doubt_of}
 use Rattle.thy_view.specs.CoreStep.{CoreStep}
 use Rattle.thy_view.specs.Origin.{Origin, at}
-use Rattle.thy_run.specs.World.{did_told, reload_told, end_told, events_of}
+use Rattle.thy_run.specs.World.{did_events, reload_events, end_events, events_of}
 use Rattle.thy_run.proofs.Fitting.{IsEither, BootFits, Follows, RunFits, HaltFits, FitsIn, Fits, Covers}
-use Rattle.thy_run.proofs.FittingLaws.{Fits-told}
-use Rattle.thy_run.proofs.EventLaws.{Reloads-told}
+use Rattle.thy_run.proofs.FittingLaws.{Fits-reported}
+use Rattle.thy_run.proofs.EventLaws.{Reloads-reported}
 
 none_some : (o : Option Mark) (d : Mark) {A : Type 0} → o ≡ None → o ≡ Some d → A
 none_some o d none some = absurd (cc)
@@ -111,7 +111,7 @@ module _ (o : Origin) (v next : View) (m : Marks) (least : 1 ≤ o.geometry.epoc
 
   -- the marks before a step's event cover the view after it
   pub Covers-before : (did : Did) → CoreStep o v did next → Covers m.kept m.sealed next.done (doubt_of next)
-  Covers-before Boot s = Covers-fits o next m (Fits-told o v next m least h Boot 0 s)
+  Covers-before Boot s = Covers-fits o next m (Fits-reported o v next m least h Boot 0 s)
   Covers-before Loaded s = unsealed m.kept m.sealed next.done next.sealed next.written (before_loaded s)
   Covers-before (Restarted epoch count) s =
       let c = Covers-sealed o v m h in
@@ -119,21 +119,21 @@ module _ (o : Origin) (v next : View) (m : Marks) (least : 1 ≤ o.geometry.epoc
       let sealed : next.sealed ≡ v.sealed = ap (λ w. w.sealed) s.becomes in
       unsealed m.kept m.sealed next.done next.sealed next.written
       (record { nothing = λ none. c.nothing (sym done ∙ none); of_done = λ d some. c.of_done d (sym done ∙ some); of_doubt = λ d some. c.of_doubt d (sym sealed ∙ some) })
-  Covers-before (Refused bad) s = Covers-fits o next m (Fits-told o v next m least h (Refused bad) 0 s)
-  Covers-before Moved s = Covers-fits o next m (Fits-told o v next m least h Moved 0 s)
-  Covers-before (Retired hart) s = Covers-fits o next m (Fits-told o v next m least h (Retired hart) 0 s)
-  Covers-before Flushed s = Covers-fits o next m (Fits-told o v next m least h Flushed 0 s)
-  Covers-before Merged s = Covers-fits o next m (Fits-told o v next m least h Merged 0 s)
-  Covers-before Promoted s = Covers-fits o next m (Fits-told o v next m least h Promoted 0 s)
+  Covers-before (Refused bad) s = Covers-fits o next m (Fits-reported o v next m least h (Refused bad) 0 s)
+  Covers-before Moved s = Covers-fits o next m (Fits-reported o v next m least h Moved 0 s)
+  Covers-before (Retired hart) s = Covers-fits o next m (Fits-reported o v next m least h (Retired hart) 0 s)
+  Covers-before Flushed s = Covers-fits o next m (Fits-reported o v next m least h Flushed 0 s)
+  Covers-before Merged s = Covers-fits o next m (Fits-reported o v next m least h Merged 0 s)
+  Covers-before Promoted s = Covers-fits o next m (Fits-reported o v next m least h Promoted 0 s)
   Covers-before (Sealed epoch count cause) s = before_sealed epoch count cause s
-  Covers-before (Engine step) s = Covers-fits o next m (Fits-told o v next m least h (Engine step) 0 s)
+  Covers-before (Engine step) s = Covers-fits o next m (Fits-reported o v next m least h (Engine step) 0 s)
   Covers-before (Committed epoch overlapped) s =
       let f : RunFits o v m = subst (FitsIn o v m) s.phase h in
       unsealed m.kept m.sealed next.done next.sealed next.written
       (before_commit o v next m (mark epoch s.count) f s.sealed (ap (λ w. w.done) s.becomes) (ap (λ w. w.sealed) s.becomes))
-  Covers-before NvmDrained s = Covers-fits o next m (Fits-told o v next m least h NvmDrained 0 s)
-  Covers-before DramDrained s = Covers-fits o next m (Fits-told o v next m least h DramDrained 0 s)
-  Covers-before Nothing s = Covers-fits o next m (Fits-told o v next m least h Nothing 0 s)
+  Covers-before NvmDrained s = Covers-fits o next m (Fits-reported o v next m least h NvmDrained 0 s)
+  Covers-before DramDrained s = Covers-fits o next m (Fits-reported o v next m least h DramDrained 0 s)
+  Covers-before Nothing s = Covers-fits o next m (Fits-reported o v next m least h Nothing 0 s)
 
 -- ---- the first of a cycle's events
 
@@ -171,22 +171,22 @@ part_of_short : (part rest vs : List Event) → IsShort vs → part ++ rest ≡ 
 part_of_short part rest vs (inl none) e = inl (part_of_none part rest (e ∙ none))
 part_of_short part rest vs (inr (v, one)) e = elim (part_of_one part rest v (e ∙ one)) as (λ _. (part ≡ []) ⊎ (part ≡ vs)) [ inl a ↦ inl a | inr b ↦ inr (b ∙ sym one) ]
 
-pub told_short : (o : Origin) (v : View) (did : Did) (cycle : ℕ) → IsShort (did_told o v did cycle)
-told_short o v Boot cycle = inl refl
-told_short o v Loaded cycle = inr (_, refl)
-told_short o v (Restarted epoch count) cycle = inr (_, refl)
-told_short o v (Refused bad) cycle = inl refl
-told_short o v Moved cycle = inl refl
-told_short o v (Retired hart) cycle = inl refl
-told_short o v Flushed cycle = inl refl
-told_short o v Merged cycle = inl refl
-told_short o v Promoted cycle = inl refl
-told_short o v (Sealed epoch count cause) cycle = inr (_, refl)
-told_short o v (Engine step) cycle = inl refl
-told_short o v (Committed epoch overlapped) cycle = inr (_, refl)
-told_short o v NvmDrained cycle = inl refl
-told_short o v DramDrained cycle = inl refl
-told_short o v Nothing cycle = inl refl
+pub report_is_short : (o : Origin) (v : View) (did : Did) (cycle : ℕ) → IsShort (did_events o v did cycle)
+report_is_short o v Boot cycle = inl refl
+report_is_short o v Loaded cycle = inr (_, refl)
+report_is_short o v (Restarted epoch count) cycle = inr (_, refl)
+report_is_short o v (Refused bad) cycle = inl refl
+report_is_short o v Moved cycle = inl refl
+report_is_short o v (Retired hart) cycle = inl refl
+report_is_short o v Flushed cycle = inl refl
+report_is_short o v Merged cycle = inl refl
+report_is_short o v Promoted cycle = inl refl
+report_is_short o v (Sealed epoch count cause) cycle = inr (_, refl)
+report_is_short o v (Engine step) cycle = inl refl
+report_is_short o v (Committed epoch overlapped) cycle = inr (_, refl)
+report_is_short o v NvmDrained cycle = inl refl
+report_is_short o v DramDrained cycle = inl refl
+report_is_short o v Nothing cycle = inl refl
 
 if_short : (b : Bool) (v : Event) → IsShort (if b then v ∷ [] else [])
 if_short true v = inr (v, refl)
@@ -202,43 +202,43 @@ end_kept o m next cycle part false (inr none) = ap (marks_from o.start.count m) 
 module _ (o : Origin) (v next : View) (m : Marks) (did : Did) (fresh : Bool) (cycle : ℕ) (least : 1 ≤ o.geometry.epoch) (h : Fits o v m) (s : CoreStep o v did next) where
   -- some events leave the marks that stood, or those that what was done leaves
   abbrev pub LeavesEither : List Event → Type 0
-  LeavesEither part = (marks_from o.start.count m part ≡ m) ⊎ (marks_from o.start.count m part ≡ marks_from o.start.count m (did_told o v did cycle))
+  LeavesEither part = (marks_from o.start.count m part ≡ m) ⊎ (marks_from o.start.count m part ≡ marks_from o.start.count m (did_events o v did cycle))
 
-  reload_kept : marks_from o.start.count m (reload_told fresh next) ≡ m
-  reload_kept = (Reloads-told o v next m did fresh least h s).marks
+  reload_kept : marks_from o.start.count m (reload_events fresh next) ≡ m
+  reload_kept = (Reloads-reported o v next m did fresh least h s).marks
 
-  after_reload : (more : List Event) → marks_from o.start.count m (reload_told fresh next ++ more) ≡ marks_from o.start.count m more
-  after_reload more = marks_from-append o.start.count m (reload_told fresh next) more ∙ ap (λ n. marks_from o.start.count n more) reload_kept
+  after_reload : (more : List Event) → marks_from o.start.count m (reload_events fresh next ++ more) ≡ marks_from o.start.count m more
+  after_reload more = marks_from-append o.start.count m (reload_events fresh next) more ∙ ap (λ n. marks_from o.start.count n more) reload_kept
 
-  of_reload : (part rest : List Event) → part ++ rest ≡ reload_told fresh next → LeavesEither part
-  of_reload part rest e = elim (part_of_short part rest (reload_told fresh next) (if_short (fresh && loads next) Reload) e) as (λ _. LeavesEither part) [
+  of_reload : (part rest : List Event) → part ++ rest ≡ reload_events fresh next → LeavesEither part
+  of_reload part rest e = elim (part_of_short part rest (reload_events fresh next) (if_short (fresh && loads next) Reload) e) as (λ _. LeavesEither part) [
     | inl none ↦ inl (ap (marks_from o.start.count m) none)
     | inr all ↦ inl (ap (marks_from o.start.count m) all ∙ reload_kept)
   ]
 
-  of_told : (part more rest : List Event) → part ≡ reload_told fresh next ++ more → more ++ rest ≡ did_told o v did cycle → LeavesEither part
-  of_told part more rest is e = elim (part_of_short more rest (did_told o v did cycle) (told_short o v did cycle) e) as (λ _. LeavesEither part) [
+  of_reported : (part more rest : List Event) → part ≡ reload_events fresh next ++ more → more ++ rest ≡ did_events o v did cycle → LeavesEither part
+  of_reported part more rest is e = elim (part_of_short more rest (did_events o v did cycle) (report_is_short o v did cycle) e) as (λ _. LeavesEither part) [
     | inl none ↦ inl (ap (marks_from o.start.count m) is ∙ after_reload more ∙ ap (marks_from o.start.count m) none)
     | inr all ↦ inr (ap (marks_from o.start.count m) is ∙ after_reload more ∙ ap (marks_from o.start.count m) all)
   ]
 
-  of_both : (part rest : List Event) → part ++ rest ≡ reload_told fresh next ++ did_told o v did cycle → LeavesEither part
-  of_both part rest e = elim (cutting part rest (reload_told fresh next) (did_told o v did cycle) e) as (λ _. LeavesEither part) [
+  of_both : (part rest : List Event) → part ++ rest ≡ reload_events fresh next ++ did_events o v did cycle → LeavesEither part
+  of_both part rest e = elim (cutting part rest (reload_events fresh next) (did_events o v did cycle) e) as (λ _. LeavesEither part) [
     | within r f ↦ of_reload part r f
-    | beyond more r is f ↦ of_told part more r is f
+    | beyond more r is f ↦ of_reported part more r is f
   ]
 
-  of_end : (part more rest : List Event) → part ≡ reload_told fresh next ++ did_told o v did cycle ++ more → more ++ rest ≡ end_told o v next cycle → LeavesEither part
+  of_end : (part more rest : List Event) → part ≡ reload_events fresh next ++ did_events o v did cycle ++ more → more ++ rest ≡ end_events o v next cycle → LeavesEither part
   of_end part more rest is e =
       inr (
-      ap (marks_from o.start.count m) is ∙ marks_from-append o.start.count m (reload_told fresh next ++ did_told o v did cycle) more
-      ∙ end_kept o (marks_from o.start.count m (reload_told fresh next ++ did_told o v did cycle)) next cycle more (halts v next)
-      (part_of_short more rest (end_told o v next cycle) (if_short (halts v next) _) e)
-      ∙ after_reload (did_told o v did cycle))
+      ap (marks_from o.start.count m) is ∙ marks_from-append o.start.count m (reload_events fresh next ++ did_events o v did cycle) more
+      ∙ end_kept o (marks_from o.start.count m (reload_events fresh next ++ did_events o v did cycle)) next cycle more (halts v next)
+      (part_of_short more rest (end_events o v next cycle) (if_short (halts v next) _) e)
+      ∙ after_reload (did_events o v did cycle))
 
   -- the first of a cycle's events leave the marks that stood, or the marks that what was done leaves
   pub marks-part : (part rest : List Event) → part ++ rest ≡ events_of o fresh v did next cycle → LeavesEither part
-  marks-part part rest e = elim (cutting part rest (reload_told fresh next ++ did_told o v did cycle) (end_told o v next cycle) e) as (λ _. LeavesEither part) [
+  marks-part part rest e = elim (cutting part rest (reload_events fresh next ++ did_events o v did cycle) (end_events o v next cycle) e) as (λ _. LeavesEither part) [
     | within r f ↦ of_both part r f
     | beyond more r is f ↦ of_end part more r is f
   ]

@@ -12,7 +12,7 @@ use Rattle.thy_view.specs.declared.view.View.{View}
 use Rattle.thy_view.specs.Booting.{view_of_image}
 use Rattle.thy_view.specs.Origin.{Origin}
 use Rattle.thy_view.specs.Safe.{ceiling, Safe, IsOneOf}
-use Rattle.thy_view.specs.Told.{told, AgreeBelow, count_of, reach}
+use Rattle.thy_view.specs.WithTurns.{with_turns, AgreeBelow, count_of, reach}
 use Rattle.thy_view.specs.Views.{doubt_of}
 use Rattle.thy_view.proofs.ReachLaws.{reach-count, reach-boot}
 use Rattle.thy_view.proofs.TurnLaws.{AgreeBelow-less, at-agrees}
@@ -20,8 +20,8 @@ use Rattle.thy_run.specs.Laws.{MayStand, IsSafe, course_of}
 use Rattle.thy_run.proofs.CoverLaws.{doubt_sealed, Covers-sealed, Covers-fits}
 use Rattle.thy_run.proofs.Fitting.{IsEither, Rises, Follows, RunFits, FitsIn, Fits}
 use Rattle.thy_run.proofs.ImageLaws.{IsFound}
-use Rattle.thy_run.proofs.Leading.{LeadsTo, LeadsIn, Leads, start_leads, state_there, leads_told, turns_of-sealed, either_leads}
-use Rattle.thy_run.proofs.RetellLaws.{kept_within}
+use Rattle.thy_run.proofs.Leading.{LeadsTo, LeadsIn, Leads, start_leads, state_there, leads_agreeing, turns_of-sealed, either_leads}
+use Rattle.thy_run.proofs.AgreeingTurnsLaws.{kept_within}
 
 -- ---- marks
 
@@ -143,7 +143,7 @@ cut_below p v m (At epoch state) f one = left_in p v m v.phase refl f (mark epoc
 
 -- the view of what a cut left fits the marks that stood, along any turns
 pub fits_cut : (p : Origin) (t : List ℕ) (v : View) (m : Marks) (d : Decoded) → Fits p v m → IsOneOf p v.done (doubt_of v) d
-    → Fits (told p t) (view_of_image p.start.count d) m
+    → Fits (with_turns p t) (view_of_image p.start.count d) m
 fits_cut p t v m NothingLeft f one =
     record { retired = refl; over = refl; boots = inl (record { done = refl; sealed = refl; marks = loading_in p v m v.phase f one }) }
 fits_cut p t v m (RefusedImage bad) f one = absurd one
@@ -157,7 +157,7 @@ fits_cut p t v m (At epoch state) f one =
 
 -- what leads to the marks leads to the checkpoint that the boot found, and to the committed one
 pub leads_cut : (p : Origin) (t : List ℕ) (v : View) (m : Marks) (d : Decoded) → Fits p v m → Leads p v m → IsOneOf p v.done (doubt_of v) d
-    → AgreeBelow p t (reach (view_of_image p.start.count d)) → Leads (told p t) (view_of_image p.start.count d) m
+    → AgreeBelow p t (reach (view_of_image p.start.count d)) → Leads (with_turns p t) (view_of_image p.start.count d) m
 leads_cut p t v m NothingLeft f l one agree = record {
   kept = λ k is. absurd (
       let none : m.kept ≡ None = ap (λ (x : Marks). x.kept) (loading_in p v m v.phase f one) in
@@ -174,15 +174,15 @@ leads_cut p t v m (At epoch state) f l one agree =
             | inl same ↦ (let e : k.count ≡ state.count = ap (λ (x : Mark). x.count) (some_same k (mark epoch state.count) (sym is ∙ same)) in omega (arith, e))
             | inr sealed ↦ Rises-fits p v m f k (mark epoch state.count) is sealed
           ] in
-          leads_told p t m.kept_turns k.count (AgreeBelow-less p t k.count state.count le agree) (l.kept k is);
+          leads_agreeing p t m.kept_turns k.count (AgreeBelow-less p t k.count state.count le agree) (l.kept k is);
       other = λ k is.
-          subst (λ (x : Mark). LeadsTo (told p t) (turns_of m x.epoch x.count) x.count) (some_same (mark epoch state.count) k is)
-          (leads_told p t (turns_of m epoch state.count) state.count agree here.leads);
+          subst (λ (x : Mark). LeadsTo (with_turns p t) (turns_of m x.epoch x.count) x.count) (some_same (mark epoch state.count) k is)
+          (leads_agreeing p t (turns_of m epoch state.count) state.count agree here.leads);
     }
 
 -- what the view after a cut finds is what was left
 pub found_cut : (p : Origin) (t : List ℕ) (v : View) (d : Decoded) → IsOneOf p v.done (doubt_of v) d → AgreeBelow p t (reach (view_of_image p.start.count d))
-    → IsFound (told p t) (view_of_image p.start.count d) d
+    → IsFound (with_turns p t) (view_of_image p.start.count d) d
 found_cut p t v NothingLeft one agree = refl
 found_cut p t v (RefusedImage bad) one agree = absurd one
 found_cut p t v (At epoch state) one agree = (refl, one.1 ∙ sym (at-agrees p t state.count agree))

@@ -15,7 +15,7 @@ use Rattle.thy_block.specs.Marks.{mark}
 use Rattle.thy_view.specs.CoreStep.{busier, BootsTo, MovesTo, EngineTo, CoreStep, over_at, phase_at}
 use Rattle.thy_view.specs.Origin.{Origin, runs_at}
 use Rattle.thy_view.proofs.Choices.{if_equal}
-use Rattle.thy_run.specs.World.{did_told}
+use Rattle.thy_run.specs.World.{did_events}
 use Rattle.thy_run.proofs.Fitting.{OverFits, Loading, Recovering, BootFits, Follows, RunFits, FitsIn, Fits}
 
 -- the fitting of a view by its phase
@@ -123,7 +123,7 @@ module _ (o : Origin) (v next : View) (m : Marks) (least : 1 ≤ o.geometry.epoc
   -- the program is loaded: its checkpoint is committed
   loads : (cycle : ℕ) → v.phase ≡ BootPhase → v.done ≡ None → v.sealed ≡ Some (mark 0 o.start.count)
       → next ≡ record v { phase = Run; done = v.sealed; sealed = None; epoch = 1; count = o.start.count; written = false }
-      → Fits o next (marks_from o.start.count m (did_told o v Loaded cycle))
+      → Fits o next (marks_from o.start.count m (did_events o v Loaded cycle))
   loads cycle phase none sealed e =
       let f : BootFits o v m = of_phase o v m BootPhase phase h in
       let is : m ≡ loading_marks o.start.count = elim f.boots as (λ _. m ≡ loading_marks o.start.count) [
@@ -132,7 +132,7 @@ module _ (o : Origin) (v next : View) (m : Marks) (least : 1 ≤ o.geometry.epoc
       ] in
       let w : View = record v { phase = Run; done = v.sealed; sealed = None; epoch = 1; count = o.start.count; written = false } in
       let retired : v.retired ≡ 0 = f.retired in
-      let now : RunFits o w (marks_from o.start.count m (did_told o v Loaded cycle)) = record {
+      let now : RunFits o w (marks_from o.start.count m (did_events o v Loaded cycle)) = record {
         mark = mark 0 o.start.count;
         done = sealed;
         kept = ap (λ n. n.sealed) is;
@@ -141,20 +141,20 @@ module _ (o : Origin) (v next : View) (m : Marks) (least : 1 ≤ o.geometry.epoc
         few = omega (arith, retired);
         over = subst (OverFits o v.retired o.start.count) (sym f.over) (omega (arith, retired, least));
       } in
-      subst (λ w. Fits o w (marks_from o.start.count m (did_told o v Loaded cycle))) (sym e) now
+      subst (λ w. Fits o w (marks_from o.start.count m (did_events o v Loaded cycle))) (sym e) now
 
   -- the view fits the marks after an epoch was restored
   restarts : (epoch count cycle : ℕ) → v.phase ≡ BootPhase → v.done ≡ Some (mark epoch count) → v.sealed ≡ None → v.written ≡ false
       → next ≡ record v { phase = phase_at o count; epoch = epoch + 1; count = count; retired = 0; spent = 0; lap = 0 }
-      → Fits o next (marks_from o.start.count m (did_told o v (Restarted epoch count) cycle))
+      → Fits o next (marks_from o.start.count m (did_events o v (Restarted epoch count) cycle))
   restarts epoch count cycle phase done none written e =
       let f : BootFits o v m = of_phase o v m BootPhase phase h in
-      let now : Marks = marks_from o.start.count m (did_told o v (Restarted epoch count) cycle) in
+      let now : Marks = marks_from o.start.count m (did_events o v (Restarted epoch count) cycle) in
       let by_run : (b : Bool) → runs_at o count ≡ b → Fits o (record v { phase = if b then Run else Halt; epoch = epoch + 1; count = count; retired = 0; spent = 0; lap = 0 }) now = λ b runs. begun f b runs in
       subst (λ w. Fits o w now) (sym e) (by_run (runs_at o count) refl)
     where
       begun : BootFits o v m → (b : Bool) → runs_at o count ≡ b
-          → Fits o (record v { phase = if b then Run else Halt; epoch = epoch + 1; count = count; retired = 0; spent = 0; lap = 0 }) (marks_from o.start.count m (did_told o v (Restarted epoch count) cycle))
+          → Fits o (record v { phase = if b then Run else Halt; epoch = epoch + 1; count = count; retired = 0; spent = 0; lap = 0 }) (marks_from o.start.count m (did_events o v (Restarted epoch count) cycle))
       begun f true runs = record {
         mark = mark epoch count;
         done = done;
@@ -169,12 +169,12 @@ module _ (o : Origin) (v next : View) (m : Marks) (least : 1 ≤ o.geometry.epoc
   -- the view fits the marks after a seal
   seals : (epoch count cycle : ℕ) (cause : EndCause) → v.phase ≡ Run → v.sealed ≡ None → epoch ≡ v.epoch → count ≡ v.count → v.over ≡ Some cause
       → next ≡ record v { sealed = Some (mark epoch count); epoch = v.epoch + 1; retired = 0; spent = 0; lap = 0; over = None }
-      → Fits o next (marks_from o.start.count m (did_told o v (Sealed epoch count cause) cycle))
+      → Fits o next (marks_from o.start.count m (did_events o v (Sealed epoch count cause) cycle))
   seals epoch count cycle cause phase none of at_count over e =
       let f : RunFits o v m = of_phase o v m Run phase h in
       let g : Follows o v f.mark None = subst (Follows o v f.mark) none f.follows in
       let w : View = record v { sealed = Some (mark epoch count); epoch = v.epoch + 1; retired = 0; spent = 0; lap = 0; over = None } in
-      let now : RunFits o w (marks_from o.start.count m (did_told o v (Sealed epoch count cause) cycle)) = record {
+      let now : RunFits o w (marks_from o.start.count m (did_events o v (Sealed epoch count cause) cycle)) = record {
         mark = f.mark;
         done = f.done;
         kept = f.kept;
@@ -183,20 +183,20 @@ module _ (o : Origin) (v next : View) (m : Marks) (least : 1 ≤ o.geometry.epoc
         few = omega arith;
         over = least;
       } in
-      subst (λ w. Fits o w (marks_from o.start.count m (did_told o v (Sealed epoch count cause) cycle))) (sym e) (in_phase o w _ Run phase now)
+      subst (λ w. Fits o w (marks_from o.start.count m (did_events o v (Sealed epoch count cause) cycle))) (sym e) (in_phase o w _ Run phase now)
 
   -- the view fits the marks after a commit
   commits : (epoch overlapped cycle count : ℕ) → v.phase ≡ Run → v.sealed ≡ Some (mark epoch count)
       → next ≡ record (busier v) { phase = phase_at o count; done = v.sealed; sealed = None; written = false }
-      → Fits o next (marks_from o.start.count m (did_told o v (Committed epoch overlapped) cycle))
+      → Fits o next (marks_from o.start.count m (did_events o v (Committed epoch overlapped) cycle))
   commits epoch overlapped cycle count phase sealed e =
       let f : RunFits o v m = of_phase o v m Run phase h in
       let g : Follows o v f.mark (Some (mark epoch count)) = subst (Follows o v f.mark) sealed f.follows in
-      let now : Marks = marks_from o.start.count m (did_told o v (Committed epoch overlapped) cycle) in
+      let now : Marks = marks_from o.start.count m (did_events o v (Committed epoch overlapped) cycle) in
       subst (λ w. Fits o w now) (sym e) (goes_on f g (runs_at o count) refl)
     where
       goes_on : (f : RunFits o v m) → Follows o v f.mark (Some (mark epoch count)) → (b : Bool) → runs_at o count ≡ b
-          → Fits o (record (busier v) { phase = if b then Run else Halt; done = v.sealed; sealed = None; written = false }) (marks_from o.start.count m (did_told o v (Committed epoch overlapped) cycle))
+          → Fits o (record (busier v) { phase = if b then Run else Halt; done = v.sealed; sealed = None; written = false }) (marks_from o.start.count m (did_events o v (Committed epoch overlapped) cycle))
       goes_on f g true runs = record {
         mark = mark epoch count;
         done = sealed;
@@ -211,25 +211,25 @@ module _ (o : Origin) (v next : View) (m : Marks) (least : 1 ≤ o.geometry.epoc
           record { mark = mark epoch count; done = sealed; sealed = refl; written = refl; kept = f.sealed ∙ sealed; none = refl; count = still; over = ap (runs_at o) still ∙ runs }
 
   -- a step that reports nothing
-  quiet : (did : Did) (cycle : ℕ) → did_told o v did cycle ≡ [] → Fits o next m → Fits o next (marks_from o.start.count m (did_told o v did cycle))
+  quiet : (did : Did) (cycle : ℕ) → did_events o v did cycle ≡ [] → Fits o next m → Fits o next (marks_from o.start.count m (did_events o v did cycle))
   quiet did cycle none fits =
       subst (λ vs. Fits o next (marks_from o.start.count m vs)) (sym none) fits
 
   -- a step keeps view and marks fitting
-  pub Fits-told : (did : Did) (cycle : ℕ) → CoreStep o v did next
-      → Fits o next (marks_from o.start.count m (did_told o v did cycle))
-  Fits-told Boot cycle s = quiet Boot cycle refl (boots s.0 s.1)
-  Fits-told Loaded cycle s = loads cycle s.phase s.none s.sealed s.becomes
-  Fits-told (Restarted epoch count) cycle s = restarts epoch count cycle s.phase s.done s.unsealed s.unwritten s.becomes
-  Fits-told (Refused bad) cycle s = quiet (Refused bad) cycle refl (same s.3)
-  Fits-told Moved cycle s = quiet Moved cycle refl (moves s.0 s.1 s.2 s.3)
-  Fits-told (Retired hart) cycle s = quiet (Retired hart) cycle refl (retires s.phase s.over s.runs s.becomes)
-  Fits-told Flushed cycle s = quiet Flushed cycle refl (busy s.0 s.1)
-  Fits-told Merged cycle s = quiet Merged cycle refl (busy s.0 s.1)
-  Fits-told Promoted cycle s = quiet Promoted cycle refl (busy s.0 s.1)
-  Fits-told (Sealed epoch count cause) cycle s = seals epoch count cycle cause s.phase s.unsealed s.of_epoch s.at_count s.over s.becomes
-  Fits-told (Engine step) cycle s = quiet (Engine step) cycle refl (engine s.0 step s.1)
-  Fits-told (Committed epoch overlapped) cycle s = commits epoch overlapped cycle s.count s.phase s.sealed s.becomes
-  Fits-told NvmDrained cycle s = quiet NvmDrained cycle refl (same s)
-  Fits-told DramDrained cycle s = quiet DramDrained cycle refl (same s)
-  Fits-told Nothing cycle s = quiet Nothing cycle refl (same s.1)
+  pub Fits-reported : (did : Did) (cycle : ℕ) → CoreStep o v did next
+      → Fits o next (marks_from o.start.count m (did_events o v did cycle))
+  Fits-reported Boot cycle s = quiet Boot cycle refl (boots s.0 s.1)
+  Fits-reported Loaded cycle s = loads cycle s.phase s.none s.sealed s.becomes
+  Fits-reported (Restarted epoch count) cycle s = restarts epoch count cycle s.phase s.done s.unsealed s.unwritten s.becomes
+  Fits-reported (Refused bad) cycle s = quiet (Refused bad) cycle refl (same s.3)
+  Fits-reported Moved cycle s = quiet Moved cycle refl (moves s.0 s.1 s.2 s.3)
+  Fits-reported (Retired hart) cycle s = quiet (Retired hart) cycle refl (retires s.phase s.over s.runs s.becomes)
+  Fits-reported Flushed cycle s = quiet Flushed cycle refl (busy s.0 s.1)
+  Fits-reported Merged cycle s = quiet Merged cycle refl (busy s.0 s.1)
+  Fits-reported Promoted cycle s = quiet Promoted cycle refl (busy s.0 s.1)
+  Fits-reported (Sealed epoch count cause) cycle s = seals epoch count cycle cause s.phase s.unsealed s.of_epoch s.at_count s.over s.becomes
+  Fits-reported (Engine step) cycle s = quiet (Engine step) cycle refl (engine s.0 step s.1)
+  Fits-reported (Committed epoch overlapped) cycle s = commits epoch overlapped cycle s.count s.phase s.sealed s.becomes
+  Fits-reported NvmDrained cycle s = quiet NvmDrained cycle refl (same s)
+  Fits-reported DramDrained cycle s = quiet DramDrained cycle refl (same s)
+  Fits-reported Nothing cycle s = quiet Nothing cycle refl (same s.1)

@@ -18,8 +18,8 @@ use Rattle.thy_view.specs.Views.{is_boot, is_halt, loads, halts}
 use Rattle.thy_view.specs.CoreStep.{busier, BootsTo, MovesTo, EngineTo, CoreStep}
 use Rattle.thy_view.specs.Origin.{Origin, at}
 use Rattle.thy_run.specs.Images.{Found, found, HasLeft, AllFit}
-use Rattle.thy_run.specs.World.{did_told, reload_told, end_told, events_of}
-use Rattle.thy_run.proofs.EventLaws.{told-booting, loads-view}
+use Rattle.thy_run.specs.World.{did_events, reload_events, end_events, events_of}
+use Rattle.thy_run.proofs.EventLaws.{reported-booting, loads-view}
 use Rattle.thy_run.proofs.ImageLemmas.{AllFit-append}
 
 -- ---- steps that report nothing
@@ -56,7 +56,7 @@ stays_engine v next CommitWritten e = record { phase = ap (λ w. w.phase) e.2; d
 some_event : (v : Event) {A : Type 0} → v ∷ [] ≡ [] → A
 some_event v e = absurd (cc)
 
-pub Stays-quiet : (o : Origin) (v next : View) (did : Did) (cycle : ℕ) → CoreStep o v did next → did_told o v did cycle ≡ [] → Stays v next
+pub Stays-quiet : (o : Origin) (v next : View) (did : Did) (cycle : ℕ) → CoreStep o v did next → did_events o v did cycle ≡ [] → Stays v next
 Stays-quiet o v next Boot cycle s none = stays_boot v next s.1
 Stays-quiet o v next Loaded cycle s none = some_event _ none
 Stays-quiet o v next (Restarted epoch count) cycle s none = some_event _ none
@@ -78,7 +78,7 @@ not_both true = refl
 not_both false = refl
 
 -- a step without an event does not halt
-halts-quiet : (o : Origin) (v next : View) (did : Did) (cycle : ℕ) → CoreStep o v did next → did_told o v did cycle ≡ [] → halts v next ≡ false
+halts-quiet : (o : Origin) (v next : View) (did : Did) (cycle : ℕ) → CoreStep o v did next → did_events o v did cycle ≡ [] → halts v next ≡ false
 halts-quiet o v next did cycle s none =
     ap (λ p. not (is_halt v.phase) && is_halt p) (Stays-quiet o v next did cycle s none).phase ∙ not_both (is_halt v.phase)
 
@@ -122,33 +122,33 @@ if_none : {A : Type 0} (b : Bool) (x : List A) → b ≡ false → (if b then x 
 if_none b x e = ap (λ c. if c then x else []) e
 
 -- what a step's events are, as far as images go
-data Shape (o : Origin) (v next : View) (did : Did) (fresh : Bool) (cycle : ℕ) (Told : Type 0) : Type 0 where
+data Shape (o : Origin) (v next : View) (did : Did) (fresh : Bool) (cycle : ℕ) (WithTurns : Type 0) : Type 0 where
   -- the file is loaded again
-  reloads : (fresh && loads next) ≡ true → events_of o fresh v did next cycle ≡ Reload ∷ [] → Shape o v next did fresh cycle Told
+  reloads : (fresh && loads next) ≡ true → events_of o fresh v did next cycle ≡ Reload ∷ [] → Shape o v next did fresh cycle WithTurns
   -- the step has no event
-  nothing : (fresh && loads next) ≡ false → did_told o v did cycle ≡ [] → events_of o fresh v did next cycle ≡ [] → Shape o v next did fresh cycle Told
+  nothing : (fresh && loads next) ≡ false → did_events o v did cycle ≡ [] → events_of o fresh v did next cycle ≡ [] → Shape o v next did fresh cycle WithTurns
   -- the step has events
-  something : Told → events_of o fresh v did next cycle ≡ did_told o v did cycle ++ end_told o v next cycle → Shape o v next did fresh cycle Told
+  something : WithTurns → events_of o fresh v did next cycle ≡ did_events o v did cycle ++ end_events o v next cycle → Shape o v next did fresh cycle WithTurns
 
-shape_of : (o : Origin) (v next : View) (did : Did) (fresh : Bool) (cycle : ℕ) (Told : Type 0) → CoreStep o v did next → (did_told o v did cycle ≡ []) ⊎ Told → Shape o v next did fresh cycle Told
-shape_of o v next did fresh cycle Told c tells = by_test (fresh && loads next) refl
+shape_of : (o : Origin) (v next : View) (did : Did) (fresh : Bool) (cycle : ℕ) (WithTurns : Type 0) → CoreStep o v did next → (did_events o v did cycle ≡ []) ⊎ WithTurns → Shape o v next did fresh cycle WithTurns
+shape_of o v next did fresh cycle WithTurns c reports = by_test (fresh && loads next) refl
   where
-    end_none : did_told o v did cycle ≡ [] → end_told o v next cycle ≡ []
+    end_none : did_events o v did cycle ≡ [] → end_events o v next cycle ≡ []
     end_none none = if_none (halts v next) (Ended (at o next.count).status next.count cycle (at o next.count) ∷ []) (halts-quiet o v next did cycle c none)
 
-    all : (r t e : List Event) → reload_told fresh next ≡ r → did_told o v did cycle ≡ t → end_told o v next cycle ≡ e → events_of o fresh v did next cycle ≡ r ++ t ++ e
+    all : (r t e : List Event) → reload_events fresh next ≡ r → did_events o v did cycle ≡ t → end_events o v next cycle ≡ e → events_of o fresh v did next cycle ≡ r ++ t ++ e
     all r t e is_r is_t is_e =
-        ap (λ (x : List Event). x ++ did_told o v did cycle ++ end_told o v next cycle) is_r
-        ∙ ap (λ (x : List Event). r ++ x ++ end_told o v next cycle) is_t
+        ap (λ (x : List Event). x ++ did_events o v did cycle ++ end_events o v next cycle) is_r
+        ∙ ap (λ (x : List Event). r ++ x ++ end_events o v next cycle) is_t
         ∙ ap (λ (x : List Event). r ++ t ++ x) is_e
 
-    by_test : (b : Bool) → (fresh && loads next) ≡ b → Shape o v next did fresh cycle Told
+    by_test : (b : Bool) → (fresh && loads next) ≡ b → Shape o v next did fresh cycle WithTurns
     by_test true is =
-        let none = told-booting o v next did cycle c (loads-view next (and_parts fresh (loads next) is).1).0 in
+        let none = reported-booting o v next did cycle c (loads-view next (and_parts fresh (loads next) is).1).0 in
         reloads is (all (Reload ∷ []) [] [] (ap (λ b. if b then Reload ∷ [] else []) is) none (end_none none))
-    by_test false is = elim tells as (λ _. Shape o v next did fresh cycle Told) [
+    by_test false is = elim reports as (λ _. Shape o v next did fresh cycle WithTurns) [
       | inl none ↦ nothing is none (all [] [] [] (if_none (fresh && loads next) (Reload ∷ []) is) none (end_none none))
-      | inr fits ↦ something fits (all [] (did_told o v did cycle) (end_told o v next cycle) (if_none (fresh && loads next) (Reload ∷ []) is) refl refl)
+      | inr fits ↦ something fits (all [] (did_events o v did cycle) (end_events o v next cycle) (if_none (fresh && loads next) (Reload ∷ []) is) refl refl)
     ]
 
 module _ (read : List Block → Decoded) (o : Origin) (cycles : ℕ) (fresh : Bool) (v next : View) (s : Found) (f : ImagesFit o cycles fresh v s) where
@@ -157,41 +157,41 @@ module _ (read : List Block → Decoded) (o : Origin) (cycles : ℕ) (fresh : Bo
   settled = found s.means None
 
   -- if nothing is found, some event came since the cut, except for the first cycle after it
-  told_since : (fresh ≡ true → ⊥) → s.means ≡ NothingLeft → (d : Option ℕ) → s.just ≡ d → s.just ≡ None
-  told_since late none_left None is = is
-  told_since late none_left (Some cycle) is = elim (f.just cycle is) as (λ _. s.just ≡ None) [
+  just_since : (fresh ≡ true → ⊥) → s.means ≡ NothingLeft → (d : Option ℕ) → s.just ≡ d → s.just ≡ None
+  just_since late none_left None is = is
+  just_since late none_left (Some cycle) is = elim (f.just cycle is) as (λ _. s.just ≡ None) [
     | inl now ↦ absurd (late now.0)
     | inr before ↦ absurd (f.last cycle is before none_left)
   ]
 
   -- what a step did has no event, or one that fits
-  abbrev ToldFits : Did → ℕ → Type 0
-  ToldFits did cycle = AllFit read (λ t. t ≡ settled) s (did_told o v did cycle) []
+  abbrev ReportFits : Did → ℕ → Type 0
+  ReportFits did cycle = AllFit read (λ t. t ≡ settled) s (did_events o v did cycle) []
 
-  told_fits : (did : Did) (cycle : ℕ) → CoreStep o v did next → (did_told o v did cycle ≡ []) ⊎ ToldFits did cycle
-  told_fits Boot cycle c = inl refl
-  told_fits Loaded cycle c = inr (
-    told_since (λ is. let not_yet : v.written ≡ false = (f.fresh_boot is).1 in let written : v.written ≡ true = c.written in cc) (is_nothing o s.means v c.none (f.boot c.phase)) s.just refl,
+  report_fits : (did : Did) (cycle : ℕ) → CoreStep o v did next → (did_events o v did cycle ≡ []) ⊎ ReportFits did cycle
+  report_fits Boot cycle c = inl refl
+  report_fits Loaded cycle c = inr (
+    just_since (λ is. let not_yet : v.written ≡ false = (f.fresh_boot is).1 in let written : v.written ≡ true = c.written in cc) (is_nothing o s.means v c.none (f.boot c.phase)) s.just refl,
     (refl, refl),
   )
-  told_fits (Restarted epoch count) cycle c = inr (is_at epoch count o s.means v c.done (f.boot c.phase), (refl, refl))
-  told_fits (Refused bad) cycle c = inl refl
-  told_fits Moved cycle c = inl refl
-  told_fits (Retired hart) cycle c = inl refl
-  told_fits Flushed cycle c = inl refl
-  told_fits Merged cycle c = inl refl
-  told_fits Promoted cycle c = inl refl
-  told_fits (Sealed epoch count cause) cycle c = inr (f.up (ap is_boot c.phase), (refl, refl))
-  told_fits (Engine step) cycle c = inl refl
-  told_fits (Committed epoch overlapped) cycle c = inr (f.up (ap is_boot c.phase), (refl, refl))
-  told_fits NvmDrained cycle c = inl refl
-  told_fits DramDrained cycle c = inl refl
-  told_fits Nothing cycle c = inl refl
+  report_fits (Restarted epoch count) cycle c = inr (is_at epoch count o s.means v c.done (f.boot c.phase), (refl, refl))
+  report_fits (Refused bad) cycle c = inl refl
+  report_fits Moved cycle c = inl refl
+  report_fits (Retired hart) cycle c = inl refl
+  report_fits Flushed cycle c = inl refl
+  report_fits Merged cycle c = inl refl
+  report_fits Promoted cycle c = inl refl
+  report_fits (Sealed epoch count cause) cycle c = inr (f.up (ap is_boot c.phase), (refl, refl))
+  report_fits (Engine step) cycle c = inl refl
+  report_fits (Committed epoch overlapped) cycle c = inr (f.up (ap is_boot c.phase), (refl, refl))
+  report_fits NvmDrained cycle c = inl refl
+  report_fits DramDrained cycle c = inl refl
+  report_fits Nothing cycle c = inl refl
 
   module _ (did : Did) (cycle : ℕ) (c : CoreStep o v did next) where
     next_boot : next.phase ≡ BootPhase → IsFound o next s.means
     next_boot boot =
-        let stays = Stays-quiet o v next did cycle c (told-booting o v next did cycle c boot) in
+        let stays = Stays-quiet o v next did cycle c (reported-booting o v next did cycle c boot) in
         not_found o v next s.means stays.done (f.boot (sym stays.phase ∙ boot))
 
     -- after events of which the last is not a cut
@@ -205,7 +205,7 @@ module _ (read : List Block → Decoded) (o : Origin) (cycles : ℕ) (fresh : Bo
     }
 
     -- a cycle without an event fits the images
-    quiet_images : (fresh && loads next) ≡ false → did_told o v did cycle ≡ [] → ImagesFit o (cycles + 1) false next s
+    quiet_images : (fresh && loads next) ≡ false → did_events o v did cycle ≡ [] → ImagesFit o (cycles + 1) false next s
     quiet_images unless none = record {
       last = λ at_cycle e before. elim (f.just at_cycle e) as (λ _. s.means ≢ NothingLeft) [
         | inl now ↦ λ nothing_there.
@@ -232,18 +232,18 @@ module _ (read : List Block → Decoded) (o : Origin) (cycles : ℕ) (fresh : Bo
     abbrev Fits : List Event → Type 0
     Fits vs = AllFit read (ImagesFit o (cycles + 1) false next) s vs []
 
-    by_shape : Shape o v next did fresh cycle (ToldFits did cycle) → Fits (events_of o fresh v did next cycle)
+    by_shape : Shape o v next did fresh cycle (ReportFits did cycle) → Fits (events_of o fresh v did next cycle)
     by_shape (reloads test is) =
         let both = and_parts fresh (loads next) test in
         let start = f.fresh_boot both.0 in
         let loading = loads-view next both.1 in
-        let stays = Stays-quiet o v next did cycle c (told-booting o v next did cycle c loading.0) in
+        let stays = Stays-quiet o v next did cycle c (reported-booting o v next did cycle c loading.0) in
         subst Fits (sym is) ((is_nothing o s.means v (sym stays.done ∙ loading.1) (f.boot start.0), (cycles, start.2)), (refl, settled_images))
     by_shape (nothing unless none is) = subst Fits (sym is) (refl, quiet_images unless none)
     by_shape (something fits is) =
-        subst Fits (sym is) (AllFit-append read (λ t. t ≡ settled) (ImagesFit o (cycles + 1) false next) s (did_told o v did cycle) (end_told o v next cycle) [] []
-        (λ t same. subst (λ x. AllFit read (ImagesFit o (cycles + 1) false next) x (end_told o v next cycle) []) (sym same) (end_fits (halts v next))) fits)
+        subst Fits (sym is) (AllFit-append read (λ t. t ≡ settled) (ImagesFit o (cycles + 1) false next) s (did_events o v did cycle) (end_events o v next cycle) [] []
+        (λ t same. subst (λ x. AllFit read (ImagesFit o (cycles + 1) false next) x (end_events o v next cycle) []) (sym same) (end_fits (halts v next))) fits)
 
     -- a step's events, and what holds after them, fit what a restart can find
     pub AllFit-events : Fits (events_of o fresh v did next cycle)
-    AllFit-events = by_shape (shape_of o v next did fresh cycle (ToldFits did cycle) c (told_fits did cycle c))
+    AllFit-events = by_shape (shape_of o v next did fresh cycle (ReportFits did cycle) c (report_fits did cycle c))

@@ -4,19 +4,19 @@ use Rattle.std.proofs.lemmas.Bool.{and_parts, eq-eqb, eqb-true}
 use Rattle.std.proofs.lemmas.List.{length-append, length-drop, drop_all, nil_from_length}
 use Rattle.thy_block.specs.declared.mark.Mark.{Mark}
 use Rattle.thy_block.specs.Marks.{mark}
-use Rattle.thy_text.specs.Marks.{Marks, is_mark, turns_of, turns_told}
+use Rattle.thy_text.specs.Marks.{Marks, is_mark, turns_of, turns_listed}
 use Rattle.thy_view.specs.declared.view.Phase.{Phase}
 use Rattle.thy_view.specs.declared.view.Phase.TheVariants.{Boot as BootPhase, Run, Halt}
 use Rattle.thy_view.specs.declared.view.View.{View}
 use Rattle.thy_view.specs.Origin.{Origin, at}
-use Rattle.thy_view.specs.Told.{told, AgreeBelow}
+use Rattle.thy_view.specs.WithTurns.{with_turns, AgreeBelow}
 use Rattle.thy_view.proofs.TurnLaws.{AgreeBelow-same, turn_early, joined-agrees, at-agrees}
 use Rattle.thy_run.proofs.Fitting.{IsEither}
 
 -- turns reach a count: their number is the one that is reported up to it, and they agree with the run's
 pub record LeadsTo (p : Origin) (turns : List ℕ) (count : ℕ) : Type 0 where
   pub late : p.start.count ≤ count
-  pub many : length turns ≡ turns_told p.geometry.harts (count - p.start.count)
+  pub many : length turns ≡ turns_listed p.geometry.harts (count - p.start.count)
   pub agree : AgreeBelow p turns count
 
 -- in a boot, the turns of the checkpoint that it found reach its count; after the boot, the turns of the sealed one do
@@ -35,8 +35,8 @@ either_zero : (b : Bool) (n : ℕ) → n ≡ 0 → (if b then 0 else n) ≡ 0
 either_zero true n e = refl
 either_zero false n e = e
 
-pub told_zero : (harts n : ℕ) → n ≡ 0 → turns_told harts n ≡ 0
-told_zero harts n e = either_zero (harts == 1) n e
+pub none_listed : (harts n : ℕ) → n ≡ 0 → turns_listed harts n ≡ 0
+none_listed harts n e = either_zero (harts == 1) n e
 
 -- the number of turns at an epoch's end, after the committed checkpoint
 many_behind : (b : Bool) (own : List ℕ) (start i k : ℕ) → start ≤ i → i ≤ k → length own ≡ (if b then 0 else k - start)
@@ -44,8 +44,8 @@ many_behind : (b : Bool) (own : List ℕ) (start i k : ℕ) → start ≤ i → 
 many_behind true own start i k late le many = omega (arith, length-drop (i - start) own, many)
 many_behind false own start i k late le many = omega (arith, length-drop (i - start) own, many, late, le)
 
-pub length-behind : (harts : ℕ) (own : List ℕ) (start i k : ℕ) → start ≤ i → i ≤ k → length own ≡ turns_told harts (k - start)
-    → length (drop (i - start) own) ≡ turns_told harts (k - i)
+pub length-behind : (harts : ℕ) (own : List ℕ) (start i k : ℕ) → start ≤ i → i ≤ k → length own ≡ turns_listed harts (k - start)
+    → length (drop (i - start) own) ≡ turns_listed harts (k - i)
 length-behind harts own start i k late le many = many_behind (harts == 1) own start i k late le many
 
 many_joined : (b : Bool) (turns own : List ℕ) (start i k : ℕ) → start ≤ i → i ≤ k → length turns ≡ (if b then 0 else i - start)
@@ -73,20 +73,20 @@ joined_by false p turns i k many all agree = joined-agrees p turns i k many agre
 pub start_leads : (p : Origin) → LeadsTo p [] p.start.count
 start_leads p = record {
   late = omega arith;
-  many = sym (told_zero p.geometry.harts (p.start.count - p.start.count) (omega arith));
-  agree = λ j less. turn_early (told p []) j less ∙ sym (turn_early p j less);
+  many = sym (none_listed p.geometry.harts (p.start.count - p.start.count) (omega arith));
+  agree = λ j less. turn_early (with_turns p []) j less ∙ sym (turn_early p j less);
 }
 
 -- turns that reach a count lead to the same state
-pub state_there : (p : Origin) (turns : List ℕ) (count : ℕ) → LeadsTo p turns count → at (told p turns) count ≡ at p count
+pub state_there : (p : Origin) (turns : List ℕ) (count : ℕ) → LeadsTo p turns count → at (with_turns p turns) count ≡ at p count
 state_there p turns count l = at-agrees p turns count l.agree
 
 -- turns reach a count also along other turns that agree so far
-pub leads_told : (p : Origin) (t turns : List ℕ) (count : ℕ) → AgreeBelow p t count → LeadsTo p turns count → LeadsTo (told p t) turns count
-leads_told p t turns count agree l = record { late = l.late; many = l.many; agree = λ j less. l.agree j less ∙ sym (agree j less) }
+pub leads_agreeing : (p : Origin) (t turns : List ℕ) (count : ℕ) → AgreeBelow p t count → LeadsTo p turns count → LeadsTo (with_turns p t) turns count
+leads_agreeing p t turns count agree l = record { late = l.late; many = l.many; agree = λ j less. l.agree j less ∙ sym (agree j less) }
 
 -- turns that reach a count, with the run's own after them, reach the state that these reach
-pub leads_joined : (p : Origin) (turns : List ℕ) (i k : ℕ) → i ≤ k → length p.turns ≡ turns_told p.geometry.harts (k - p.start.count) → LeadsTo p turns i
+pub leads_joined : (p : Origin) (turns : List ℕ) (i k : ℕ) → i ≤ k → length p.turns ≡ turns_listed p.geometry.harts (k - p.start.count) → LeadsTo p turns i
     → LeadsTo p (turns ++ drop (i - p.start.count) p.turns) k
 leads_joined p turns i k le all l = record {
   late = let late = l.late in omega (arith, late, le);

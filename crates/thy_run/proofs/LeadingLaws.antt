@@ -7,7 +7,7 @@ use Rattle.thy_block.specs.Marks.{mark}
 use Rattle.thy_block.proofs.BasicLemmas.{some_same}
 use Rattle.thy_isa.specs.Step.{State, is_running}
 use Rattle.thy_text.specs.Event.{Event, Ended}
-use Rattle.thy_text.specs.Marks.{Marks, loading_marks, marks_from, turns_of, turns_told, FitsCause, EndsEpoch, AllLawful}
+use Rattle.thy_text.specs.Marks.{Marks, loading_marks, marks_from, turns_of, turns_listed, FitsCause, EndsEpoch, AllLawful}
 use Rattle.thy_text.proofs.Histories.{marks_from-append, AllLawful-append}
 use Rattle.thy_view.specs.declared.did.Did.{Did}
 use Rattle.thy_view.specs.declared.did.Did.TheVariants.{Boot, Loaded, Restarted, Refused, Moved, Retired, Flushed, Merged, Sealed, Promoted, Engine, Committed, NvmDrained, DramDrained, Nothing}
@@ -17,15 +17,15 @@ use Rattle.thy_view.specs.declared.view.View.{View}
 use Rattle.thy_view.specs.CoreStep.{CoreStep}
 use Rattle.thy_view.specs.Origin.{Origin, at, runs_at}
 use Rattle.thy_view.specs.Pace.{retires}
-use Rattle.thy_view.specs.Told.{told, count_of}
+use Rattle.thy_view.specs.WithTurns.{with_turns, count_of}
 use Rattle.thy_view.specs.Views.{halts}
 use Rattle.thy_view.proofs.ReachLaws.{reach-count, runs_behind, runs_or_halts}
-use Rattle.thy_run.specs.Going.{AreTold}
+use Rattle.thy_run.specs.Going.{HasItsTurns}
 use Rattle.thy_run.specs.Laws.{course_of}
-use Rattle.thy_run.specs.World.{turns_behind, did_told, reload_told, end_told, events_of}
-use Rattle.thy_run.proofs.EventLaws.{halts-view, Reloads-told, marks-events}
+use Rattle.thy_run.specs.World.{turns_behind, did_events, reload_events, end_events, events_of}
+use Rattle.thy_run.proofs.EventLaws.{halts-view, Reloads-reported, marks-events}
 use Rattle.thy_run.proofs.Fitting.{OverFits, IsEither, BootFits, Follows, RunFits, HaltFits, FitsIn, Fits}
-use Rattle.thy_run.proofs.FittingLaws.{Fits-told}
+use Rattle.thy_run.proofs.FittingLaws.{Fits-reported}
 use Rattle.thy_run.proofs.ImageLaws.{Stays, Stays-quiet}
 use Rattle.thy_run.proofs.Leading.{LeadsTo, LeadsIn, Leads, length-behind, start_leads, state_there, leads_joined}
 
@@ -77,15 +77,15 @@ module _ (p : Origin) (v next : View) (m : Marks) (h : Fits p v m) (l : Leads p 
 
   -- ---- an epoch's end
 
-  module _ (epoch count : ℕ) (cause : EndCause) (s : CoreStep p v (Sealed epoch count cause) next) (all : AreTold p v) where
+  module _ (epoch count : ℕ) (cause : EndCause) (s : CoreStep p v (Sealed epoch count cause) next) (all : HasItsTurns p v) where
     runs : RunFits p v m
     runs = of_phase Run s.phase
 
     since : v.count ≡ runs.mark.count + v.retired
     since = let f : Follows p v runs.mark None = subst (Follows p v runs.mark) s.unsealed runs.follows in f.2
 
-    all_here : length p.turns ≡ turns_told p.geometry.harts (count - p.start.count)
-    all_here = all ∙ ap (λ (n : ℕ). turns_told p.geometry.harts (n - p.start.count)) (reach-count v (runs_behind v.phase s.phase) ∙ sym s.at_count)
+    all_here : length p.turns ≡ turns_listed p.geometry.harts (count - p.start.count)
+    all_here = all ∙ ap (λ (n : ℕ). turns_listed p.geometry.harts (n - p.start.count)) (reach-count v (runs_behind v.phase s.phase) ∙ sym s.at_count)
 
     behind_is : turns_behind p v.done ≡ drop (runs.mark.count - p.start.count) p.turns
     behind_is = ap (λ (d : Option Mark). drop (count_of d - p.start.count) p.turns) runs.done
@@ -99,7 +99,7 @@ module _ (p : Origin) (v next : View) (m : Marks) (h : Fits p v m) (l : Leads p 
         subst (λ (t : List ℕ). LeadsTo p (m.kept_turns ++ t) count) (sym behind_is)
         (leads_joined p m.kept_turns runs.mark.count count up_to all_here (l.kept runs.mark runs.kept))
 
-    runs_there : is_running (at (told p (m.kept_turns ++ turns_behind p v.done)) count).status ≡ runs_at p v.count
+    runs_there : is_running (at (with_turns p (m.kept_turns ++ turns_behind p v.done)) count).status ≡ runs_at p v.count
     runs_there =
         ap (λ (t : State). is_running t.status) (state_there p (m.kept_turns ++ turns_behind p v.done) count leads_here)
         ∙ ap (runs_at p) s.at_count
@@ -135,76 +135,76 @@ module _ (p : Origin) (v next : View) (m : Marks) (h : Fits p v m) (l : Leads p 
   -- ---- what was done
 
   -- the events of what was done are lawful
-  pub Lawful-told : (did : Did) (cycle : ℕ) → (retires did ≡ 0 → AreTold p v) → CoreStep p v did next → AllLawful (course_of p) m (did_told p v did cycle)
-  Lawful-told Boot cycle all s = tt
-  Lawful-told Loaded cycle all s = ((p.start.count, ap (λ (x : Marks). x.sealed) (is_loading s.phase s.none)), tt)
-  Lawful-told (Restarted epoch count) cycle all s = (
+  pub Lawful-reported : (did : Did) (cycle : ℕ) → (retires did ≡ 0 → HasItsTurns p v) → CoreStep p v did next → AllLawful (course_of p) m (did_events p v did cycle)
+  Lawful-reported Boot cycle all s = tt
+  Lawful-reported Loaded cycle all s = ((p.start.count, ap (λ (x : Marks). x.sealed) (is_loading s.phase s.none)), tt)
+  Lawful-reported (Restarted epoch count) cycle all s = (
     record {
       marked = is_either s.phase (mark epoch count) s.done;
       whole = sym (state_there p (turns_of m epoch count) count (led BootPhase s.phase (mark epoch count) s.done));
     },
     tt,
   )
-  Lawful-told (Refused bad) cycle all s = tt
-  Lawful-told Moved cycle all s = tt
-  Lawful-told (Retired hart) cycle all s = tt
-  Lawful-told Flushed cycle all s = tt
-  Lawful-told Merged cycle all s = tt
-  Lawful-told Promoted cycle all s = tt
-  Lawful-told (Sealed epoch count cause) cycle all s = (ends epoch count cause s (all refl), tt)
-  Lawful-told (Engine step) cycle all s = tt
-  Lawful-told (Committed epoch overlapped) cycle all s =
+  Lawful-reported (Refused bad) cycle all s = tt
+  Lawful-reported Moved cycle all s = tt
+  Lawful-reported (Retired hart) cycle all s = tt
+  Lawful-reported Flushed cycle all s = tt
+  Lawful-reported Merged cycle all s = tt
+  Lawful-reported Promoted cycle all s = tt
+  Lawful-reported (Sealed epoch count cause) cycle all s = (ends epoch count cause s (all refl), tt)
+  Lawful-reported (Engine step) cycle all s = tt
+  Lawful-reported (Committed epoch overlapped) cycle all s =
       let f : RunFits p v m = of_phase Run s.phase in
       ((s.count, f.sealed ∙ s.sealed), tt)
-  Lawful-told NvmDrained cycle all s = tt
-  Lawful-told DramDrained cycle all s = tt
-  Lawful-told Nothing cycle all s = tt
+  Lawful-reported NvmDrained cycle all s = tt
+  Lawful-reported DramDrained cycle all s = tt
+  Lawful-reported Nothing cycle all s = tt
 
-  quiet : (did : Did) (cycle : ℕ) → did_told p v did cycle ≡ [] → CoreStep p v did next → Leads p next (marks_from p.start.count m (did_told p v did cycle))
+  quiet : (did : Did) (cycle : ℕ) → did_events p v did cycle ≡ [] → CoreStep p v did next → Leads p next (marks_from p.start.count m (did_events p v did cycle))
   quiet did cycle none s =
       subst (λ (vs : List Event). Leads p next (marks_from p.start.count m vs)) (sym none) (leads_stays p v next m (Stays-quiet p v next did cycle s none) l)
 
   -- what a step reports leaves turns that lead to the marks
-  pub Leads-told : (did : Did) (cycle : ℕ) → (retires did ≡ 0 → AreTold p v) → CoreStep p v did next
-      → Leads p next (marks_from p.start.count m (did_told p v did cycle))
-  Leads-told Boot cycle all s = quiet Boot cycle refl s
-  Leads-told Loaded cycle all s =
+  pub Leads-reported : (did : Did) (cycle : ℕ) → (retires did ≡ 0 → HasItsTurns p v) → CoreStep p v did next
+      → Leads p next (marks_from p.start.count m (did_events p v did cycle))
+  Leads-reported Boot cycle all s = quiet Boot cycle refl s
+  Leads-reported Loaded cycle all s =
       let is : m ≡ loading_marks p.start.count = is_loading s.phase s.none in
       record {
         kept = subst (λ (x : Marks). (k : Mark) → x.sealed ≡ Some k → LeadsTo p x.sealed_turns k.count) (sym is) (loading_leads p);
-        other = none_sealed p next (marks_from p.start.count m (did_told p v Loaded cycle)) next.phase
+        other = none_sealed p next (marks_from p.start.count m (did_events p v Loaded cycle)) next.phase
             (runs_behind next.phase (ap (λ (w : View). w.phase) s.becomes)) refl;
       }
-  Leads-told (Restarted epoch count) cycle all s = record {
+  Leads-reported (Restarted epoch count) cycle all s = record {
     kept = λ k is.
         let same : mark epoch count ≡ k = some_same (mark epoch count) k is in
         subst (λ (x : Mark). LeadsTo p (turns_of m epoch count) x.count) same (led BootPhase s.phase (mark epoch count) s.done);
-    other = none_sealed p next (marks_from p.start.count m (did_told p v (Restarted epoch count) cycle)) next.phase
+    other = none_sealed p next (marks_from p.start.count m (did_events p v (Restarted epoch count) cycle)) next.phase
         (λ boots. runs_or_halts (runs_at p count) (sym (ap (λ (w : View). w.phase) s.becomes) ∙ boots)) refl;
   }
-  Leads-told (Refused bad) cycle all s = quiet (Refused bad) cycle refl s
-  Leads-told Moved cycle all s = quiet Moved cycle refl s
-  Leads-told (Retired hart) cycle all s = quiet (Retired hart) cycle refl s
-  Leads-told Flushed cycle all s = quiet Flushed cycle refl s
-  Leads-told Merged cycle all s = quiet Merged cycle refl s
-  Leads-told Promoted cycle all s = quiet Promoted cycle refl s
-  Leads-told (Sealed epoch count cause) cycle all s =
-      let now : Marks = marks_from p.start.count m (did_told p v (Sealed epoch count cause) cycle) in
+  Leads-reported (Refused bad) cycle all s = quiet (Refused bad) cycle refl s
+  Leads-reported Moved cycle all s = quiet Moved cycle refl s
+  Leads-reported (Retired hart) cycle all s = quiet (Retired hart) cycle refl s
+  Leads-reported Flushed cycle all s = quiet Flushed cycle refl s
+  Leads-reported Merged cycle all s = quiet Merged cycle refl s
+  Leads-reported Promoted cycle all s = quiet Promoted cycle refl s
+  Leads-reported (Sealed epoch count cause) cycle all s =
+      let now : Marks = marks_from p.start.count m (did_events p v (Sealed epoch count cause) cycle) in
       let there : LeadsTo p (m.kept_turns ++ turns_behind p v.done) count = leads_here epoch count cause s (all refl) in
       record {
         kept = l.kept;
         other = subst (LeadsIn p next now) (sym (ap (λ (w : View). w.phase) s.becomes ∙ s.phase))
             (λ k is. subst (λ (x : Mark). LeadsTo p (m.kept_turns ++ turns_behind p v.done) x.count) (some_same (mark epoch count) k is) there);
       }
-  Leads-told (Engine step) cycle all s = quiet (Engine step) cycle refl s
-  Leads-told (Committed epoch overlapped) cycle all s = record {
+  Leads-reported (Engine step) cycle all s = quiet (Engine step) cycle refl s
+  Leads-reported (Committed epoch overlapped) cycle all s = record {
     kept = led Run s.phase;
-    other = none_sealed p next (marks_from p.start.count m (did_told p v (Committed epoch overlapped) cycle)) next.phase
+    other = none_sealed p next (marks_from p.start.count m (did_events p v (Committed epoch overlapped) cycle)) next.phase
         (λ boots. runs_or_halts (runs_at p s.count) (sym (ap (λ (w : View). w.phase) s.becomes) ∙ boots)) refl;
   }
-  Leads-told NvmDrained cycle all s = quiet NvmDrained cycle refl s
-  Leads-told DramDrained cycle all s = quiet DramDrained cycle refl s
-  Leads-told Nothing cycle all s = quiet Nothing cycle refl s
+  Leads-reported NvmDrained cycle all s = quiet NvmDrained cycle refl s
+  Leads-reported DramDrained cycle all s = quiet DramDrained cycle refl s
+  Leads-reported Nothing cycle all s = quiet Nothing cycle refl s
 
 -- ---- all events of a cycle
 
@@ -219,22 +219,22 @@ end_lawful p v next m cycle h l true is =
     ((record { epoch = f.mark.epoch; kept = kept; whole = sym (state_there p m.kept_turns next.count there); over = f.over }, refl), tt)
 
 module _ (p : Origin) (v next : View) (m : Marks) (did : Did) (fresh : Bool) (cycle : ℕ) (least : 1 ≤ p.geometry.epoch) (h : Fits p v m) (l : Leads p v m)
-    (all : retires did ≡ 0 → AreTold p v) (s : CoreStep p v did next) where
+    (all : retires did ≡ 0 → HasItsTurns p v) (s : CoreStep p v did next) where
   pub Leads-events : Leads p next (marks_from p.start.count m (events_of p fresh v did next cycle))
-  Leads-events = subst (Leads p next) (sym (marks-events p v next m did fresh cycle least h s)) (Leads-told p v next m h l did cycle all s)
+  Leads-events = subst (Leads p next) (sym (marks-events p v next m did fresh cycle least h s)) (Leads-reported p v next m h l did cycle all s)
 
   pub Lawful-events : AllLawful (course_of p) m (events_of p fresh v did next cycle)
   Lawful-events =
-      let reload : List Event = reload_told fresh next in
-      let step : List Event = did_told p v did cycle in
-      let end : List Event = end_told p v next cycle in
+      let reload : List Event = reload_events fresh next in
+      let step : List Event = did_events p v did cycle in
+      let end : List Event = end_events p v next cycle in
       let start : ℕ = p.start.count in
-      let reloads = Reloads-told p v next m did fresh least h s in
+      let reloads = Reloads-reported p v next m did fresh least h s in
       let after_step : marks_from start m (reload ++ step) ≡ marks_from start m step = marks_from-append start m reload step ∙ ap (λ n. marks_from start n step) reloads.marks in
       let lawful_step : AllLawful (course_of p) m (reload ++ step)
       = AllLawful-append (course_of p) m reload step reloads.lawful
-      (subst (λ n. AllLawful (course_of p) n step) (sym reloads.marks) (Lawful-told p v next m h l did cycle all s)) in
-      let fits_step : Fits p next (marks_from start m (reload ++ step)) = subst (Fits p next) (sym after_step) (Fits-told p v next m least h did cycle s) in
-      let leads_step : Leads p next (marks_from start m (reload ++ step)) = subst (Leads p next) (sym after_step) (Leads-told p v next m h l did cycle all s) in
+      (subst (λ n. AllLawful (course_of p) n step) (sym reloads.marks) (Lawful-reported p v next m h l did cycle all s)) in
+      let fits_step : Fits p next (marks_from start m (reload ++ step)) = subst (Fits p next) (sym after_step) (Fits-reported p v next m least h did cycle s) in
+      let leads_step : Leads p next (marks_from start m (reload ++ step)) = subst (Leads p next) (sym after_step) (Leads-reported p v next m h l did cycle all s) in
       AllLawful-append (course_of p) m (reload ++ step) end lawful_step
       (end_lawful p v next (marks_from start m (reload ++ step)) cycle fits_step leads_step (halts v next) refl)

@@ -2,7 +2,7 @@ pub mod StepFrames
 pub mod Fitting
 pub mod FittingLaws
 pub mod Leading
-pub mod TellLaws
+pub mod TurnListLaws
 pub mod StepAlong
 pub mod EventLaws
 pub mod CoverLaws
@@ -11,7 +11,7 @@ pub mod ImageLemmas
 pub mod ImageLaws
 pub mod LeadingLaws
 pub mod ListingLemmas
-pub mod RetellLaws
+pub mod AgreeingTurnsLaws
 pub mod CutLaws
 pub mod WorldLaws
 pub mod StepKinds
@@ -24,7 +24,7 @@ pub mod PromiseLaws
 pub mod ConsoleLaws
 pub mod GatherLemmas
 pub mod NoteLemmas
-pub mod TellLemmas
+pub mod ReportLemmas
 pub mod AdvanceLemmas
 pub mod OutcomeLemmas
 pub mod StartLemmas

@@ -1,4 +1,4 @@
--- The turns that the loop lists are those of the instructions since the latest seal.
+-- The turns that the loop lists are the turns of the instructions since the latest seal.
 use Rattle.std.proofs.Common.{◌≡◌, ◌⊎◌, ℕ, ◌+◌, ◌-◌, ◌<◌, ◌≤◌, ◌==◌, Bool, true, false, if◌then◌else◌, List, [], ◌∷◌, ◌++◌, length, drop, Option, None, refl, sym, ◌∙◌, ap, subst, inl, inr, arith}
 use Rattle.std.proofs.lemmas.List.{length-append, length-drop, drop_all, drop-append-le, nil_from_length}
 use Rattle.thy_block.specs.declared.cause.EndCause.{EndCause}
@@ -13,8 +13,8 @@ use Rattle.thy_view.specs.declared.view.Phase.TheVariants.{Boot as BootPhase, Ru
 use Rattle.thy_view.specs.declared.view.View.{View}
 use Rattle.thy_view.specs.CoreStep.{busier, BootsTo, MovesTo, EngineTo, CoreStep}
 use Rattle.thy_view.specs.Origin.{Origin}
-use Rattle.thy_view.specs.Told.{told, count_of, reach_in, reach}
-use Rattle.thy_run.specs.Going.{AreTold, last_turns, list_after, HasRoomToList}
+use Rattle.thy_view.specs.WithTurns.{with_turns, count_of, reach_in, reach}
+use Rattle.thy_run.specs.Going.{HasItsTurns, last_turns, list_after, HasRoomToList}
 use Rattle.thy_run.specs.Promises.{EndsWithTurns}
 use Rattle.thy_run.specs.World.{turns_after, turns_behind}
 use Rattle.thy_run.proofs.Fitting.{OverFits, BootFits, Follows, RunFits, FitsIn, Fits}
@@ -73,7 +73,7 @@ boot_none p v m h is = let f : BootFits p v m = subst (FitsIn p v m) is h in f.r
 
 -- ---- one cycle
 
-module _ (o : Origin) (turns : List ℕ) (v next : View) (m : Marks) (l : List ℕ) (all : AreTold (told o turns) v) (h : Fits (told o turns) v m)
+module _ (o : Origin) (turns : List ℕ) (v next : View) (m : Marks) (l : List ℕ) (all : HasItsTurns (with_turns o turns) v) (h : Fits (with_turns o turns) v m)
     (listed : l ≡ last_turns v.retired turns) where
   -- with one hart no turn is listed
   one_hart : (o.geometry.harts == 1) ≡ true → turns ≡ []
@@ -91,13 +91,13 @@ module _ (o : Origin) (turns : List ℕ) (v next : View) (m : Marks) (l : List �
       ap (λ (x : List ℕ). x ++ hart ∷ []) listed ∙ sym (ap (λ n. last_turns n (turns ++ hart ∷ [])) more ∙ last_more v.retired hart turns)
 
   -- the list has the last turns once a cycle is done, if it had them before
-  pub listed_next : (did : Did) → CoreStep (told o (turns_after o.geometry.harts turns did)) v did next
+  pub listed_next : (did : Did) → CoreStep (with_turns o (turns_after o.geometry.harts turns did)) v did next
       → list_after did (turns_after o.geometry.harts l did) ≡ last_turns next.retired (turns_after o.geometry.harts turns did)
   listed_next (Retired hart) s = retired_list hart (ap (λ (w : View). w.retired) s.becomes) (o.geometry.harts == 1) refl
   listed_next (Sealed epoch count cause) s =
       sym (ap (λ n. last_turns n turns) (ap (λ (w : View). w.retired) s.becomes) ∙ last_none turns)
   listed_next (Restarted epoch count) s =
-      same_list (ap (λ (w : View). w.retired) s.becomes ∙ sym (boot_none (told o turns) v m h s.phase))
+      same_list (ap (λ (w : View). w.retired) s.becomes ∙ sym (boot_none (with_turns o turns) v m h s.phase))
   listed_next Boot s = same_list (same_boots v next s.1)
   listed_next Loaded s = same_list (ap (λ (w : View). w.retired) s.becomes)
   listed_next (Refused bad) s = same_list (ap (λ (w : View). w.retired) s.3)
@@ -114,26 +114,26 @@ module _ (o : Origin) (turns : List ℕ) (v next : View) (m : Marks) (l : List �
   -- ---- an epoch's end
 
   -- the list has the turns after the committed checkpoint
-  pub listed_behind : (epoch count : ℕ) (cause : EndCause) → Leads (told o turns) v m → CoreStep (told o turns) v (Sealed epoch count cause) next
-      → turns_behind (told o turns) v.done ≡ l
+  pub listed_behind : (epoch count : ℕ) (cause : EndCause) → Leads (with_turns o turns) v m → CoreStep (with_turns o turns) v (Sealed epoch count cause) next
+      → turns_behind (with_turns o turns) v.done ≡ l
   listed_behind epoch count cause leads s = by_harts (o.geometry.harts == 1) refl
     where
-      f : RunFits (told o turns) v m
-      f = subst (FitsIn (told o turns) v m) s.phase h
+      f : RunFits (with_turns o turns) v m
+      f = subst (FitsIn (with_turns o turns) v m) s.phase h
 
       since : v.count ≡ f.mark.count + v.retired
-      since = let follows : Follows (told o turns) v f.mark None = subst (Follows (told o turns) v f.mark) s.unsealed f.follows in follows.2
+      since = let follows : Follows (with_turns o turns) v f.mark None = subst (Follows (with_turns o turns) v f.mark) s.unsealed f.follows in follows.2
 
       from : o.start.count ≤ f.mark.count
       from = (leads.kept f.mark f.kept).late
 
-      behind : turns_behind (told o turns) v.done ≡ drop (f.mark.count - o.start.count) turns
+      behind : turns_behind (with_turns o turns) v.done ≡ drop (f.mark.count - o.start.count) turns
       behind = ap (λ (d : Option Mark). drop (count_of d - o.start.count) turns) f.done
 
       here : reach v ≡ v.count
       here = ap (λ (p : Phase). reach_in p v) s.phase
 
-      by_harts : (b : Bool) → (o.geometry.harts == 1) ≡ b → turns_behind (told o turns) v.done ≡ l
+      by_harts : (b : Bool) → (o.geometry.harts == 1) ≡ b → turns_behind (with_turns o turns) v.done ≡ l
       by_harts true one =
           let none : turns ≡ [] = one_hart one in
           behind ∙ ap (drop (f.mark.count - o.start.count)) none ∙ drop_all (f.mark.count - o.start.count) [] (omega arith)
@@ -144,8 +144,8 @@ module _ (o : Origin) (turns : List ℕ) (v next : View) (m : Marks) (l : List �
           behind ∙ ap (λ n. drop n turns) e ∙ sym listed
 
   -- the list of turns is reported at an epoch's end alone
-  pub ends_with : (did : Did) → Leads (told o turns) v m → CoreStep (told o (turns_after o.geometry.harts turns did)) v did next
-      → EndsWithTurns (told o (turns_after o.geometry.harts turns did)) v did (turns_after o.geometry.harts l did)
+  pub ends_with : (did : Did) → Leads (with_turns o turns) v m → CoreStep (with_turns o (turns_after o.geometry.harts turns did)) v did next
+      → EndsWithTurns (with_turns o (turns_after o.geometry.harts turns did)) v did (turns_after o.geometry.harts l did)
   ends_with (Sealed epoch count cause) leads s = listed_behind epoch count cause leads s
   ends_with Boot leads s = tt
   ends_with Loaded leads s = tt
@@ -170,12 +170,12 @@ retired_room p v m is none h =
     subst (OverFits p v.retired v.count) none f.over
 
 -- there is room for the turn of an instruction that retires
-pub list_room : (o : Origin) (turns t : List ℕ) (v next : View) (m : Marks) (l : List ℕ) (room : ℕ) (did : Did) → Fits (told o turns) v m
-    → l ≡ last_turns v.retired turns → (o.geometry.harts ≡ 1) ⊎ (o.geometry.epoch ≤ room) → CoreStep (told o t) v did next
+pub list_room : (o : Origin) (turns t : List ℕ) (v next : View) (m : Marks) (l : List ℕ) (room : ℕ) (did : Did) → Fits (with_turns o turns) v m
+    → l ≡ last_turns v.retired turns → (o.geometry.harts ≡ 1) ⊎ (o.geometry.epoch ≤ room) → CoreStep (with_turns o t) v did next
     → HasRoomToList o.geometry.harts l room did
 list_room o turns t v next m l room (Retired hart) h listed (inl one) s = inl one
 list_room o turns t v next m l room (Retired hart) h listed (inr long) s =
-    let few : v.retired < o.geometry.epoch = retired_room (told o turns) v m s.phase s.over h in
+    let few : v.retired < o.geometry.epoch = retired_room (with_turns o turns) v m s.phase s.over h in
     let many : length l ≡ length (last_turns v.retired turns) = ap length listed in
     inr (omega (arith, few, many, length-last v.retired turns, long))
 list_room o turns t v next m l room Boot h listed r s = tt

@@ -5,7 +5,7 @@ use Rattle.thy_block.specs.Device.{Device}
 use Rattle.thy_block.specs.Outside.{Stream, Took}
 use Rattle.thy_block.proofs.Streams.{Took-append}
 use Rattle.thy_view.specs.Kind.{KindOf, IsLawful}
-use Rattle.thy_text.specs.declared.telling.Telling.{Telling}
+use Rattle.thy_text.specs.declared.reporting.Reporting.{Reporting}
 use Rattle.thy_text.specs.Event.{Event}
 use Rattle.thy_text.specs.Lines.{report_of}
 use Rattle.thy_run.specs.Laws.{released_of}
@@ -18,7 +18,7 @@ use Rattle.thy_run.specs.declared.ending.Stop.{Stop}
 use Rattle.thy_run.specs.declared.ending.Stop.TheVariants.{Ended, Nvm, Memory, Terminal, Report, Limit}
 use Rattle.thy_run.specs.declared.plan.Plan.{Plan}
 use Rattle.thy_run.specs.declared.progress.Progress.{Progress}
-use Rattle.thy_run.specs.Going.{origin_of, turns_then, given_of, world_at, IsDone, IsBroken, Breaks, AwaitsCut, IsCutOffTo, Finishes, telling_of}
+use Rattle.thy_run.specs.Going.{origin_of, turns_then, given_of, world_at, IsDone, IsBroken, Breaks, AwaitsCut, IsCutOffTo, Finishes, reporting_of}
 use Rattle.thy_run.specs.Sending.{Sent, Sends, Delivered}
 use Rattle.thy_run.proofs.AdvanceLemmas.{cut_turns, done_cut, broken_cut}
 use Rattle.thy_run.specs.Endings.{is_memory, IsSettled, StopFits}
@@ -36,11 +36,11 @@ take-all [] = refl
 take-all (x ∷ xs) = ap (λ l. x ∷ l) (take-all xs)
 
 -- the report has to get the lines of all events
-read_on : (telling : Telling) (failed : Bool) (before after more : List Event) (y z : Stream) → after ≡ before ++ more
-    → Sends (report_of telling (take (length before) after)) (report_of telling after) failed y z → Sends (report_of telling before) (report_of telling after) failed y z
-read_on telling failed before after more y z grew two =
+read_on : (reporting : Reporting) (failed : Bool) (before after more : List Event) (y z : Stream) → after ≡ before ++ more
+    → Sends (report_of reporting (take (length before) after)) (report_of reporting after) failed y z → Sends (report_of reporting before) (report_of reporting after) failed y z
+read_on reporting failed before after more y z grew two =
     let same : take (length before) after ≡ before = ap (take (length before)) grew ∙ first_same before more in
-    subst (λ (l : List Event). Sends (report_of telling l) (report_of telling after) failed y z) same two
+    subst (λ (l : List Event). Sends (report_of reporting l) (report_of reporting after) failed y z) same two
 
 -- a sink took what was settled, and then what was added, or a first part
 delivered_on : (failed : Bool) (before after : List ℕ) (x y z : Stream) → Took x y before → Sends before after failed y z → Delivered false failed before after x z
@@ -87,7 +87,7 @@ delivered_all failed text x z faults took = record {
 
 module _ {M : Type 0} (K : KindOf M) (plan : Plan) (fitted : Device) (p q : Progress M) (n m : Device) (k : ℕ) (turns after : List ℕ) (bytes : List ℕ) (terminal_failed report_failed : Bool) (t0 t1 t2 r0 r1 r2 : Stream)
     (running : Running K plan fitted p n k turns t0 t1 r0 r1) (few : k < plan.geometry.limit) (sent : Sent terminal_failed t1 t2 bytes)
-    (lines : Sends (report_of (telling_of plan) (take (length p.events) q.events)) (report_of (telling_of plan) q.events) report_failed r1 r2) where
+    (lines : Sends (report_of (reporting_of plan) (take (length p.events) q.events)) (report_of (reporting_of plan) q.events) report_failed r1 r2) where
   ran_on : {r : Stepped} {fell : Bool} → IsDone K plan p q n m k turns after r fell bytes → Ran K (origin_of plan) (given_of plan fitted) (k + 1) (world_at q m (k + 1) after)
   ran_on d =
       let e : suc k ≡ k + 1 = omega arith in
@@ -96,8 +96,8 @@ module _ {M : Type 0} (K : KindOf M) (plan : Plan) (fitted : Device) (p q : Prog
   shown_on : {r : Stepped} {fell : Bool} → IsDone K plan p q n m k turns after r fell bytes → Sends (released_of (origin_of plan) p.events) (released_of (origin_of plan) q.events) terminal_failed t1 t2
   shown_on d = record { more = bytes; grew = d.releases; sent = sent }
 
-  lines_on : ((more : List Event) × (q.events ≡ p.events ++ more)) → Sends (report_of (telling_of plan) p.events) (report_of (telling_of plan) q.events) report_failed r1 r2
-  lines_on t = read_on (telling_of plan) report_failed p.events q.events t.0 r1 r2 t.1 lines
+  lines_on : ((more : List Event) × (q.events ≡ p.events ++ more)) → Sends (report_of (reporting_of plan) p.events) (report_of (reporting_of plan) q.events) report_failed r1 r2
+  lines_on t = read_on (reporting_of plan) report_failed p.events q.events t.0 r1 r2 t.1 lines
 
   -- the cycle is done, and a sink failed
   done_stops : {r : Stepped} {fell : Bool} (stop : Stop) → IsDone K plan p q n m k turns after r fell bytes → IsSinks stop
@@ -111,7 +111,7 @@ module _ {M : Type 0} (K : KindOf M) (plan : Plan) (fitted : Device) (p q : Prog
       is_settled = settled_at stop sinks d;
       shown_all = subst (λ b. Delivered b terminal_failed (released_of (origin_of plan) p.events) (released_of (origin_of plan) q.events) t0 t2) (sym (long stop sinks))
           (delivered_on terminal_failed (released_of (origin_of plan) p.events) (released_of (origin_of plan) q.events) t0 t1 t2 running.shown_all (shown_on d));
-      read_all = delivered_on report_failed (report_of (telling_of plan) p.events) (report_of (telling_of plan) q.events) r0 r1 r2 running.read_all (lines_on d.grew);
+      read_all = delivered_on report_failed (report_of (reporting_of plan) p.events) (report_of (reporting_of plan) q.events) r0 r1 r2 running.read_all (lines_on d.grew);
       stop_fits = fits;
     },
     refl,
@@ -154,9 +154,9 @@ module _ {M : Type 0} (K : KindOf M) (plan : Plan) (fitted : Device) (p q : Prog
       shown_all = delivered_all terminal_failed (released_of (origin_of plan) q.events) t0 t2 on_terminal
           (took_on (released_of (origin_of plan) p.events) (released_of (origin_of plan) q.events) t0 t1 t2 running.shown_all
           (subst (λ b. Sends (released_of (origin_of plan) p.events) (released_of (origin_of plan) q.events) b t1 t2) on_terminal (shown_on d)));
-      read_all = delivered_all report_failed (report_of (telling_of plan) q.events) r0 r2 on_report
-          (took_on (report_of (telling_of plan) p.events) (report_of (telling_of plan) q.events) r0 r1 r2 running.read_all
-          (subst (λ b. Sends (report_of (telling_of plan) p.events) (report_of (telling_of plan) q.events) b r1 r2) on_report (lines_on d.grew)));
+      read_all = delivered_all report_failed (report_of (reporting_of plan) q.events) r0 r2 on_report
+          (took_on (report_of (reporting_of plan) p.events) (report_of (reporting_of plan) q.events) r0 r1 r2 running.read_all
+          (subst (λ b. Sends (report_of (reporting_of plan) p.events) (report_of (reporting_of plan) q.events) b r1 r2) on_report (lines_on d.grew)));
       stop_fits = fits;
     },
     refl,
@@ -173,7 +173,7 @@ module _ {M : Type 0} (K : KindOf M) (plan : Plan) (fitted : Device) (p q : Prog
       settled = p.events;
       is_settled = settled_at stop why;
       shown_all = shown stop why;
-      read_all = delivered_on report_failed (report_of (telling_of plan) p.events) (report_of (telling_of plan) q.events) r0 r1 r2 running.read_all (lines_on b.grew);
+      read_all = delivered_on report_failed (report_of (reporting_of plan) p.events) (report_of (reporting_of plan) q.events) r0 r1 r2 running.read_all (lines_on b.grew);
       stop_fits = because stop why;
     },
     refl,
@@ -216,7 +216,7 @@ module _ {M : Type 0} (K : KindOf M) (plan : Plan) (fitted : Device) (p q : Prog
 -- the cycle is done, and a sink failed
 pub ends_unheard : {M : Type 0} (K : KindOf M) (plan : Plan) (fitted : Device) (p q : Progress M) (n m : Device) (k : ℕ) (turns after : List ℕ) (r : Stepped) (fell : Bool) (bytes : List ℕ) (terminal_failed report_failed : Bool) (t0 t1 t2 r0 r1 r2 : Stream)
     → Running K plan fitted p n k turns t0 t1 r0 r1 → k < plan.geometry.limit → Sent terminal_failed t1 t2 bytes
-    → Sends (report_of (telling_of plan) (take (length p.events) q.events)) (report_of (telling_of plan) q.events) report_failed r1 r2
+    → Sends (report_of (reporting_of plan) (take (length p.events) q.events)) (report_of (reporting_of plan) q.events) report_failed r1 r2
     → IsDone K plan p q n m k turns after r fell bytes → (stop : Stop) → sink_stop terminal_failed report_failed ≡ Some stop
     → RunEndsAt K plan fitted m (ending_of stop (record q { terminal_failed = terminal_failed; report_failed = report_failed }) (k + 1)) t0 t2 r0 r2 (world_at q m (k + 1) after)
 ends_unheard {M = M} K plan fitted p q n m k turns after r fell bytes terminal_failed true t0 t1 t2 r0 r1 r2 running few sent lines d stop is =
@@ -232,7 +232,7 @@ ends_unheard {M = M} K plan fitted p q n m k turns after r fell bytes false fals
 -- the cycle is done, and the run continues
 pub Running-done : {M : Type 0} (K : KindOf M) (plan : Plan) (fitted : Device) (p q : Progress M) (n m : Device) (k : ℕ) (turns after : List ℕ) (r : Stepped) (fell : Bool) (bytes : List ℕ) (terminal_failed report_failed : Bool) (t0 t1 t2 r0 r1 r2 : Stream)
     → Running K plan fitted p n k turns t0 t1 r0 r1 → k < plan.geometry.limit → Sent terminal_failed t1 t2 bytes
-    → Sends (report_of (telling_of plan) (take (length p.events) q.events)) (report_of (telling_of plan) q.events) report_failed r1 r2
+    → Sends (report_of (reporting_of plan) (take (length p.events) q.events)) (report_of (reporting_of plan) q.events) report_failed r1 r2
     → IsDone K plan p q n m k turns after r fell bytes × (is_halt (seen K (origin_of plan) (world_at q m (k + 1) after)).phase ≡ false)
     → sink_stop terminal_failed report_failed ≡ None
     → Running K plan fitted (record q { terminal_failed = terminal_failed; report_failed = report_failed }) m (k + 1) after t0 t2 r0 r2
@@ -252,14 +252,14 @@ Running-done {M = M} K plan fitted p q n m k turns after r fell bytes false fals
   };
   shown_all = took_on (released_of (origin_of plan) p.events) (released_of (origin_of plan) q.events) t0 t1 t2 running.shown_all
       (shown_on K plan fitted p q n m k turns after bytes false false t0 t1 t2 r0 r1 r2 running few sent lines c.0);
-  read_all = took_on (report_of (telling_of plan) p.events) (report_of (telling_of plan) q.events) r0 r1 r2 running.read_all
+  read_all = took_on (report_of (reporting_of plan) p.events) (report_of (reporting_of plan) q.events) r0 r1 r2 running.read_all
       (lines_on K plan fitted p q n m k turns after bytes false false t0 t1 t2 r0 r1 r2 running few sent lines c.0.grew);
 }
 
 -- the cycle is done, and the program has ended
 pub ends_finished : {M : Type 0} (K : KindOf M) (plan : Plan) (fitted : Device) (p q : Progress M) (n m : Device) (k : ℕ) (turns : List ℕ) (r : Stepped) (bytes : List ℕ) (status : Status) (terminal_failed report_failed : Bool) (t0 t1 t2 r0 r1 r2 : Stream)
     → Running K plan fitted p n k turns t0 t1 r0 r1 → k < plan.geometry.limit → Sent terminal_failed t1 t2 bytes
-    → Sends (report_of (telling_of plan) (take (length p.events) q.events)) (report_of (telling_of plan) q.events) report_failed r1 r2
+    → Sends (report_of (reporting_of plan) (take (length p.events) q.events)) (report_of (reporting_of plan) q.events) report_failed r1 r2
     → Finishes K plan p q n m k turns r bytes status → sink_stop terminal_failed report_failed ≡ None
     → RunEndsAt K plan fitted m (ending_of (Ended status) (record q { terminal_failed = terminal_failed; report_failed = report_failed }) (k + 1)) t0 t2 r0 r2 (world_at q m (k + 1) (turns_then plan turns r.did))
 ends_finished {M = M} K plan fitted p q n m k turns r bytes status terminal_failed true t0 t1 t2 r0 r1 r2 running few sent lines c none = absurd (cc)
@@ -268,25 +268,25 @@ ends_finished {M = M} K plan fitted p q n m k turns r bytes status false false t
     done_ends K plan fitted p q n m k turns (turns_then plan turns r.did) bytes false false t0 t1 t2 r0 r1 r2 running few sent lines status c.0 refl refl (c.2, (refl, refl), c.0.faults ∙ running.goes.faults)
 
 -- a cycle was begun, and none of its events was made
-pub ComesTo-untold : {M : Type 0} (K : KindOf M) → (plan : Plan) (fitted : Device) (p q : Progress M) (n m : Device) (k : ℕ) (turns after : List ℕ) (stop : Stop) (t0 t1 r0 r1 : Stream)
+pub ComesTo-unlisted : {M : Type 0} (K : KindOf M) → (plan : Plan) (fitted : Device) (p q : Progress M) (n m : Device) (k : ℕ) (turns after : List ℕ) (stop : Stop) (t0 t1 r0 r1 : Stream)
     → Running K plan fitted p n k turns t0 t1 r0 r1 → k < plan.geometry.limit → q.events ≡ p.events
     → IsBroken K plan p q n m k [] × Breaks K plan p q n m k turns [] stop
     → ComesTo K plan fitted p q n m k turns after t0 t1 t1 r0 r1 r1 (BreaksOff stop)
-ComesTo-untold {M = M} K plan fitted p q n m k turns after stop t0 t1 r0 r1 running few same (broken, why) =
+ComesTo-unlisted {M = M} K plan fitted p q n m k turns after stop t0 t1 r0 r1 running few same (broken, why) =
     let on_terminal : q.terminal_failed ≡ false = broken.on_terminal ∙ running.goes.on_terminal in
     let on_report : q.report_failed ≡ false = broken.on_report ∙ running.goes.on_report in
-    let L : ℕ → Type 0 = λ i. Sends (report_of (telling_of plan) (take i q.events)) (report_of (telling_of plan) q.events) false r1 r1 in
-    let all : Sends (report_of (telling_of plan) (take (length q.events) q.events)) (report_of (telling_of plan) q.events) false r1 r1 =
-    record { more = []; grew = sym (append-nil (report_of (telling_of plan) q.events)) ∙ ap (λ (l : List Event). report_of (telling_of plan) l ++ []) (sym (take-all q.events)); sent = Took-none r1 } in
+    let L : ℕ → Type 0 = λ i. Sends (report_of (reporting_of plan) (take i q.events)) (report_of (reporting_of plan) q.events) false r1 r1 in
+    let all : Sends (report_of (reporting_of plan) (take (length q.events) q.events)) (report_of (reporting_of plan) q.events) false r1 r1 =
+    record { more = []; grew = sym (append-nil (report_of (reporting_of plan) q.events)) ∙ ap (λ (l : List Event). report_of (reporting_of plan) l ++ []) (sym (take-all q.events)); sent = Took-none r1 } in
     broken_stops K plan fitted p q n m k turns after [] q.terminal_failed q.report_failed t0 t1 t1 r0 r1 r1 running few
     (subst (λ b. Sent b t1 t1 []) (sym on_terminal) (Took-none t1))
-    (subst (λ b. Sends (report_of (telling_of plan) (take (length p.events) q.events)) (report_of (telling_of plan) q.events) b r1 r1) (sym on_report) (subst L (ap length same) all))
+    (subst (λ b. Sends (report_of (reporting_of plan) (take (length p.events) q.events)) (report_of (reporting_of plan) q.events) b r1 r1) (sym on_report) (subst L (ap length same) all))
     stop broken why (λ _. on_terminal) (λ _. on_report)
 
 -- memory ran out for its events, of which the first were made, and the report was given their lines
 pub ComesTo-short : {M : Type 0} (K : KindOf M) → (plan : Plan) (fitted : Device) (p q : Progress M) (n m : Device) (k : ℕ) (turns after : List ℕ) (report_failed : Bool) (t0 t1 r0 r1 r2 : Stream)
     → Running K plan fitted p n k turns t0 t1 r0 r1 → k < plan.geometry.limit
-    → Sends (report_of (telling_of plan) (take (length p.events) q.events)) (report_of (telling_of plan) q.events) report_failed r1 r2
+    → Sends (report_of (reporting_of plan) (take (length p.events) q.events)) (report_of (reporting_of plan) q.events) report_failed r1 r2
     → (q.events ≡ p.events → report_failed ≡ false)
     → IsBroken K plan p q n m k [] × Breaks K plan p q n m k turns [] Memory
     → ComesTo K plan fitted p (record q { report_failed = report_failed }) n m k turns after t0 t1 t1 r0 r1 r2 (BreaksOff Memory)
@@ -301,7 +301,7 @@ module _ {M : Type 0} (K : KindOf M) (laws : IsLawful K) (plan : Plan) (fitted :
     (running : Running K plan fitted p n k turns t0 t1 r0 r1) (few : k < plan.geometry.limit) (sent : Sent terminal_failed t1 t2 bytes) (awaits : AwaitsCut K plan p q n m k turns r bytes) where
   -- power was cut, the cycle was reported, and a sink failed
   pub ends_cut : (q' : Progress M) (m' : Device) → IsCutOffTo K plan q q' m m' (k + 1)
-      → Sends (report_of (telling_of plan) (take (length p.events) q'.events)) (report_of (telling_of plan) q'.events) report_failed r1 r2
+      → Sends (report_of (reporting_of plan) (take (length p.events) q'.events)) (report_of (reporting_of plan) q'.events) report_failed r1 r2
       → (stop : Stop) → sink_stop terminal_failed report_failed ≡ Some stop
       → RunEndsAt K plan fitted m' (ending_of stop (record q' { terminal_failed = terminal_failed; report_failed = report_failed }) (k + 1)) t0 t2 r0 r2 (world_at q' m' (k + 1) (cut_turns K plan (turns_then plan turns r.did) m'))
   ends_cut q' m' cut lines stop is =
@@ -310,7 +310,7 @@ module _ {M : Type 0} (K : KindOf M) (laws : IsLawful K) (plan : Plan) (fitted :
 
   -- power was cut, the cycle was reported, and the run continues
   pub Running-cut : (q' : Progress M) (m' : Device) → IsCutOffTo K plan q q' m m' (k + 1)
-      → Sends (report_of (telling_of plan) (take (length p.events) q'.events)) (report_of (telling_of plan) q'.events) report_failed r1 r2
+      → Sends (report_of (reporting_of plan) (take (length p.events) q'.events)) (report_of (reporting_of plan) q'.events) report_failed r1 r2
       → sink_stop terminal_failed report_failed ≡ None
       → Running K plan fitted (record q' { terminal_failed = terminal_failed; report_failed = report_failed }) m' (k + 1) (cut_turns K plan (turns_then plan turns r.did) m') t0 t2 r0 r2
   Running-cut q' m' cut lines none =
@@ -319,7 +319,7 @@ module _ {M : Type 0} (K : KindOf M) (laws : IsLawful K) (plan : Plan) (fitted :
 
   -- memory ran out, and what was made of the cycle was reported
   pub RunEnds-uncut : (bytes ≡ [] → terminal_failed ≡ false) → (q.events ≡ p.events → report_failed ≡ false)
-      → Sends (report_of (telling_of plan) (take (length p.events) q.events)) (report_of (telling_of plan) q.events) report_failed r1 r2
+      → Sends (report_of (reporting_of plan) (take (length p.events) q.events)) (report_of (reporting_of plan) q.events) report_failed r1 r2
       → RunEndsAt K plan fitted m (record { stop = Memory; events = q.events; cycles = k; terminal_failed = terminal_failed; report_failed = report_failed }) t0 t2 r0 r2 (world_at p n k turns)
   RunEnds-uncut on_terminal on_report lines =
       let broken = broken_cut K laws plan p q n m k turns r None bytes awaits.noted q m refl awaits.due refl refl in

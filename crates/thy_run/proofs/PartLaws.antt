@@ -16,14 +16,14 @@ use Rattle.thy_view.specs.Pace.{retires}
 use Rattle.thy_view.specs.Safe.{Safe}
 use Rattle.thy_view.specs.Views.{doubt_of}
 use Rattle.thy_run.specs.Laws.{IsSafe}
-use Rattle.thy_run.specs.World.{did_told, events_of}
+use Rattle.thy_run.specs.World.{did_events, events_of}
 use Rattle.thy_run.proofs.CoverLaws.{Covers-fault, Covers-before, doubt_sealed, marks-part}
 use Rattle.thy_run.proofs.CutLaws.{leaves_one, or_sealed, IsSafe-by, IsSafe-fits}
 use Rattle.thy_run.proofs.Fitting.{Follows, RunFits, FitsIn, Fits}
-use Rattle.thy_run.proofs.FittingLaws.{Fits-told}
-use Rattle.thy_run.specs.Going.{AreTold}
+use Rattle.thy_run.proofs.FittingLaws.{Fits-reported}
+use Rattle.thy_run.specs.Going.{HasItsTurns}
 use Rattle.thy_run.proofs.Leading.{Leads}
-use Rattle.thy_run.proofs.LeadingLaws.{Leads-told}
+use Rattle.thy_run.proofs.LeadingLaws.{Leads-reported}
 use Rattle.thy_run.proofs.StepKinds.{Kind, keeps, loads, restores, advances, seals, commits, kind_of}
 
 -- a device is safe after a step that failed
@@ -63,7 +63,7 @@ module _ (p : Origin) (v next : View) (m : Marks) (did : Did) (h : Fits p v m) (
 
 -- the first of a cycle's events
 pub IsSafe-part : (read : Reading) (p : Origin) (v next : View) (m : Marks) (did : Did) (fresh : Bool) (cycle : ℕ) (n : Device) → 1 ≤ p.geometry.epoch
-    → Fits p v m → Leads p v m → (retires did ≡ 0 → AreTold p v) → CoreStep p v did next → Safe read p next.done (doubt_of next) n
+    → Fits p v m → Leads p v m → (retires did ≡ 0 → HasItsTurns p v) → CoreStep p v did next → Safe read p next.done (doubt_of next) n
     → (part rest : List Event) → part ++ rest ≡ events_of p fresh v did next cycle → IsSafe read p (marks_from p.start.count m part) n
 IsSafe-part read p v next m did fresh cycle n least h l all s safe part rest e =
     elim (marks-part p v next m did fresh cycle least h s part rest e) as (λ _. IsSafe read p (marks_from p.start.count m part) n) [
@@ -73,6 +73,6 @@ IsSafe-part read p v next m did fresh cycle n least h l all s safe part rest e =
           (λ k which. leaves_one p v m h l k (by_kind p v next m did h s (kind_of p v next did s) k which)) safe)
       | inr done ↦
           subst (λ (x : Marks). IsSafe read p x n) (sym done)
-          (IsSafe-fits read p next (marks_from p.start.count m (did_told p v did cycle)) n (Fits-told p v next m least h did cycle s)
-          (Leads-told p v next m h l did cycle all s) safe)
+          (IsSafe-fits read p next (marks_from p.start.count m (did_events p v did cycle)) n (Fits-reported p v next m least h did cycle s)
+          (Leads-reported p v next m h l did cycle all s) safe)
     ]

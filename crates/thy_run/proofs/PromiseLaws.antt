@@ -8,7 +8,7 @@ use Rattle.thy_block.specs.Device.{Device}
 use Rattle.thy_view.specs.Kind.{KindOf, IsLawful}
 use Rattle.thy_text.specs.Event.{Event}
 use Rattle.thy_text.specs.Marks.{Marks, Course, marks_from, marks_after, AllLawful}
-use Rattle.thy_text.specs.OneHart.{IsUntold}
+use Rattle.thy_text.specs.OneHart.{HasNoTurns}
 use Rattle.thy_text.proofs.Histories.{marks_from-append}
 use Rattle.thy_view.specs.CoreStep.{CoreStep}
 use Rattle.thy_view.specs.Origin.{Origin}
@@ -21,7 +21,7 @@ use Rattle.thy_run.specs.Images.{Found, HasLeft, AllFit}
 use Rattle.thy_run.specs.Laws.{course_of, marks_at, first_marks, marks_of, found_at_start, torn, IsSafe, LeavesRoom, Promise, RunKeepsPromise}
 use Rattle.thy_run.specs.Progress.{IsSoonOver, IsPaced}
 use Rattle.thy_run.specs.Strides.{first_epoch, AllStride}
-use Rattle.thy_run.specs.Unfinished.{StepFailed, ReadFailed, TellingFailed, IsLast, AtStop}
+use Rattle.thy_run.specs.Unfinished.{StepFailed, ReadFailed, ReportingFailed, IsLast, AtStop}
 use Rattle.thy_run.specs.World.{World, Given, line, seen, events_of, TakesStep}
 use Rattle.thy_run.specs.declared.ending.Stop.{Stop}
 use Rattle.thy_run.specs.declared.ending.Stop.TheVariants.{Ended, Nvm, Memory, Terminal, Report, Limit}
@@ -30,12 +30,12 @@ use Rattle.thy_run.proofs.ImageLaws.{ImagesFit, AllFit-events}
 use Rattle.thy_run.proofs.ImageLemmas.{AllFit-append, AllFit-ends, AllFit-part}
 use Rattle.thy_run.proofs.ListedLemmas.{cuts_among-append}
 use Rattle.thy_run.proofs.PartLaws.{IsSafe-fault, IsSafe-part}
-use Rattle.thy_run.proofs.RetellLaws.{images_told}
+use Rattle.thy_run.proofs.AgreeingTurnsLaws.{images_with_turns}
 use Rattle.thy_run.proofs.StepAlong.{core_of}
 use Rattle.thy_run.proofs.PickLaws.{StaysFitted, StaysFitted-framed, StaysFitted-ran}
 use Rattle.thy_run.proofs.SoonLaws.{SoonOver-ran}
 use Rattle.thy_run.proofs.StrideLaws.{AllStride-part, Strode, strode_step, strode_ran}
-use Rattle.thy_run.proofs.WorldLaws.{Coheres, Listed, Good, listed_going, events_uncut, fits_before, leads_before, told_before, Coheres-stepped, Good-ran, cycles-ran}
+use Rattle.thy_run.proofs.WorldLaws.{Coheres, Listed, Good, listed_going, events_uncut, fits_before, leads_before, reported_before, Coheres-stepped, Good-ran, cycles-ran}
 use Rattle.thy_block.proofs.RangeLemmas.{epoch_least}
 use Rattle.thy_block.proofs.BasicLemmas.{first_empty}
 use Rattle.thy_run.proofs.StepFrames.{TakesStep-framed}
@@ -61,9 +61,9 @@ AllLawful-part c m [] ws all = tt
 AllLawful-part c m (v ∷ vs) ws all = (all.0, AllLawful-part c (marks_after c.start m v) vs ws all.1)
 
 -- before any event no turn is reported
-pub first_untold : (start : ℕ) (kept : Option Mark) → IsUntold (marks_at start kept)
-first_untold start None = record { kept = refl; sealed = refl }
-first_untold start (Some m) = record { kept = refl; sealed = refl }
+pub first_without_turns : (start : ℕ) (kept : Option Mark) → HasNoTurns (marks_at start kept)
+first_without_turns start None = record { kept = refl; sealed = refl }
+first_without_turns start (Some m) = record { kept = refl; sealed = refl }
 
 -- ---- the promise, from its parts
 
@@ -135,9 +135,9 @@ module _ {M : Type 0} (K : KindOf M) (o : Origin) (given : Given) (w : World M) 
       }
 
   -- only a part of the step's events was made
-  telling_promise : (part rest : List Event) (next : World M) (events : List Event) (n : Device) → TakesStep K o w next → next.events ≡ w.events ++ part ++ rest → has_ended part ≡ false
+  reporting_promise : (part rest : List Event) (next : World M) (events : List Event) (n : Device) → TakesStep K o w next → next.events ≡ w.events ++ part ++ rest → has_ended part ≡ false
       → (n ≡ next.device) ⊎ ReadFailed w events n next rest → Promise K o given w.cycles (w.events ++ part) n
-  telling_promise part rest next events n step split unended device =
+  reporting_promise part rest next events n step split unended device =
       let m : Marks = marks_of o w.events in
       let es : List Event = events_of (line o next) w.fresh (seen K o w) step.r.did (seen K o next) (w.cycles + 1) in
       let core : CoreStep (line o next) (seen K o w) step.r.did (seen K o next) = core_of K o w next step in
@@ -164,7 +164,7 @@ module _ {M : Type 0} (K : KindOf M) (o : Origin) (given : Given) (w : World M) 
       ] in
       let safe : IsSafe K.decode o (marks_from o.start.count m part) n =
       IsSafe-part K.decode (line o next) (seen K o w) (seen K o next) m step.r.did w.fresh (w.cycles + 1) n least (fits_before K o w least g.stands next step)
-      (leads_before K o w least g.stands next step) (told_before K o w least g.stands next step) core safe_view part rest (sym whole) in
+      (leads_before K o w least g.stands next step) (reported_before K o w least g.stands next step) core safe_view part rest (sym whole) in
       record {
         events_lawful = AllLawful-part (course_of o) (first_marks o) (w.events ++ part) rest
             (subst (AllLawful (course_of o) (first_marks o)) split after.lawful);
@@ -173,7 +173,7 @@ module _ {M : Type 0} (K : KindOf M) (o : Origin) (given : Given) (w : World M) 
             (λ t f. AllFit-part read (ImagesFit (line o next) (w.cycles + 1) false (seen K o next)) w.cycles t part rest []
             (subst (λ vs. AllFit read (ImagesFit (line o next) (w.cycles + 1) false (seen K o next)) t vs []) whole
             (AllFit-events read (line o next) w.cycles w.fresh (seen K o w) (seen K o next) t
-            (images_told (line o w) next.turns w.cycles w.fresh (seen K o w) t step.agree f) step.r.did (w.cycles + 1) core)) uncut f.last)
+            (images_with_turns (line o w) next.turns w.cycles w.fresh (seen K o w) t step.agree f) step.r.did (w.cycles + 1) core)) uncut f.last)
             g.stands.each);
         cuts_listed = same_cuts ∙ fit.0 ∙ ap (λ k. numbered 1 (cuts_up_to k given.config.cuts)) (sym (ap (λ b. if b then w.cycles - 1 else w.cycles) going));
         picks_listed = kept.picks ∙ sym (ap (torn given.config.tears) (ap length same_cuts ∙ fit.1));
@@ -192,16 +192,16 @@ module _ {M : Type 0} (K : KindOf M) (o : Origin) (given : Given) (w : World M) 
       subst (λ (vs : List Event). Promise K o given w.cycles vs n) (sym same) (subst (Promise K o given w.cycles w.events) (sym device) done_promise)
 
   -- a cycle was begun after the last one, and its step was done
-  begun_promise : (events : List Event) (n : Device) (Why : World M → List Event → Type 0) → (t : TellingFailed K o w events Why) → (n ≡ t.next.device) ⊎ ReadFailed w events n t.next t.rest → Promise K o given w.cycles events n
+  begun_promise : (events : List Event) (n : Device) (Why : World M → List Event → Type 0) → (t : ReportingFailed K o w events Why) → (n ≡ t.next.device) ⊎ ReadFailed w events n t.next t.rest → Promise K o given w.cycles events n
   begun_promise events n Why t device =
       subst (λ (vs : List Event). Promise K o given w.cycles vs n) (sym t.grew)
-      (telling_promise t.part t.rest t.next events n t.steps (t.split ∙ ap (λ (vs : List Event). vs ++ t.rest) t.grew) t.unended device)
+      (reporting_promise t.part t.rest t.next events n t.steps (t.split ∙ ap (λ (vs : List Event). vs ++ t.rest) t.grew) t.unended device)
 
   pub stop_promise : (events : List Event) (n : Device) (stop : Stop) → AtStop K o given.config.cuts w events n stop → Promise K o given w.cycles events n
   stop_promise events n (Ended status) is = last_promise events n is
   stop_promise events n Nvm (inl f) =
-      subst (λ (vs : List Event). Promise K o given w.cycles vs n) (sym f.nothing_told)
-      (failed_promise n (subst (λ (vs : List Event). StepFailed K o w vs n) f.nothing_told f))
+      subst (λ (vs : List Event). Promise K o given w.cycles vs n) (sym f.nothing_reported)
+      (failed_promise n (subst (λ (vs : List Event). StepFailed K o w vs n) f.nothing_reported f))
   stop_promise events n Nvm (inr t) = begun_promise events n _ t (inr t.why)
   stop_promise events n Memory (inl none) = last_promise events n none.1
   stop_promise events n Memory (inr t) = begun_promise events n _ t (inl t.why.0)

@@ -21,7 +21,7 @@ use Rattle.thy_view.specs.Kind.{KindOf, IsLawful, Simulates}
 use Rattle.thy_run.specs.declared.plan.Plan.{Plan}
 use Rattle.thy_run.specs.declared.progress.Progress.{Progress}
 use Rattle.thy_run.specs.Due.{IsQuiet, AreQuietBelow}
-use Rattle.thy_run.specs.Going.{origin_of, given_of, turns_then, world_at, telling_of, IsPlanned, GoesOn, HasDrawn, HasRoomToList, IsStepped, Passes}
+use Rattle.thy_run.specs.Going.{origin_of, given_of, turns_then, world_at, reporting_of, IsPlanned, GoesOn, HasDrawn, HasRoomToList, IsStepped, Passes}
 use Rattle.thy_run.specs.Laws.{released_of}
 use Rattle.thy_run.specs.Promises.{HasStepped}
 use Rattle.thy_run.specs.Quiet.{IsWatched, IsLed, LeadsQuietly, IsQuietCycle, IsPaused, RunsQuietly}
@@ -34,7 +34,7 @@ use Rattle.thy_run.specs.declared.quiet.Pause.TheVariants.{Limit, Steps, Stuck}
 use Rattle.thy_run.specs.Watching.{Taken, CanSee, Sees, taken}
 use Rattle.thy_run.specs.World.{Ran}
 use Rattle.thy_run.proofs.AdvanceLemmas.{quiet_goes, steps_of, steps_room, IsBroken-stuck}
-use Rattle.thy_run.proofs.OutcomeLemmas.{ComesTo-untold}
+use Rattle.thy_run.proofs.OutcomeLemmas.{ComesTo-unlisted}
 use Rattle.thy_run.proofs.SeeingLemmas.{CanSee-watched, Watched-done, RunEndsSeen-at}
 use Rattle.thy_run.proofs.StartLemmas.{RunEnds-limit}
 
@@ -76,7 +76,7 @@ IsLed-on K laws has_seen plan fitted p q next n new done now r o o' planned led 
       turns = turns_then plan led.turns r.did;
       goes = passes_on K plan fitted q next n new now led.turns r led.goes passes;
       watched = Watched-done K has_seen plan fitted q next n new now led.turns (turns_then plan led.turns r.did) r false [] 0 o o' passes.0 (omega (arith, e)) led.watched sees;
-      untold = same ∙ led.untold;
+      unlisted = same ∙ led.unlisted;
       uncut = ap (λ y. y.passed) stepped.same ∙ led.uncut;
       fresh = ap (λ y. y.fresh) stepped.same ∙ led.fresh;
       more = omega (arith, led.more);
@@ -112,7 +112,7 @@ pub IsLed-none : {M O : Type 0} (K : KindOf M) (has_seen : O → List Taken → 
 IsLed-none K has_seen plan fitted p n done turns o goes w =
     let same : done ≡ done + 0 = omega arith in
     subst (λ (k : ℕ). IsLed K has_seen plan fitted p p n done k o) same
-    (record { turns = turns; goes = goes; watched = w; untold = refl; uncut = refl; fresh = refl; more = omega arith })
+    (record { turns = turns; goes = goes; watched = w; unlisted = refl; uncut = refl; fresh = refl; more = omega arith })
 
 -- a row of quiet cycles goes on with another one
 pub IsLed-append : {M O : Type 0} (K : KindOf M) (has_seen : O → List Taken → Type 0) (plan : Plan) (fitted : Device) (p q next : Progress M) (m n : Device) (done now end : ℕ) (o o' : O)
@@ -121,7 +121,7 @@ IsLed-append K has_seen plan fitted p q next m n done now end o o' first second 
   turns = second.turns;
   goes = second.goes;
   watched = second.watched;
-  untold = second.untold ∙ first.untold;
+  unlisted = second.unlisted ∙ first.unlisted;
   uncut = second.uncut ∙ first.uncut;
   fresh = second.fresh ∙ first.fresh;
   more = omega (arith, first.more, second.more);
@@ -132,7 +132,7 @@ pub IsLed-row : {M O : Type 0} (K : KindOf M) (has_seen : O → List Taken → T
 IsLed-row K has_seen plan fitted p q next n done now taken o o' first leads =
     IsLed-append K has_seen plan fitted p q next n n done now (now + taken) o o' first (leads fitted first.turns first.goes first.watched)
 
--- one of no cycle leads on to the same cycle
+-- one of no cycle leads to the same cycle
 pub IsLed-rowless : {M O : Type 0} (K : KindOf M) (has_seen : O → List Taken → Type 0) (plan : Plan) (fitted : Device) (p q next : Progress M) (n : Device) (done now taken : ℕ) (o o' : O)
     → taken ≤ 0 → LeadsQuietly K has_seen plan q next n now (now + taken) o o' → IsLed K has_seen plan fitted p q n done now o → IsLed K has_seen plan fitted p next n done now o'
 IsLed-rowless K has_seen plan fitted p q next n done now taken o o' none leads first =
@@ -190,7 +190,7 @@ pub AreQuietBelow-on : {M : Type 0} (cuts : List ℕ) (p q : Progress M) (below 
 AreQuietBelow-on cuts p q below uncut fresh h a cycle few =
     let w = h a cycle few in
     record {
-      untold = w.untold;
+      unlisted = w.unlisted;
       going = w.going;
       later = fresh ∙ w.later;
       uncut = subst (λ (k : ℕ). (nat_lt k (length cuts) && slice_index cuts k == cycle) ≡ false) (sym uncut) w.uncut;
@@ -201,8 +201,8 @@ pub Running-led : {M O : Type 0} (K : KindOf M) (has_seen : O → List Taken →
     → Running K plan fitted p n k turns t0 t1 r0 r1 → (led : IsLed K has_seen plan fitted p q m k now o) → Running K plan fitted q m now led.turns t0 t1 r0 r1
 Running-led K has_seen plan fitted p q n m k now turns o t0 t1 r0 r1 running led = record {
   goes = led.goes;
-  shown_all = subst (λ (l : List Event). Took t0 t1 (released_of (origin_of plan) l)) (sym led.untold) running.shown_all;
-  read_all = subst (λ (l : List Event). Took r0 r1 (report_of (telling_of plan) l)) (sym led.untold) running.read_all;
+  shown_all = subst (λ (l : List Event). Took t0 t1 (released_of (origin_of plan) l)) (sym led.unlisted) running.shown_all;
+  read_all = subst (λ (l : List Event). Took r0 r1 (report_of (reporting_of plan) l)) (sym led.unlisted) running.read_all;
 }
 
 -- ---- the run at one moment
@@ -252,7 +252,7 @@ module _ {M O : Type 0} {K : KindOf M} {has_seen : O → List Taken → Type 0} 
       let stuck = paused.stops.1 in
       let running = Running-then Stuck paused in
       let ends : RunEndsAt K plan fitted new (ending_of Nvm next now) t0 t r0 r (world_at q m now led.turns) =
-      ComesTo-untold K plan fitted q next m new now led.turns led.turns Nvm t0 t r0 r running paused.stops.0 (ap (λ (y : Progress M). y.events) stuck.same)
+      ComesTo-unlisted K plan fitted q next m new now led.turns led.turns Nvm t0 t r0 r running paused.stops.0 (ap (λ (y : Progress M). y.events) stuck.same)
       (IsBroken-stuck K plan fitted q next m new now led.turns running.goes stuck) in
       RunEndsSeen-at K has_seen plan fitted new e t0 t r0 r q m now led.turns o'
       (subst (λ (x : Ending). RunEndsAt K plan fitted new x t0 t r0 r (world_at q m now led.turns)) (sym is) ends)

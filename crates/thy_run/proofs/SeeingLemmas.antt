@@ -36,26 +36,26 @@ pub Watched-first : {M O : Type 0} (K : KindOf M) (has_seen : O → List Taken �
 Watched-first K has_seen plan p n o first h = ([], (first, refl), h)
 
 -- an observer has seen a done cycle too
-Listed-done : {M O : Type 0} (K : KindOf M) (has_seen : O → List Taken → Type 0) (plan : Plan) (fitted : Device) (p q : Progress M) (n m : Device) (k : ℕ) (turns after : List ℕ) (r : Stepped) (fell : Bool) (bytes : List ℕ) (told : ℕ) (new : O)
-    → IsDone K plan p q n m k turns after r fell bytes → told ≡ length q.events - length p.events → (seen : List Taken) → IsListed K (origin_of plan) (given_of plan fitted) k (world_at p n k turns) seen
-    → has_seen new (seen ++ taken r told fell ∷ []) → Watched K has_seen plan fitted q m (k + 1) after new
-Listed-done {M = M} K has_seen plan fitted p q n m k turns after r fell bytes told new d many seen listed h =
+Listed-done : {M O : Type 0} (K : KindOf M) (has_seen : O → List Taken → Type 0) (plan : Plan) (fitted : Device) (p q : Progress M) (n m : Device) (k : ℕ) (turns after : List ℕ) (r : Stepped) (fell : Bool) (bytes : List ℕ) (reported : ℕ) (new : O)
+    → IsDone K plan p q n m k turns after r fell bytes → reported ≡ length q.events - length p.events → (seen : List Taken) → IsListed K (origin_of plan) (given_of plan fitted) k (world_at p n k turns) seen
+    → has_seen new (seen ++ taken r reported fell ∷ []) → Watched K has_seen plan fitted q m (k + 1) after new
+Listed-done {M = M} K has_seen plan fitted p q n m k turns after r fell bytes reported new d many seen listed h =
     let now : Taken = taken_in K (origin_of plan) plan.config.cuts plan.config.tears (world_at p n k turns) (world_at q m (k + 1) after) d.cycle in
-    let same : taken r told fell ≡ now =
-    ap (λ x. taken x told fell) (sym d.by_step) ∙ ap (λ x. taken d.cycle.steps.r x fell) many
+    let same : taken r reported fell ≡ now =
+    ap (λ x. taken x reported fell) (sym d.by_step) ∙ ap (λ x. taken d.cycle.steps.r x fell) many
     ∙ ap (λ x. taken d.cycle.steps.r (length q.events - length p.events) x) (sym d.has_fallen) in
     let e : suc k ≡ k + 1 = omega arith in (
-      seen ++ taken r told fell ∷ [],
-      subst (λ (j : ℕ). IsListed K (origin_of plan) (given_of plan fitted) j (world_at q m (k + 1) after) (seen ++ taken r told fell ∷ [])) e
+      seen ++ taken r reported fell ∷ [],
+      subst (λ (j : ℕ). IsListed K (origin_of plan) (given_of plan fitted) j (world_at q m (k + 1) after) (seen ++ taken r reported fell ∷ [])) e
           (world_at p n k turns, seen, d.cycle, listed, ap (λ x. seen ++ x ∷ []) same),
       h,
     )
 
-pub Watched-done : {M O : Type 0} (K : KindOf M) (has_seen : O → List Taken → Type 0) (plan : Plan) (fitted : Device) (p q : Progress M) (n m : Device) (k : ℕ) (turns after : List ℕ) (r : Stepped) (fell : Bool) (bytes : List ℕ) (told : ℕ) (old new : O)
-    → IsDone K plan p q n m k turns after r fell bytes → told ≡ length q.events - length p.events → Watched K has_seen plan fitted p n k turns old → Sees has_seen old new (taken r told fell)
+pub Watched-done : {M O : Type 0} (K : KindOf M) (has_seen : O → List Taken → Type 0) (plan : Plan) (fitted : Device) (p q : Progress M) (n m : Device) (k : ℕ) (turns after : List ℕ) (r : Stepped) (fell : Bool) (bytes : List ℕ) (reported : ℕ) (old new : O)
+    → IsDone K plan p q n m k turns after r fell bytes → reported ≡ length q.events - length p.events → Watched K has_seen plan fitted p n k turns old → Sees has_seen old new (taken r reported fell)
     → Watched K has_seen plan fitted q m (k + 1) after new
-Watched-done K has_seen plan fitted p q n m k turns after r fell bytes told old new d many (seen, listed, h) sees =
-    Listed-done K has_seen plan fitted p q n m k turns after r fell bytes told new d many seen listed (sees seen h)
+Watched-done K has_seen plan fitted p q n m k turns after r fell bytes reported old new d many (seen, listed, h) sees =
+    Listed-done K has_seen plan fitted p q n m k turns after r fell bytes reported new d many seen listed (sees seen h)
 
 -- the observer has seen the cycles of a run that ends where it has seen them
 pub RunEndsSeen-at : {M O : Type 0} (K : KindOf M) (has_seen : O → List Taken → Type 0) (plan : Plan) (fitted new : Device) (e : Ending) (terminal shown report read : Stream) (p : Progress M) (n : Device) (k : ℕ) (turns : List ℕ) (o : O)
@@ -91,10 +91,10 @@ module _ {M O : Type 0} (K : KindOf M) (has_seen : O → List Taken → Type 0) 
 
 -- an observer has seen the cycles of a run after a cut
 pub Watched-cut : {M O : Type 0} (K : KindOf M) (laws : IsLawful K) (has_seen : O → List Taken → Type 0) (keeps : O → List Taken → Stepped → Type 0) (plan : Plan) (fitted : Device) (p q q' : Progress M) (n m m' : Device) (k : ℕ) (turns : List ℕ) (r : Stepped) (bytes : List ℕ)
-    (told first len : ℕ) (old new : O)
-    → AwaitsCut K plan p q n m k turns r bytes → IsCutOffTo K plan q q' m m' (k + 1) → told ≡ len - first → len ≡ length q'.events → first ≡ length p.events → Awaited K keeps plan fitted p n k turns r old → SeesCutAfter has_seen keeps old new told
+    (reported first len : ℕ) (old new : O)
+    → AwaitsCut K plan p q n m k turns r bytes → IsCutOffTo K plan q q' m m' (k + 1) → reported ≡ len - first → len ≡ length q'.events → first ≡ length p.events → Awaited K keeps plan fitted p n k turns r old → SeesCutAfter has_seen keeps old new reported
     → Watched K has_seen plan fitted q' m' (k + 1) (cut_turns K plan (turns_then plan turns r.did) m') new
-Watched-cut K laws has_seen keeps plan fitted p q q' n m m' k turns r bytes told first len old new awaits cut many all before (seen, listed, h) sees =
-    Listed-done K has_seen plan fitted p q' n m' k turns (cut_turns K plan (turns_then plan turns r.did) m') r true bytes told new
+Watched-cut K laws has_seen keeps plan fitted p q q' n m m' k turns r bytes reported first len old new awaits cut many all before (seen, listed, h) sees =
+    Listed-done K has_seen plan fitted p q' n m' k turns (cut_turns K plan (turns_then plan turns r.did) m') r true bytes reported new
     (done_cut K laws plan p q n m k turns r None bytes awaits.noted q' m' refl (k + 1) refl awaits.due cut).0
     (many ∙ ap (λ l. l - first) all ∙ ap (λ f. length q'.events - f) before) seen listed (sees seen r h)

@@ -17,7 +17,7 @@ use Rattle.thy_run.specs.Rounds.{Running, RunEnds, ending_of}
 use Rattle.thy_run.specs.Watching.{Taken, IsListed, taken_in}
 use Rattle.thy_run.specs.World.{World, Given, Ran}
 use Rattle.thy_run.proofs.AdvanceLemmas.{IsBroken-stuck}
-use Rattle.thy_run.proofs.OutcomeLemmas.{ComesTo-untold}
+use Rattle.thy_run.proofs.OutcomeLemmas.{ComesTo-unlisted}
 use Rattle.thy_run.proofs.QuietLemmas.{IsLed-on, Running-led}
 use Rattle.thy_run.proofs.SeeingLemmas.{length-listed}
 
@@ -56,7 +56,7 @@ module _ {M : Type 0} (K : KindOf M) (laws : IsLawful K) (plan : Plan) (fitted :
   led_here : IsLed K silent plan fitted p p n done done tt
   led_here =
       let seen = listed_of K (origin_of plan) (given_of plan fitted) done (world_at p n done turns) running.goes.ran in
-      record { turns = turns; goes = running.goes; watched = (seen.0, seen.1, tt); untold = refl; uncut = refl; fresh = refl; more = omega arith }
+      record { turns = turns; goes = running.goes; watched = (seen.0, seen.1, tt); unlisted = refl; uncut = refl; fresh = refl; more = omega arith }
 
   -- a cycle that has nothing to report
   pub Running-quiet : (x : Stepped) → IsStepped K plan p next n new done turns x → IsQuiet plan.config.cuts next x (done + 1)
@@ -70,5 +70,5 @@ module _ {M : Type 0} (K : KindOf M) (laws : IsLawful K) (plan : Plan) (fitted :
   -- one whose step failed
   pub RunEnds-stuck : done < plan.geometry.limit → IsStuck K plan p next n new turns → RunEnds K plan fitted new (ending_of Nvm next done) t0 t r0 r
   RunEnds-stuck few stuck =
-      (ComesTo-untold K plan fitted p next n new done turns turns Nvm t0 t r0 r running few (ap (λ (y : Progress M). y.events) stuck.same)
+      (ComesTo-unlisted K plan fitted p next n new done turns turns Nvm t0 t r0 r running few (ap (λ (y : Progress M). y.events) stuck.same)
       (IsBroken-stuck K plan fitted p next n new done turns running.goes stuck)).0

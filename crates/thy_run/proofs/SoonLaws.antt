@@ -1,4 +1,4 @@
--- Every run of one hart is soon over: its counts stay between the start's and that of the program's end.
+-- Every run of one hart is soon over: its counts stay between the count of the start and the count of the program's end.
 use Rattle.std.proofs.Common.{◌≡◌, ℕ, zero, suc, ◌+◌, ◌≤◌, Bool, true, false, if◌then◌else◌, List, [], Option, Some, None, refl, sym, ◌∙◌, ap, subst, inl, inr, arith}
 use Rattle.std.specs.Prelude.{◌≢◌, MatchBool}
 use Rattle.std.proofs.Math.Nat.{mul-le-mul_left}
@@ -12,7 +12,7 @@ use Rattle.thy_view.specs.Kind.{KindOf, IsLawful}
 use Rattle.thy_view.specs.Origin.{Origin, runs_at}
 use Rattle.thy_view.specs.Pace.{retires}
 use Rattle.thy_view.specs.Safe.{IsOneOf}
-use Rattle.thy_view.specs.Told.{told}
+use Rattle.thy_view.specs.WithTurns.{with_turns}
 use Rattle.thy_block.specs.Marks.{mark}
 use Rattle.thy_block.proofs.BasicLemmas.{not_both}
 use Rattle.thy_view.specs.Views.{is_boot, doubt_of}
@@ -21,8 +21,8 @@ use Rattle.thy_run.specs.World.{World, Given, seen, TakesStep, is_due, IsCutOff,
 use Rattle.thy_run.proofs.StepKinds.{Kind, keeps, loads, restores, advances, seals, commits, kind_of}
 use Rattle.thy_run.proofs.BusyLaws.{Busy-ran}
 use Rattle.thy_run.proofs.StepAlong.{core_of}
-use Rattle.thy_run.proofs.TellLaws.{one_after}
-use Rattle.thy_run.proofs.WorldLaws.{untold-ran}
+use Rattle.thy_run.proofs.TurnListLaws.{one_after}
+use Rattle.thy_run.proofs.WorldLaws.{unlisted-ran}
 
 -- ---- counts
 
@@ -45,7 +45,7 @@ one_mark o end epoch count x is between m e =
     let same : mark epoch count ≡ m = cc in
     subst (λ (n : Mark). IsBetween o end n.count) same between
 
-counts_step : (o : Origin) (end done : ℕ) (v next : View) (did : Did) → o.start.count ≤ end → runs_at (told o []) end ≡ false → Kind (told o []) v next did → Counts o end done v
+counts_step : (o : Origin) (end done : ℕ) (v next : View) (did : Did) → o.start.count ≤ end → runs_at (with_turns o []) end ≡ false → Kind (with_turns o []) v next did → Counts o end done v
     → Counts o end (done + retires did) next
 counts_step o end done v next did some over (keeps k) h = record {
   kept = λ m e. h.kept m (sym k.done ∙ e);
@@ -79,7 +79,7 @@ counts_step o end done v next did some over (advances k) h = record {
   up = λ e.
       let here = h.up (ap is_boot k.runs) in
       let one_more : retires did ≡ 1 = ap retires k.did_is in
-      let before : v.count ≢ end = λ same. not_both (runs_at (told o []) v.count) k.going (ap (runs_at (told o [])) same ∙ over) in
+      let before : v.count ≢ end = λ same. not_both (runs_at (with_turns o []) v.count) k.going (ap (runs_at (with_turns o [])) same ∙ over) in
       (omega (arith, here.0, one_more, k.count), omega (arith, here.1, before, k.count));
 }
 counts_step o end done v next did some over (seals k) h =
@@ -126,7 +126,7 @@ counts_first o end (Some m) some = record {
 }
 
 -- what the image means is one of the two marks
-counts_image : (o : Origin) (t : List ℕ) (end done : ℕ) (v : View) (d : Decoded) → o.start.count ≤ end → Counts o end done v → IsOneOf (told o t) v.done (doubt_of v) d
+counts_image : (o : Origin) (t : List ℕ) (end done : ℕ) (v : View) (d : Decoded) → o.start.count ≤ end → Counts o end done v → IsOneOf (with_turns o t) v.done (doubt_of v) d
     → Counts o end 0 (view_of_image o.start.count d)
 counts_image o t end done v NothingLeft some h one = counts_loading o end some
 counts_image o t end done v (RefusedImage bad) some h one = absurd one
@@ -145,13 +145,13 @@ counts_image o t end done v (At epoch state) some h one =
 -- ---- runs
 
 module _ {M : Type 0} (K : KindOf M) (o : Origin) (given : Given) (end : ℕ) (one : o.geometry.harts ≡ 1) (some : o.start.count ≤ end)
-    (over : runs_at (told o []) end ≡ false) where
+    (over : runs_at (with_turns o []) end ≡ false) where
   -- with no turn reported a step goes along none
   counts_stepped : (w x : World M) (step : TakesStep K o w x) (done : ℕ) → x.turns ≡ [] → Counts o end done (seen K o w) → Counts o end (done + retires step.r.did) (seen K o x)
   counts_stepped w x step done none h =
-      let core : CoreStep (told o []) (seen K o w) step.r.did (seen K o x) =
-      subst (λ (t : List ℕ). CoreStep (told o t) (seen K o w) step.r.did (seen K o x)) none (core_of K o w x step) in
-      counts_step o end done (seen K o w) (seen K o x) step.r.did some over (kind_of (told o []) (seen K o w) (seen K o x) step.r.did core) h
+      let core : CoreStep (with_turns o []) (seen K o w) step.r.did (seen K o x) =
+      subst (λ (t : List ℕ). CoreStep (with_turns o t) (seen K o w) step.r.did (seen K o x)) none (core_of K o w x step) in
+      counts_step o end done (seen K o w) (seen K o x) step.r.did some over (kind_of (with_turns o []) (seen K o w) (seen K o x) step.r.did core) h
 
   by_due : (w x next : World M) (step : TakesStep K o w x) (t : Tally) → x.turns ≡ [] → Counts o end t.retired (seen K o w) → (pick : ℕ) (b : Bool)
       → MatchBool b (IsCutOff K o pick x next) (next ≡ x)
@@ -167,7 +167,7 @@ module _ {M : Type 0} (K : KindOf M) (o : Origin) (given : Given) (end : ℕ) (o
   counts_ran zero w first = subst (Counts o end 0) (sym first.found) (counts_first o end o.kept some)
   counts_ran (suc k) w (before, ran, cycle) =
       by_due before cycle.between w cycle.steps (tally_of K o given k before ran)
-      (cycle.steps.turns_are ∙ one_after o.geometry.harts before.turns cycle.steps.r.did one ∙ untold-ran K o given k before one ran) (counts_ran k before ran) (tear given.config.tears cycle.between.passed) (is_due K o given.config.cuts cycle.between) cycle.cut
+      (cycle.steps.turns_are ∙ one_after o.geometry.harts before.turns cycle.steps.r.did one ∙ unlisted-ran K o given k before one ran) (counts_ran k before ran) (tear given.config.tears cycle.between.passed) (is_due K o given.config.cuts cycle.between) cycle.cut
 
   -- no more instructions are done than the program has
   few_done : (k : ℕ) (w : World M) (ran : Ran K o given k w) → o.start.count + (tally_of K o given k w ran).retired ≤ end

@@ -20,7 +20,7 @@ use Rattle.thy_run.specs.World.{IsFirst, seen}
 use Rattle.thy_run.specs.declared.ending.Stop.TheVariants.{Memory, Limit}
 use Rattle.thy_run.specs.declared.plan.Plan.{Plan}
 use Rattle.thy_run.specs.declared.progress.Progress.{Progress}
-use Rattle.thy_run.specs.Going.{origin_of, given_of, world_at, IsPlanned, telling_of}
+use Rattle.thy_run.specs.Going.{origin_of, given_of, world_at, IsPlanned, reporting_of}
 use Rattle.thy_run.specs.Sending.{Delivered}
 use Rattle.thy_run.specs.Rounds.{IsFitted, IsStarted, Running, RunEndsAt, first_progress}
 use Rattle.thy_run.proofs.AdvanceLemmas.{good_of}
@@ -43,7 +43,7 @@ first_of {M = M} K laws plan m t n planned powered f =
     let view : K.view o m n ≡ first_view o = ap (K.view o m) f.is_fitted ∙ law.1 in
     let S : View → Type 0 = λ v. Safe K.decode o v.done (doubt_of v) n in
     record {
-      untold = refl;
+      unlisted = refl;
       device = refl;
       powered = powered;
       at_moment = at_first;
@@ -108,7 +108,7 @@ RunEnds-unpowered K laws plan events b n t r planned f none = (
     settled = [];
     is_settled = refl;
     shown_all = record { more = []; unsent = []; is_text = ap (released_of (origin_of plan)) none; whole = λ _. refl; middle = t; took = Took-none t; sent = Took-none t };
-    read_all = subst (λ (vs : List Event). Delivered false false [] (report_of (telling_of plan) vs) r r) (sym none) (delivered_all false [] r r refl (Took-none r));
+    read_all = subst (λ (vs : List Event). Delivered false false [] (report_of (reporting_of plan) vs) r r) (sym none) (delivered_all false [] r r refl (Took-none r));
     stop_fits = (omega (arith, limit_least plan.geometry planned.origin.geometry), refl);
   },
   refl,
@@ -127,7 +127,7 @@ RunEnds-limit {M = M} K plan fit p n k turns limit t0 t r0 r planned running sam
         settled = p.events;
         is_settled = refl;
         shown_all = delivered_all p.terminal_failed (released_of o p.events) t0 t running.goes.on_terminal running.shown_all;
-        read_all = delivered_all p.report_failed (report_of (telling_of plan) p.events) r0 r running.goes.on_report running.read_all;
+        read_all = delivered_all p.report_failed (report_of (reporting_of plan) p.events) r0 r running.goes.on_report running.read_all;
         stop_fits = (same ∙ limit_is, going, (running.goes.on_terminal, running.goes.on_report), running.goes.faults);
       },
       refl,

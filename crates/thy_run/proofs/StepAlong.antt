@@ -5,25 +5,25 @@ use Rattle.thy_view.specs.CoreStep.{CoreStep}
 use Rattle.thy_view.specs.Kind.{KindOf}
 use Rattle.thy_view.specs.Origin.{Origin}
 use Rattle.thy_view.specs.declared.view.Phase.TheVariants.{Run}
-use Rattle.thy_view.specs.Told.{told, reach}
+use Rattle.thy_view.specs.WithTurns.{with_turns, reach}
 use Rattle.thy_run.specs.World.{World, line, seen, turns_after, events_of, TakesStep}
-use Rattle.thy_run.specs.Going.{AreTold}
-use Rattle.thy_run.proofs.TellLaws.{after_told}
+use Rattle.thy_run.specs.Going.{HasItsTurns}
+use Rattle.thy_run.proofs.TurnListLaws.{after_listed}
 
 -- the step of the view
 pub core_of : {M : Type 0} (K : KindOf M) → (o : Origin) (w x : World M) (step : TakesStep K o w x) → CoreStep (line o x) (seen K o w) step.r.did (seen K o x)
 core_of K o w x step = subst (λ (v : View). CoreStep (line o x) v step.r.did (seen K o x)) step.alike step.is_step.step
 
 -- the events of a step
-pub events_told : {M : Type 0} (K : KindOf M) → (o : Origin) (w x : World M) (step : TakesStep K o w x)
+pub events_of_step : {M : Type 0} (K : KindOf M) → (o : Origin) (w x : World M) (step : TakesStep K o w x)
     → x.events ≡ w.events ++ events_of (line o x) w.fresh (seen K o w) step.r.did (seen K o x) (w.cycles + 1)
-events_told {M = M} K o w x step = ap (λ (y : World M). y.events) step.next_is
+events_of_step {M = M} K o w x step = ap (λ (y : World M). y.events) step.next_is
 
 -- the turns that are reported after a step reach the state that it came to
-pub told_after : {M : Type 0} (K : KindOf M) → (o : Origin) (w x : World M) (step : TakesStep K o w x)
-    → ((seen K o w).phase ≡ Run → o.start.count ≤ reach (seen K o w)) → AreTold (line o w) (seen K o w) → AreTold (line o x) (seen K o x)
-told_after K o w x step late all =
-    let at_after : CoreStep (told o (turns_after o.geometry.harts w.turns step.r.did)) (seen K o w) step.r.did (seen K o x) =
-    subst (λ (t : List ℕ). CoreStep (told o t) (seen K o w) step.r.did (seen K o x)) step.turns_are (core_of K o w x step) in
-    subst (λ (t : List ℕ). AreTold (told o t) (seen K o x)) (sym step.turns_are)
-    (after_told o w.turns (seen K o w) (seen K o x) step.r.did late all at_after)
+pub listed_after : {M : Type 0} (K : KindOf M) → (o : Origin) (w x : World M) (step : TakesStep K o w x)
+    → ((seen K o w).phase ≡ Run → o.start.count ≤ reach (seen K o w)) → HasItsTurns (line o w) (seen K o w) → HasItsTurns (line o x) (seen K o x)
+listed_after K o w x step late all =
+    let at_after : CoreStep (with_turns o (turns_after o.geometry.harts w.turns step.r.did)) (seen K o w) step.r.did (seen K o x) =
+    subst (λ (t : List ℕ). CoreStep (with_turns o t) (seen K o w) step.r.did (seen K o x)) step.turns_are (core_of K o w x step) in
+    subst (λ (t : List ℕ). HasItsTurns (with_turns o t) (seen K o x)) (sym step.turns_are)
+    (after_listed o w.turns (seen K o w) (seen K o x) step.r.did late all at_after)

@@ -1,4 +1,4 @@
--- Every run strides: the epochs that its events report are those of the machine.
+-- Every run strides: the epochs that its events report are the machine's.
 use Rattle.std.proofs.Common.{◌≡◌, ℕ, zero, suc, ◌+◌, ◌<◌, ◌≤◌, ◌==◌, Bool, true, false, ◌&&◌, if◌then◌else◌, List, [], ◌∷◌, ◌++◌, refl, sym, ◌∙◌, ap, subst, inl, inr, arith}
 use Rattle.std.specs.Prelude.{MatchBool}
 use Rattle.std.proofs.lemmas.Bool.{eq-eqb, eqb-true}
@@ -14,8 +14,8 @@ use Rattle.thy_view.specs.Origin.{Origin, at}
 use Rattle.thy_view.specs.Pace.{Strides as KeepsIdle}
 use Rattle.thy_view.specs.Views.{is_boot, loads as is_loading, halts}
 use Rattle.thy_run.specs.Strides.{Epoch, first_epoch, epoch_after, AllStride, IsStriding, RunStrides}
-use Rattle.thy_run.specs.Unfinished.{TellingFailed, AtStop}
-use Rattle.thy_run.specs.World.{World, Given, line, seen, did_told, reload_told, end_told, events_of, TakesStep, is_due, IsCutOff, tear, Ran}
+use Rattle.thy_run.specs.Unfinished.{ReportingFailed, AtStop}
+use Rattle.thy_run.specs.World.{World, Given, line, seen, did_events, reload_events, end_events, events_of, TakesStep, is_due, IsCutOff, tear, Ran}
 use Rattle.thy_run.specs.declared.ending.Stop.{Stop}
 use Rattle.thy_run.specs.declared.ending.Stop.TheVariants.{Ended as EndedStop, Nvm, Memory, Terminal, Report, Limit}
 use Rattle.thy_run.proofs.StepAlong.{core_of}
@@ -59,80 +59,80 @@ leaves_end o start e next cycle true = ((tt, tt), refl)
 leaves_end o start e next cycle false = (tt, refl)
 
 -- all events of a cycle leave what the event of its deed leaves
-leaves_all : (o : Origin) (start : ℕ) (e f : Epoch) (fresh : Bool) (v : View) (did : Did) (next : View) (cycle : ℕ) → Leaves start e (did_told o v did cycle) f
+leaves_all : (o : Origin) (start : ℕ) (e f : Epoch) (fresh : Bool) (v : View) (did : Did) (next : View) (cycle : ℕ) → Leaves start e (did_events o v did cycle) f
     → Leaves start e (events_of o fresh v did next cycle) f
 leaves_all o start e f fresh v did next cycle l =
-    leaves_append start e f f (reload_told fresh next ++ did_told o v did cycle) (end_told o v next cycle)
-    (leaves_append start e e f (reload_told fresh next) (did_told o v did cycle) (leaves_reload start e (fresh && is_loading next)) l)
+    leaves_append start e f f (reload_events fresh next ++ did_events o v did cycle) (end_events o v next cycle)
+    (leaves_append start e e f (reload_events fresh next) (did_events o v did cycle) (leaves_reload start e (fresh && is_loading next)) l)
     (leaves_end o start f next cycle (halts v next))
 
 -- ---- between two cycles
 
 -- The epoch that events report is the one that a view has. If they say that the one before it was idle, the machine
 -- knows it.
-pub record Tells (start : ℕ) (e : Epoch) (v : View) (known : Bool) : Type 0 where
+pub record KnowsEpoch (start : ℕ) (e : Epoch) (v : View) (known : Bool) : Type 0 where
   pub idle : e.idle ≡ true → known ≡ true
   pub boot : is_boot v.phase ≡ true → (v.retired ≡ 0) × (e.began ≡ start)
   pub up : is_boot v.phase ≡ false → e.began + v.retired ≡ v.count
 
 -- what a step leaves
-record TellsOn (o : Origin) (e : Epoch) (v next : View) (did : Did) (cycle : ℕ) (known : Bool) : Type 0 where
+record KnowsEpochOn (o : Origin) (e : Epoch) (v next : View) (did : Did) (cycle : ℕ) (known : Bool) : Type 0 where
   after : Epoch
-  leaves : Leaves o.start.count e (did_told o v did cycle) after
-  tells : Tells o.start.count after next known
+  leaves : Leaves o.start.count e (did_events o v did cycle) after
+  reports : KnowsEpoch o.start.count after next known
 
 -- events that say nothing of epochs
-tells_same : (o : Origin) (e : Epoch) (v next : View) (did : Did) (cycle : ℕ) (known : Bool) → Leaves o.start.count e (did_told o v did cycle) e → Tells o.start.count e next known
-    → TellsOn o e v next did cycle known
-tells_same o e v next did cycle known l t = record { after = e; leaves = l; tells = t }
+reports_same : (o : Origin) (e : Epoch) (v next : View) (did : Did) (cycle : ℕ) (known : Bool) → Leaves o.start.count e (did_events o v did cycle) e → KnowsEpoch o.start.count e next known
+    → KnowsEpochOn o e v next did cycle known
+reports_same o e v next did cycle known l t = record { after = e; leaves = l; reports = t }
 
-tells_step : (o : Origin) (e : Epoch) (v next : View) (did : Did) (cycle : ℕ) (old new : Bool) → Kind o v next did → KeepsIdle did v.retired old new → Tells o.start.count e v old
-    → TellsOn o e v next did cycle new
-tells_step o e v next did cycle old new (keeps k) step h =
+reports_step : (o : Origin) (e : Epoch) (v next : View) (did : Did) (cycle : ℕ) (old new : Bool) → Kind o v next did → KeepsIdle did v.retired old new → KnowsEpoch o.start.count e v old
+    → KnowsEpochOn o e v next did cycle new
+reports_step o e v next did cycle old new (keeps k) step h =
     let same : new ≡ old = k.idle v.retired old new step in
-    tells_same o e v next did cycle new (subst (λ (l : List Event). Leaves o.start.count e l e) (sym (k.nothing_told cycle)) (tt, refl))
+    reports_same o e v next did cycle new (subst (λ (l : List Event). Leaves o.start.count e l e) (sym (k.nothing_reported cycle)) (tt, refl))
     (record {
       idle = λ i. same ∙ h.idle i;
       boot = λ b. let here = h.boot (ap is_boot (sym k.phase) ∙ b) in (k.retired ∙ here.0, here.1);
       up = λ b. let here = h.up (ap is_boot (sym k.phase) ∙ b) in omega (arith, here, k.retired, k.count);
     })
-tells_step o e v next did cycle old new (loads k) step h =
+reports_step o e v next did cycle old new (loads k) step h =
     let here = h.boot (ap is_boot k.boot) in
     let same : new ≡ old = subst (λ d. KeepsIdle d v.retired old new) k.did_is step in
-    tells_same o e v next did cycle new (subst (λ d. Leaves o.start.count e (did_told o v d cycle) e) (sym k.did_is) ((tt, tt), refl))
+    reports_same o e v next did cycle new (subst (λ d. Leaves o.start.count e (did_events o v d cycle) e) (sym k.did_is) ((tt, tt), refl))
     (record {
       idle = λ i. same ∙ h.idle i;
       boot = λ b. not_both _ b k.up;
       up = λ b. omega (arith, here.0, here.1, k.retired, k.count);
     })
-tells_step o e v next did cycle old new (restores k) step h =
+reports_step o e v next did cycle old new (restores k) step h =
     record {
       after = first_epoch k.to;
-      leaves = subst (λ d. Leaves o.start.count e (did_told o v d cycle) (first_epoch k.to)) (sym k.did_is) ((tt, tt), refl);
-      tells = record {
+      leaves = subst (λ d. Leaves o.start.count e (did_events o v d cycle) (first_epoch k.to)) (sym k.did_is) ((tt, tt), refl);
+      reports = record {
         idle = λ i. absurd (cc);
         boot = λ b. not_both _ b k.up;
         up = λ b. omega (arith, k.retired, k.count);
       };
     }
-tells_step o e v next did cycle old new (advances k) step h =
+reports_step o e v next did cycle old new (advances k) step h =
     let here = h.up (ap is_boot k.runs) in
     let same : new ≡ old = subst (λ d. KeepsIdle d v.retired old new) k.did_is step in
-    tells_same o e v next did cycle new (subst (λ d. Leaves o.start.count e (did_told o v d cycle) e) (sym k.did_is) (tt, refl))
+    reports_same o e v next did cycle new (subst (λ d. Leaves o.start.count e (did_events o v d cycle) e) (sym k.did_is) (tt, refl))
     (record {
       idle = λ i. same ∙ h.idle i;
       boot = λ b. not_both _ b k.up;
       up = λ b. omega (arith, here, k.retired, k.count);
     })
-tells_step o e v next did cycle old new (seals k) step h =
+reports_step o e v next did cycle old new (seals k) step h =
     let here = h.up (ap is_boot k.runs) in
     let known : (old ≡ true → 1 ≤ v.retired) × (new ≡ (v.retired == 0)) = subst (λ d. KeepsIdle d v.retired old new) k.did_is step in
     let after : Epoch = record { began = v.count; idle = v.count == e.began } in
     let strides : e.idle ≡ true → e.began < v.count = λ i. (let some : 1 ≤ v.retired = known.0 (h.idle i) in omega (arith, some, here)) in
     record {
       after = after;
-      leaves = subst (λ d. Leaves o.start.count e (did_told o v d cycle) after) (sym k.did_is) ((strides, tt), refl);
-      tells = record {
+      leaves = subst (λ d. Leaves o.start.count e (did_events o v d cycle) after) (sym k.did_is) ((strides, tt), refl);
+      reports = record {
         idle = λ i.
             let same : v.count ≡ e.began = eqb-true v.count e.began i in
             known.1 ∙ eq-eqb v.retired 0 (omega (arith, same, here));
@@ -140,10 +140,10 @@ tells_step o e v next did cycle old new (seals k) step h =
         up = λ b. omega (arith, k.retired, k.count);
       };
     }
-tells_step o e v next did cycle old new (commits k) step h =
+reports_step o e v next did cycle old new (commits k) step h =
     let here = h.up (ap is_boot k.runs) in
     let same : new ≡ old = subst (λ d. KeepsIdle d v.retired old new) k.did_is step in
-    tells_same o e v next did cycle new (subst (λ d. Leaves o.start.count e (did_told o v d cycle) e) (sym k.did_is) ((tt, tt), refl))
+    reports_same o e v next did cycle new (subst (λ d. Leaves o.start.count e (did_events o v d cycle) e) (sym k.did_is) ((tt, tt), refl))
     (record {
       idle = λ i. same ∙ h.idle i;
       boot = λ b. not_both _ b k.up;
@@ -151,8 +151,8 @@ tells_step o e v next did cycle old new (commits k) step h =
     })
 
 -- in a boot nothing was reported of the epoch yet
-tells_boot : (start : ℕ) (v : View) (known : Bool) → is_boot v.phase ≡ true → v.retired ≡ 0 → Tells start (first_epoch start) v known
-tells_boot start v known boot none = record { idle = λ i. absurd (cc); boot = λ b. (none, refl); up = λ b. not_both _ boot b }
+knows_boot : (start : ℕ) (v : View) (known : Bool) → is_boot v.phase ≡ true → v.retired ≡ 0 → KnowsEpoch start (first_epoch start) v known
+knows_boot start v known boot none = record { idle = λ i. absurd (cc); boot = λ b. (none, refl); up = λ b. not_both _ boot b }
 
 image_boot : (count : ℕ) (d : Decoded) → (is_boot (view_of_image count d).phase ≡ true) × ((view_of_image count d).retired ≡ 0)
 image_boot count NothingLeft = (refl, refl)
@@ -164,7 +164,7 @@ image_boot count (At epoch state) = (refl, refl)
 -- the events of a run so far stride, and the machine is in the epoch that they report
 pub record Strode {M : Type 0} (K : KindOf M) (o : Origin) (w : World M) : Type 0 where
   pub all : AllStride o.start.count (first_epoch o.start.count) w.events
-  pub tells : Tells o.start.count (epoch_from o.start.count (first_epoch o.start.count) w.events) (seen K o w) (K.gauge w.machine w.device).idle
+  pub reports : KnowsEpoch o.start.count (epoch_from o.start.count (first_epoch o.start.count) w.events) (seen K o w) (K.gauge w.machine w.device).idle
 
 module _ {M : Type 0} (K : KindOf M) (o : Origin) where
   abbrev first : Epoch
@@ -180,28 +180,28 @@ module _ {M : Type 0} (K : KindOf M) (o : Origin) where
       let es : List Event = events_of (line o x) w.fresh v did next (w.cycles + 1) in
       let idle : KeepsIdle did v.retired (K.gauge w.machine w.device).idle (K.gauge x.machine x.device).idle =
       subst (λ (y : View). KeepsIdle did y.retired (K.gauge w.machine w.device).idle (K.gauge x.machine x.device).idle) step.alike step.is_step.pace.strides in
-      let on : TellsOn (line o x) e v next did (w.cycles + 1) (K.gauge x.machine x.device).idle =
-      tells_step (line o x) e v next did (w.cycles + 1) _ _ (kind_of (line o x) v next did (core_of K o w x step)) idle h.tells in
+      let on : KnowsEpochOn (line o x) e v next did (w.cycles + 1) (K.gauge x.machine x.device).idle =
+      reports_step (line o x) e v next did (w.cycles + 1) _ _ (kind_of (line o x) v next did (core_of K o w x step)) idle h.reports in
       let l : Leaves o.start.count e es on.after = leaves_all (line o x) o.start.count e on.after w.fresh v did next (w.cycles + 1) on.leaves in
       let all : AllStride o.start.count first (w.events ++ es) = AllStride-append o.start.count first w.events es h.all l.0 in
       let here : epoch_from o.start.count first (w.events ++ es) ≡ on.after = epoch_from-append o.start.count first w.events es ∙ l.1 in
-      let did_told : x.events ≡ w.events ++ es = ap (λ (y : World M). y.events) step.next_is in
+      let did_events : x.events ≡ w.events ++ es = ap (λ (y : World M). y.events) step.next_is in
       record {
-        all = subst (AllStride o.start.count first) (sym did_told) all;
-        tells = subst (λ t. Tells o.start.count t next (K.gauge x.machine x.device).idle) (sym (ap (epoch_from o.start.count first) did_told ∙ here)) on.tells;
+        all = subst (AllStride o.start.count first) (sym did_events) all;
+        reports = subst (λ t. KnowsEpoch o.start.count t next (K.gauge x.machine x.device).idle) (sym (ap (epoch_from o.start.count first) did_events ∙ here)) on.reports;
       }
 
   -- the events stride after a cut
   strode_cut : (pick : ℕ) (x next : World M) → IsCutOff K o pick x next → Strode K o x → Strode K o next
   strode_cut pick x next cut h =
       let es : List Event = Cut (x.passed + 1) x.cycles ∷ [] in
-      let did_told : next.events ≡ x.events ++ es = ap (λ (y : World M). y.events) cut.next_is in
+      let did_events : next.events ≡ x.events ++ es = ap (λ (y : World M). y.events) cut.next_is in
       let here : epoch_from o.start.count first (x.events ++ es) ≡ first = epoch_from-append o.start.count first x.events es in
       let boot = image_boot o.start.count _ in
       record {
-        all = subst (AllStride o.start.count first) (sym did_told) (AllStride-append o.start.count first x.events es h.all (tt, tt));
-        tells = subst (λ e. Tells o.start.count e (seen K o next) (K.gauge next.machine next.device).idle) (sym (ap (epoch_from o.start.count first) did_told ∙ here))
-            (tells_boot o.start.count (seen K o next) _ (ap (λ v. is_boot v.phase) cut.found ∙ boot.0) (ap (λ v. v.retired) cut.found ∙ boot.1));
+        all = subst (AllStride o.start.count first) (sym did_events) (AllStride-append o.start.count first x.events es h.all (tt, tt));
+        reports = subst (λ e. KnowsEpoch o.start.count e (seen K o next) (K.gauge next.machine next.device).idle) (sym (ap (epoch_from o.start.count first) did_events ∙ here))
+            (knows_boot o.start.count (seen K o next) _ (ap (λ v. is_boot v.phase) cut.found ∙ boot.0) (ap (λ v. v.retired) cut.found ∙ boot.1));
       }
 
   by_due : (w x next : World M) → TakesStep K o w x → Strode K o w → (pick : ℕ) (b : Bool) → MatchBool b (IsCutOff K o pick x next) (next ≡ x) → Strode K o next
@@ -211,15 +211,15 @@ module _ {M : Type 0} (K : KindOf M) (o : Origin) where
   pub strode_ran : (given : Given) (k : ℕ) (w : World M) → Ran K o given k w → Strode K o w
   strode_ran given zero w start = let boot = image_boot o.start.count (found_first o o.kept) in record {
     all = subst (AllStride o.start.count first) (sym start.events) tt;
-    tells = subst (λ e. Tells o.start.count e (seen K o w) (K.gauge w.machine w.device).idle) (sym (ap (epoch_from o.start.count first) start.events))
-        (tells_boot o.start.count (seen K o w) _ (ap (λ v. is_boot v.phase) start.found ∙ boot.0) (ap (λ v. v.retired) start.found ∙ boot.1));
+    reports = subst (λ e. KnowsEpoch o.start.count e (seen K o w) (K.gauge w.machine w.device).idle) (sym (ap (epoch_from o.start.count first) start.events))
+        (knows_boot o.start.count (seen K o w) _ (ap (λ v. is_boot v.phase) start.found ∙ boot.0) (ap (λ v. v.retired) start.found ∙ boot.1));
   }
   strode_ran given (suc k) w (before, ran, cycle) =
       by_due before cycle.between w cycle.steps (strode_ran given k before ran) (tear given.config.tears cycle.between.passed) (is_due K o given.config.cuts cycle.between) cycle.cut
 
   -- only the first events of a step were made
-  strode_telling : (w : World M) (events : List Event) (Why : World M → List Event → Type 0) → Strode K o w → TellingFailed K o w events Why → IsStriding o.start.count events
-  strode_telling w events Why h t =
+  strode_reporting : (w : World M) (events : List Event) (Why : World M → List Event → Type 0) → Strode K o w → ReportingFailed K o w events Why → IsStriding o.start.count events
+  strode_reporting w events Why h t =
       AllStride-part o.start.count first events t.rest (subst (AllStride o.start.count first) t.split (strode_step w t.next t.steps h).all)
 
   strode_last : (w : World M) (events : List Event) → Strode K o w → events ≡ w.events → IsStriding o.start.count events
@@ -227,10 +227,10 @@ module _ {M : Type 0} (K : KindOf M) (o : Origin) where
 
   strode_stop : (cuts : List ℕ) (w : World M) (events : List Event) (n : Device) (stop : Stop) → Strode K o w → AtStop K o cuts w events n stop → IsStriding o.start.count events
   strode_stop cuts w events n (EndedStop status) h is = strode_last w events h is.0
-  strode_stop cuts w events n Nvm h (inl f) = strode_last w events h f.nothing_told
-  strode_stop cuts w events n Nvm h (inr t) = strode_telling w events _ h t
+  strode_stop cuts w events n Nvm h (inl f) = strode_last w events h f.nothing_reported
+  strode_stop cuts w events n Nvm h (inr t) = strode_reporting w events _ h t
   strode_stop cuts w events n Memory h (inl none) = strode_last w events h none.1.0
-  strode_stop cuts w events n Memory h (inr t) = strode_telling w events _ h t
+  strode_stop cuts w events n Memory h (inr t) = strode_reporting w events _ h t
   strode_stop cuts w events n Terminal h is = strode_last w events h is.0
   strode_stop cuts w events n Report h is = strode_last w events h is.0
   strode_stop cuts w events n Limit h is = strode_last w events h is.0

@@ -25,44 +25,44 @@ use Rattle.thy_view.specs.CoreStep.{CoreStep}
 use Rattle.thy_view.specs.Origin.{Origin, at}
 use Rattle.thy_view.specs.Pace.{retires}
 use Rattle.thy_view.specs.Safe.{ceiling, Safe, IsOneOf}
-use Rattle.thy_view.specs.Told.{told, AgreeBelow, reach}
+use Rattle.thy_view.specs.WithTurns.{with_turns, AgreeBelow, reach}
 use Rattle.thy_view.proofs.TurnLaws.{at-early}
 use Rattle.thy_run.specs.Cuts.{is_end, has_ended, cuts_among, numbered, last_cuttable, cuts_up_to}
-use Rattle.thy_run.specs.Going.{AreTold}
+use Rattle.thy_run.specs.Going.{HasItsTurns}
 use Rattle.thy_run.specs.Images.{Found, found, AllFit}
 use Rattle.thy_run.specs.Laws.{course_of, marks_at, first_marks, marks_of, found_at_start, MayStand, IsSafe}
-use Rattle.thy_run.specs.World.{World, line, seen, did_told, reload_told, end_told, events_of, after_step, TakesStep, is_due, cut_off, IsCutOff, tear, Cycle, Given, IsFirst, Ran}
+use Rattle.thy_run.specs.World.{World, line, seen, did_events, reload_events, end_events, events_of, after_step, TakesStep, is_due, cut_off, IsCutOff, tear, Cycle, Given, IsFirst, Ran}
 use Rattle.thy_run.proofs.Fitting.{Fits}
 use Rattle.thy_run.proofs.CutLaws.{leaves_one, IsSafe-by, IsSafe-fits, cut_below, fits_cut, leads_cut, found_cut}
 use Rattle.thy_run.proofs.EventLaws.{Fits-events}
 use Rattle.thy_run.proofs.ImageLaws.{IsFound, ImagesFit, AllFit-events}
-use Rattle.thy_run.proofs.Leading.{LeadsTo, Leads, told_zero, start_leads}
+use Rattle.thy_run.proofs.Leading.{LeadsTo, Leads, none_listed, start_leads}
 use Rattle.thy_run.proofs.LeadingLaws.{Leads-events, Lawful-events}
-use Rattle.thy_run.proofs.RetellLaws.{late_of, fits_told, leads_retold, images_told}
-use Rattle.thy_run.proofs.StepAlong.{core_of, told_after}
-use Rattle.thy_run.proofs.TellLaws.{one_after, after_same, kept_agrees, kept_told}
+use Rattle.thy_run.proofs.AgreeingTurnsLaws.{late_of, fits_with_turns, leads_with_turns, images_with_turns}
+use Rattle.thy_run.proofs.StepAlong.{core_of, listed_after}
+use Rattle.thy_run.proofs.TurnListLaws.{one_after, after_same, kept_agrees, kept_listed}
 use Rattle.thy_run.proofs.ImageLemmas.{AllFit-append}
 use Rattle.thy_run.proofs.ListedLemmas.{next_cut, cuts_among-append, numbered-take, up_none}
 use Rattle.thy_run.proofs.StepFrames.{TakesStep-framed}
 
 -- ---- the events of a step are neither cuts nor, unless it halts, an end
 
-pub told_uncut : (o : Origin) (v : View) (did : Did) (cycle : ℕ) → (cuts_among (did_told o v did cycle) ≡ []) × (has_ended (did_told o v did cycle) ≡ false)
-told_uncut o v Boot cycle = (refl, refl)
-told_uncut o v Loaded cycle = (refl, refl)
-told_uncut o v (Restarted epoch count) cycle = (refl, refl)
-told_uncut o v (Refused bad) cycle = (refl, refl)
-told_uncut o v Moved cycle = (refl, refl)
-told_uncut o v (Retired hart) cycle = (refl, refl)
-told_uncut o v Flushed cycle = (refl, refl)
-told_uncut o v Merged cycle = (refl, refl)
-told_uncut o v Promoted cycle = (refl, refl)
-told_uncut o v (Sealed epoch count cause) cycle = (refl, refl)
-told_uncut o v (Engine step) cycle = (refl, refl)
-told_uncut o v (Committed epoch overlapped) cycle = (refl, refl)
-told_uncut o v NvmDrained cycle = (refl, refl)
-told_uncut o v DramDrained cycle = (refl, refl)
-told_uncut o v Nothing cycle = (refl, refl)
+pub report_is_uncut : (o : Origin) (v : View) (did : Did) (cycle : ℕ) → (cuts_among (did_events o v did cycle) ≡ []) × (has_ended (did_events o v did cycle) ≡ false)
+report_is_uncut o v Boot cycle = (refl, refl)
+report_is_uncut o v Loaded cycle = (refl, refl)
+report_is_uncut o v (Restarted epoch count) cycle = (refl, refl)
+report_is_uncut o v (Refused bad) cycle = (refl, refl)
+report_is_uncut o v Moved cycle = (refl, refl)
+report_is_uncut o v (Retired hart) cycle = (refl, refl)
+report_is_uncut o v Flushed cycle = (refl, refl)
+report_is_uncut o v Merged cycle = (refl, refl)
+report_is_uncut o v Promoted cycle = (refl, refl)
+report_is_uncut o v (Sealed epoch count cause) cycle = (refl, refl)
+report_is_uncut o v (Engine step) cycle = (refl, refl)
+report_is_uncut o v (Committed epoch overlapped) cycle = (refl, refl)
+report_is_uncut o v NvmDrained cycle = (refl, refl)
+report_is_uncut o v DramDrained cycle = (refl, refl)
+report_is_uncut o v Nothing cycle = (refl, refl)
 
 pub reload_uncut : (b : Bool) → (cuts_among (if b then Reload ∷ [] else []) ≡ []) × (has_ended (if b then Reload ∷ [] else []) ≡ false)
 reload_uncut true = (refl, refl)
@@ -76,17 +76,17 @@ end_uncut o next cycle false = (refl, refl)
 
 pub events_uncut : (o : Origin) (fresh : Bool) (v : View) (did : Did) (next : View) (cycle : ℕ) → cuts_among (events_of o fresh v did next cycle) ≡ []
 events_uncut o fresh v did next cycle =
-    cuts_among-append (reload_told fresh next ++ did_told o v did cycle) (end_told o v next cycle)
-    ∙ ap (λ (l : List Event). l ++ cuts_among (end_told o v next cycle)) (cuts_among-append (reload_told fresh next) (did_told o v did cycle)
-    ∙ ap (λ (l : List Event). l ++ cuts_among (did_told o v did cycle)) (reload_uncut (fresh && loads next)).0
-    ∙ (told_uncut o v did cycle).0)
+    cuts_among-append (reload_events fresh next ++ did_events o v did cycle) (end_events o v next cycle)
+    ∙ ap (λ (l : List Event). l ++ cuts_among (end_events o v next cycle)) (cuts_among-append (reload_events fresh next) (did_events o v did cycle)
+    ∙ ap (λ (l : List Event). l ++ cuts_among (did_events o v did cycle)) (reload_uncut (fresh && loads next)).0
+    ∙ (report_is_uncut o v did cycle).0)
     ∙ (end_uncut o next cycle (halts v next)).0
 
 pub events_end : (o : Origin) (fresh : Bool) (v : View) (did : Did) (next : View) (cycle : ℕ) → has_ended (events_of o fresh v did next cycle) ≡ halts v next
 events_end o fresh v did next cycle =
-    list_any-append is_end (reload_told fresh next ++ did_told o v did cycle) (end_told o v next cycle)
-    ∙ ap (λ b. b || has_ended (end_told o v next cycle)) (list_any-append is_end (reload_told fresh next) (did_told o v did cycle)
-    ∙ or_from (has_ended (reload_told fresh next)) (has_ended (did_told o v did cycle)) (reload_uncut (fresh && loads next)).1 (told_uncut o v did cycle).1)
+    list_any-append is_end (reload_events fresh next ++ did_events o v did cycle) (end_events o v next cycle)
+    ∙ ap (λ b. b || has_ended (end_events o v next cycle)) (list_any-append is_end (reload_events fresh next) (did_events o v did cycle)
+    ∙ or_from (has_ended (reload_events fresh next)) (has_ended (did_events o v did cycle)) (reload_uncut (fresh && loads next)).1 (report_is_uncut o v did cycle).1)
     ∙ (end_uncut o next cycle (halts v next)).1
 
 -- ---- between two cycles
@@ -94,7 +94,7 @@ events_end o fresh v did next cycle =
 -- what holds whatever the cuts are
 pub record Coheres {M : Type 0} (K : KindOf M) (o : Origin) (w : World M) : Type 0 where
   pub at_moment : K.is_at (line o w) w.cycles w.machine w.device
-  pub told_all : AreTold (line o w) (seen K o w)
+  pub listed_all : HasItsTurns (line o w) (seen K o w)
   pub fits : Fits (line o w) (seen K o w) (marks_of o w.events)
   pub leads : Leads (line o w) (seen K o w) (marks_of o w.events)
   pub lawful : AllLawful (course_of o) (first_marks o) w.events
@@ -123,15 +123,15 @@ and_true false = refl
 module _ {M : Type 0} (K : KindOf M) (o : Origin) (w : World M) (least : 1 ≤ o.geometry.epoch) (h : Coheres K o w) where
   -- what held before a step holds along the turns that are reported once it is done
   pub fits_before : (x : World M) → TakesStep K o w x → Fits (line o x) (seen K o w) (marks_of o w.events)
-  fits_before x step = fits_told (line o w) x.turns (seen K o w) (marks_of o w.events) step.agree h.fits
+  fits_before x step = fits_with_turns (line o w) x.turns (seen K o w) (marks_of o w.events) step.agree h.fits
 
   pub leads_before : (x : World M) → TakesStep K o w x → Leads (line o x) (seen K o w) (marks_of o w.events)
-  leads_before x step = leads_retold (line o w) x.turns (seen K o w) (marks_of o w.events) step.agree h.fits h.leads
+  leads_before x step = leads_with_turns (line o w) x.turns (seen K o w) (marks_of o w.events) step.agree h.fits h.leads
 
   -- a step that retires nothing leaves the turns
-  pub told_before : (x : World M) (step : TakesStep K o w x) → retires step.r.did ≡ 0 → AreTold (line o x) (seen K o w)
-  told_before x step none =
-      subst (λ (t : List ℕ). AreTold (told o t) (seen K o w)) (sym (step.turns_are ∙ after_same o.geometry.harts w.turns step.r.did none)) h.told_all
+  pub reported_before : (x : World M) (step : TakesStep K o w x) → retires step.r.did ≡ 0 → HasItsTurns (line o x) (seen K o w)
+  reported_before x step none =
+      subst (λ (t : List ℕ). HasItsTurns (with_turns o t) (seen K o w)) (sym (step.turns_are ∙ after_same o.geometry.harts w.turns step.r.did none)) h.listed_all
 
   -- the world after a step, given as the definition has it
   stepped_coheres : (x : World M) (step : TakesStep K o w x) → Coheres K o (after_step K o w x.machine x.device x.turns step.r.did)
@@ -149,21 +149,21 @@ module _ {M : Type 0} (K : KindOf M) (o : Origin) (w : World M) (least : 1 ≤ o
       = subst (Fits (line o x) next) (sym marks) (Fits-events (line o x) v next m did w.fresh (w.cycles + 1) least before core) in
       let on : Leads (line o x) next (marks_of o (w.events ++ e))
       = subst (Leads (line o x) next) (sym marks)
-      (Leads-events (line o x) v next m did w.fresh (w.cycles + 1) least before leads (told_before x step) core) in
+      (Leads-events (line o x) v next m did w.fresh (w.cycles + 1) least before leads (reported_before x step) core) in
       let read : List Block → Decoded = K.decode o.geometry ceiling in
       let now : Found → Type 0 = ImagesFit (line o x) (w.cycles + 1) false next in
       let left : x.device.left ≡ w.device.left = (TakesStep-framed K o w x step).left in
       record {
         at_moment = step.is_step.at_next;
-        told_all = told_after K o w x step (late_of (line o w) (seen K o w) (marks_of o w.events) h.fits h.leads) h.told_all;
+        listed_all = listed_after K o w x step (late_of (line o w) (seen K o w) (marks_of o w.events) h.fits h.leads) h.listed_all;
         fits = fits;
         leads = on;
         lawful = AllLawful-append (course_of o) (first_marks o) w.events e h.lawful
-            (Lawful-events (line o x) v next m did w.fresh (w.cycles + 1) least before leads (told_before x step) core);
+            (Lawful-events (line o x) v next m did w.fresh (w.cycles + 1) least before leads (reported_before x step) core);
         safe = IsSafe-fits K.decode (line o x) next (marks_of o (w.events ++ e)) x.device fits on step.is_step.safe;
         each = subst (AllFit read now (found_at_start o) (w.events ++ e)) (append-nil w.device.left ∙ sym left)
             (AllFit-append read (ImagesFit (line o w) w.cycles w.fresh v) now (found_at_start o) w.events e w.device.left []
-            (λ t f. AllFit-events read (line o x) w.cycles w.fresh v next t (images_told (line o w) x.turns w.cycles w.fresh v t step.agree f) did (w.cycles + 1) core)
+            (λ t f. AllFit-events read (line o x) w.cycles w.fresh v next t (images_with_turns (line o w) x.turns w.cycles w.fresh v t step.agree f) did (w.cycles + 1) core)
             h.each);
         left = ap length left ∙ h.left;
         ended = list_any-append is_end w.events e ∙ ap (λ b. b || has_ended e) (h.ended ∙ step.going) ∙ events_end (line o x) w.fresh v did next (w.cycles + 1)
@@ -265,11 +265,11 @@ module _ {M : Type 0} (K : KindOf M) (o : Origin) (x next : World M) (h : Cohere
   kept : AgreeBelow (line o x) next.turns (reach (view_of_image o.start.count left_image))
   kept = subst (λ (t : List ℕ). AgreeBelow (line o x) t (reach (view_of_image o.start.count left_image))) (sym cut.kept) (kept_agrees o x.turns left_image)
 
-  cut_told : AreTold (line o next) (seen K o next)
-  cut_told =
-      subst (λ (v : View). AreTold (line o next) v) (sym cut.found)
-      (subst (λ (t : List ℕ). AreTold (told o t) (view_of_image o.start.count left_image)) (sym cut.kept)
-      (kept_told o x.turns (seen K o x) left_image (cut_below (line o x) (seen K o x) (marks_of o x.events) left_image h.fits one_of) h.told_all))
+  cut_listed : HasItsTurns (line o next) (seen K o next)
+  cut_listed =
+      subst (λ (v : View). HasItsTurns (line o next) v) (sym cut.found)
+      (subst (λ (t : List ℕ). HasItsTurns (with_turns o t) (view_of_image o.start.count left_image)) (sym cut.kept)
+      (kept_listed o x.turns (seen K o x) left_image (cut_below (line o x) (seen K o x) (marks_of o x.events) left_image h.fits one_of) h.listed_all))
 
   cut_images : ImagesFit (line o next) x.cycles true (view_of_image o.start.count left_image) (found left_image (Some x.cycles))
   cut_images = record {
@@ -289,7 +289,7 @@ module _ {M : Type 0} (K : KindOf M) (o : Origin) (x next : World M) (h : Cohere
   cut_coheres : Coheres K o (cut_off x next.machine next.device next.turns)
   cut_coheres = record {
     at_moment = cut.at_moment;
-    told_all = cut_told;
+    listed_all = cut_listed;
     fits = subst (λ v. Fits (line o next) v (marks_of o (x.events ++ Cut (x.passed + 1) x.cycles ∷ []))) (sym cut.found)
         (subst (Fits (line o next) (view_of_image o.start.count left_image)) (sym cut_marks)
         (fits_cut (line o x) next.turns (seen K o x) (marks_of o x.events) left_image h.fits one_of));
@@ -356,7 +356,7 @@ at-start : (o : Origin) → o.start ≡ at o o.start.count
 at-start o = sym (at-early o o.start.count (omega arith))
 
 -- the view and the marks with which a run begins
-first_fits : (o : Origin) (t : List ℕ) (kept : Option Mark) → Fits (told o t) (view_of_image o.start.count (found_first o kept)) (marks_at o.start.count kept)
+first_fits : (o : Origin) (t : List ℕ) (kept : Option Mark) → Fits (with_turns o t) (view_of_image o.start.count (found_first o kept)) (marks_at o.start.count kept)
 first_fits o t None = record { retired = refl; over = refl; boots = inl (record { done = refl; sealed = refl; marks = refl }) }
 first_fits o t (Some m) = record {
   retired = refl;
@@ -364,20 +364,20 @@ first_fits o t (Some m) = record {
   boots = inr (record { mark = mark m.epoch o.start.count; done = refl; sealed = refl; written = refl; either = inl refl; rises = λ k s kept sealed. absurd (cc) });
 }
 
-finds_first : (o : Origin) (t : List ℕ) (kept : Option Mark) → IsFound (told o t) (view_of_image o.start.count (found_first o kept)) (found_first o kept)
+finds_first : (o : Origin) (t : List ℕ) (kept : Option Mark) → IsFound (with_turns o t) (view_of_image o.start.count (found_first o kept)) (found_first o kept)
 finds_first o t None = refl
-finds_first o t (Some m) = (refl, at-start (told o t))
+finds_first o t (Some m) = (refl, at-start (with_turns o t))
 
 first_boot : (o : Origin) (kept : Option Mark)
     → ((view_of_image o.start.count (found_first o kept)).phase ≡ BootPhase) × ((view_of_image o.start.count (found_first o kept)).done ≡ (marks_at o.start.count kept).kept)
 first_boot o None = (refl, refl)
 first_boot o (Some m) = (refl, refl)
 
-first_leads : (o : Origin) (t : List ℕ) (kept : Option Mark) → Leads (told o t) (view_of_image o.start.count (found_first o kept)) (marks_at o.start.count kept)
+first_leads : (o : Origin) (t : List ℕ) (kept : Option Mark) → Leads (with_turns o t) (view_of_image o.start.count (found_first o kept)) (marks_at o.start.count kept)
 first_leads o t None = record { kept = λ k is. absurd (cc); other = λ k is. absurd (cc) }
 first_leads o t (Some m) =
-    let there : (k : Mark) → Some (mark m.epoch o.start.count) ≡ Some k → LeadsTo (told o t) [] k.count = λ k is.
-    (let same : mark m.epoch o.start.count ≡ k = cc in subst (λ (x : Mark). LeadsTo (told o t) [] x.count) same (start_leads (told o t))) in
+    let there : (k : Mark) → Some (mark m.epoch o.start.count) ≡ Some k → LeadsTo (with_turns o t) [] k.count = λ k is.
+    (let same : mark m.epoch o.start.count ≡ k = cc in subst (λ (x : Mark). LeadsTo (with_turns o t) [] x.count) same (start_leads (with_turns o t))) in
     record { kept = there; other = there }
 
 pub first_reach : (o : Origin) (kept : Option Mark) → reach (view_of_image o.start.count (found_first o kept)) - o.start.count ≡ 0
@@ -410,8 +410,8 @@ Good-first {M = M} K o given w rising f =
     record {
       stands = record {
         at_moment = subst (λ k. K.is_at (line o w) k w.machine w.device) (sym cycles) f.at_moment;
-        told_all = ap (λ (t : List ℕ). length t) f.untold
-            ∙ sym (told_zero o.geometry.harts (reach (seen K o w) - o.start.count) (ap (λ v. reach v - o.start.count) f.found ∙ first_reach o o.kept));
+        listed_all = ap (λ (t : List ℕ). length t) f.unlisted
+            ∙ sym (none_listed o.geometry.harts (reach (seen K o w) - o.start.count) (ap (λ v. reach v - o.start.count) f.found ∙ first_reach o o.kept));
         fits = subst (λ v. Fits (line o w) v (marks_of o w.events)) (sym f.found) (subst (Fits (line o w) (first_view o)) (sym marks) fits);
         leads = subst (λ v. Leads (line o w) v (marks_of o w.events)) (sym f.found) (subst (Leads (line o w) (first_view o)) (sym marks) leads);
         lawful = subst (AllLawful (course_of o) (first_marks o)) (sym none) tt;
@@ -457,9 +457,9 @@ none_due {M = M} K o x next none pick true cut =
     cut.kept ∙ ap (λ (t : List ℕ). take n t) none ∙ take_all n [] (omega arith)
 none_due {M = M} K o x next none pick false is = ap (λ (y : World M). y.turns) is ∙ none
 
-pub untold-ran : {M : Type 0} (K : KindOf M) → (o : Origin) (given : Given) (k : ℕ) (w : World M) → o.geometry.harts ≡ 1 → Ran K o given k w → w.turns ≡ []
-untold-ran {M = M} K o given zero w one first = first.untold
-untold-ran {M = M} K o given (suc k) w one (before, ran, cycle) =
+pub unlisted-ran : {M : Type 0} (K : KindOf M) → (o : Origin) (given : Given) (k : ℕ) (w : World M) → o.geometry.harts ≡ 1 → Ran K o given k w → w.turns ≡ []
+unlisted-ran {M = M} K o given zero w one first = first.unlisted
+unlisted-ran {M = M} K o given (suc k) w one (before, ran, cycle) =
     none_due K o cycle.between w
-    (cycle.steps.turns_are ∙ one_after o.geometry.harts before.turns cycle.steps.r.did one ∙ untold-ran K o given k before one ran) (tear given.config.tears cycle.between.passed)
+    (cycle.steps.turns_are ∙ one_after o.geometry.harts before.turns cycle.steps.r.did one ∙ unlisted-ran K o given k before one ran) (tear given.config.tears cycle.between.passed)
     (is_due K o given.config.cuts cycle.between) cycle.cut

@@ -20,8 +20,8 @@ shows_console (Committed epoch overlapped) = true
 shows_console did = false
 
 -- a step has an event that needs what is read of the machine: a checkpoint's console is made known, or the run ended
-abbrev pub IsTold : Stepped → Type 0
-IsTold r = (shows_console r.did ≡ true) ⊎ (r.ended ≡ true)
+abbrev pub IsReported : Stepped → Type 0
+IsReported r = (shows_console r.did ≡ true) ⊎ (r.ended ≡ true)
 
 -- the console of the uninterrupted program at each count
 abbrev pub console_at : Origin → ℕ → List ℕ
@@ -40,16 +40,16 @@ due_of o events did next =
 -- ---- quiet cycles
 
 -- what was done has an event of its own
-abbrev pub is_told : Did → Bool
-is_told Loaded = true
-is_told (Restarted epoch count) = true
-is_told (Sealed epoch count cause) = true
-is_told (Committed epoch overlapped) = true
-is_told did = false
+abbrev pub is_reported : Did → Bool
+is_reported Loaded = true
+is_reported (Restarted epoch count) = true
+is_reported (Sealed epoch count cause) = true
+is_reported (Committed epoch overlapped) = true
+is_reported did = false
 
 -- a step has no event, and no cut falls after it
 pub record IsQuiet {M : Type 0} (cuts : List ℕ) (p : Progress M) (r : Stepped) (cycle : ℕ) : Type 0 where
-  pub untold : is_told r.did ≡ false
+  pub unlisted : is_reported r.did ≡ false
   pub going : r.ended ≡ false
   pub later : p.fresh ≡ false
   pub uncut : (nat_lt p.passed (length cuts) && slice_index cuts p.passed == cycle) ≡ false

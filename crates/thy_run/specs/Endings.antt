@@ -14,7 +14,7 @@ use Rattle.thy_run.specs.Cuts.{has_ended}
 use Rattle.thy_run.specs.Laws.{released_of}
 use Rattle.thy_run.specs.Sending.{Delivered}
 use Rattle.thy_run.specs.Unfinished.{Stopped}
-use Rattle.thy_run.specs.World.{World, Given, Cycle, Ran, telling}
+use Rattle.thy_run.specs.World.{World, Given, Cycle, Ran, reporting}
 use Rattle.thy_run.specs.declared.ending.Stop.{Stop}
 use Rattle.thy_run.specs.declared.ending.Stop.TheVariants.{Ended, Nvm, Memory, Terminal, Report, Limit}
 use Rattle.thy_run.specs.declared.ending.Ending.{Ending}
@@ -25,15 +25,15 @@ is_memory Memory = true
 is_memory stop = false
 
 -- these events were reported before the last cycle
-abbrev pub ToldBefore : {M : Type 0} → KindOf M → Origin → Given → World M → List Event → Type 0
-ToldBefore {M = M} K o given last settled =
+abbrev pub ReportedBefore : {M : Type 0} → KindOf M → Origin → Given → World M → List Event → Type 0
+ReportedBefore {M = M} K o given last settled =
     (k : ℕ) × (before : World M) × Ran K o given k before
     × Cycle K o given.config.cuts given.config.tears before last × (settled ≡ before.events)
 
 -- the events that were reported before the last cycle that was begun; a sink that failed did so in that cycle
 abbrev pub IsSettled : {M : Type 0} → KindOf M → Origin → Given → World M → List Event → Stop → Type 0
-IsSettled K o given last settled Terminal = ToldBefore K o given last settled
-IsSettled K o given last settled Report = ToldBefore K o given last settled
+IsSettled K o given last settled Terminal = ReportedBefore K o given last settled
+IsSettled K o given last settled Report = ReportedBefore K o given last settled
 IsSettled K o given last settled (Ended status) = settled ≡ last.events
 IsSettled K o given last settled Nvm = settled ≡ last.events
 IsSettled K o given last settled Memory = settled ≡ last.events
@@ -71,5 +71,5 @@ pub record HasRun {M : Type 0} (K : KindOf M) (o : Origin) (given : Given) (new 
   pub settled : List Event
   pub is_settled : IsSettled K o given stopped.last settled e.stop
   pub shown_all : Delivered (is_memory e.stop) e.terminal_failed (released_of o settled) (released_of o e.events) terminal shown
-  pub read_all : Delivered false e.report_failed (report_of (telling given) settled) (report_of (telling given) e.events) report read
+  pub read_all : Delivered false e.report_failed (report_of (reporting given) settled) (report_of (reporting given) e.events) report read
   pub stop_fits : StopFits o.geometry.limit given.fitted new e e.stop

@@ -13,9 +13,9 @@ use Rattle.thy_dram.specs.Contents.{lost}
 use Rattle.thy_isa.specs.declared.state.MachState.{MachState}
 use Rattle.thy_isa.specs.declared.state.Status.{Status}
 use Rattle.thy_isa.specs.Step.{state_of}
-use Rattle.thy_text.specs.declared.telling.Telling.{Telling}
+use Rattle.thy_text.specs.declared.reporting.Reporting.{Reporting}
 use Rattle.thy_text.specs.Event.{Event, Cut}
-use Rattle.thy_text.specs.Marks.{turns_told}
+use Rattle.thy_text.specs.Marks.{turns_listed}
 use Rattle.thy_view.specs.declared.did.Did.{Did}
 use Rattle.thy_view.specs.declared.did.Did.TheVariants.{Restarted, Retired, Sealed}
 use Rattle.thy_view.specs.declared.did.Stepped.{Stepped}
@@ -24,12 +24,12 @@ use Rattle.thy_view.specs.Views.{loads, halts, is_halt}
 use Rattle.thy_view.specs.CoreStep.{CoreStep}
 use Rattle.thy_view.specs.Origin.{Origin, at, IsOrigin}
 use Rattle.thy_view.specs.Kind.{IsSnapshot, KindOf, IsStep, LeavesSafe}
-use Rattle.thy_view.specs.Told.{told, AgreeBelow, reach}
+use Rattle.thy_view.specs.WithTurns.{with_turns, AgreeBelow, reach}
 use Rattle.thy_run.specs.Cuts.{has_ended}
 use Rattle.thy_run.specs.Due.{due_of}
 use Rattle.thy_run.specs.Endings.{EndsWith}
 use Rattle.thy_run.specs.Laws.{released_of}
-use Rattle.thy_run.specs.Unfinished.{StepFailed, TellingFailed, ReadFailed, LeftAlone}
+use Rattle.thy_run.specs.Unfinished.{StepFailed, ReportingFailed, ReadFailed, LeftAlone}
 use Rattle.thy_run.specs.World.{World, Given, seen, turns_after, TakesStep, Ran, Cycle, is_due, tear}
 use Rattle.thy_run.specs.declared.ending.Stop.{Stop}
 use Rattle.thy_run.specs.declared.ending.Stop.TheVariants.{Nvm, Memory}
@@ -49,15 +49,15 @@ origin_of plan = record {
 
 -- what the run is about, along the turns that are reported
 abbrev pub line_of : Plan → List ℕ → Origin
-line_of plan turns = told (origin_of plan) turns
+line_of plan turns = with_turns (origin_of plan) turns
 
 -- the turns once a cycle did this
 abbrev pub turns_then : Plan → List ℕ → Did → List ℕ
 turns_then plan turns did = turns_after plan.geometry.harts turns did
 
 -- a run has exactly the turns that reach the state of a view
-abbrev pub AreTold : Origin → View → Type 0
-AreTold p v = length p.turns ≡ turns_told p.geometry.harts (reach v - p.start.count)
+abbrev pub HasItsTurns : Origin → View → Type 0
+HasItsTurns p v = length p.turns ≡ turns_listed p.geometry.harts (reach v - p.start.count)
 
 -- the last turns of a list, this many
 abbrev pub last_turns : ℕ → List ℕ → List ℕ
@@ -68,8 +68,8 @@ abbrev pub given_of : Plan → Device → Given
 given_of plan fitted = record { config = plan.config; digest = plan.digest; fitted = fitted }
 
 -- how the events of a run are reported
-abbrev pub telling_of : Plan → Telling
-telling_of plan = record { digest = plan.digest; harts = plan.config.harts }
+abbrev pub reporting_of : Plan → Reporting
+reporting_of plan = record { digest = plan.digest; harts = plan.config.harts }
 
 -- a plan's start is one of a run, and the listed cuts rise
 pub record IsPlanned (plan : Plan) : Type 0 where
@@ -255,11 +255,11 @@ abbrev pub Breaks : {M : Type 0} → KindOf M → Plan → Progress M → Progre
     → Stop → Type 0
 Breaks K plan p next n new cycles turns bytes Nvm =
     (StepFailed K (origin_of plan) (world_at p n cycles turns) next.events new
-    ⊎ TellingFailed K (origin_of plan) (world_at p n cycles turns) next.events
+    ⊎ ReportingFailed K (origin_of plan) (world_at p n cycles turns) next.events
     (ReadFailed (world_at p n cycles turns) next.events new))
     × IsFault p next n new bytes
 Breaks K plan p next n new cycles turns bytes Memory =
-    TellingFailed K (origin_of plan) (world_at p n cycles turns) next.events
+    ReportingFailed K (origin_of plan) (world_at p n cycles turns) next.events
     (LeftAlone K (origin_of plan) plan.config.cuts new)
     × (new.faults ≡ n.faults)
 Breaks K plan p next n new cycles turns bytes stop = ⊥

@@ -12,7 +12,7 @@ use Rattle.thy_block.specs.Marks.{mark}
 use Rattle.thy_text.specs.Marks.{Marks, Course, loading_marks, marks_from, Restarts, AllLawful}
 use Rattle.thy_text.specs.Released.{released}
 use Rattle.thy_view.specs.Origin.{Origin, at, IsOrigin}
-use Rattle.thy_view.specs.Told.{told}
+use Rattle.thy_view.specs.WithTurns.{with_turns}
 use Rattle.thy_view.specs.Booting.{found_first}
 use Rattle.thy_view.specs.Safe.{ceiling}
 use Rattle.thy_run.specs.Cuts.{cuts_among, numbered, cuts_up_to, last_cuttable}
@@ -25,7 +25,7 @@ use Rattle.thy_run.specs.declared.ending.Stop.{Stop}
 
 -- what the events of a run are checked against; it does not depend on the turns reported so far
 abbrev pub course_of : Origin → Course
-course_of o = record { at = λ k turns. at (told o turns) k; start = o.start.count; epoch = o.geometry.epoch; harts = o.geometry.harts }
+course_of o = record { at = λ k turns. at (with_turns o turns) k; start = o.start.count; epoch = o.geometry.epoch; harts = o.geometry.harts }
 
 -- the marks before any event, at this count: the checkpoint that the start was taken from is kept, or the start is sealed
 abbrev pub marks_at : ℕ → Option Mark → Marks
@@ -45,7 +45,7 @@ found_at_start o = found (found_first o o.kept) None
 
 -- what the terminal has taken of the console after these events: the console of the committed checkpoint
 abbrev pub released_of : Origin → List Event → List ℕ
-released_of o events = released (λ k turns. (at (told o turns) k).console) o.start.count (first_marks o) events
+released_of o events = released (λ k turns. (at (with_turns o turns) k).console) o.start.count (first_marks o) events
 
 -- What an image may mean after events that left these marks: nothing, if none is kept, or what a restart may restore.
 abbrev pub MayStand : Course → Marks → Decoded → Type 0

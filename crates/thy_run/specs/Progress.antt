@@ -10,7 +10,7 @@ use Rattle.thy_view.specs.declared.did.Did.TheVariants.{Nothing}
 use Rattle.thy_view.specs.Kind.{KindOf}
 use Rattle.thy_view.specs.Origin.{Origin, runs_at}
 use Rattle.thy_view.specs.Pace.{is_drained, retires}
-use Rattle.thy_view.specs.Told.{told}
+use Rattle.thy_view.specs.WithTurns.{with_turns}
 use Rattle.thy_view.specs.Views.{is_boot}
 use Rattle.thy_run.specs.World.{World, Given, seen, TakesStep, is_due, Ran}
 
@@ -28,7 +28,7 @@ cycles_for K p cuts k = last_of cuts + K.most_ahead p + K.most_each p * k
 
 -- the program ends within k instructions from the start of its run, with no turn reported
 abbrev pub EndsWithin : Origin → ℕ → Type 0
-EndsWithin o k = runs_at (told o []) (o.start.count + k) ≡ false
+EndsWithin o k = runs_at (with_turns o []) (o.start.count + k) ≡ false
 
 -- with one hart a run has no more cycles than its program needs
 abbrev pub IsSoonOver : {M : Type 0} → KindOf M → Origin → List ℕ → ℕ → Type 0

@@ -33,7 +33,7 @@ use Rattle.thy_run.specs.Sending.{Sinks}
 use Rattle.thy_run.specs.Seeing.{Watched, CycleTaken}
 use Rattle.thy_run.specs.Watching.{Taken}
 use Rattle.thy_run.specs.Rounds.{Running, RunEnds}
-use Rattle.thy_run.specs.World.{seen, turns_behind, did_told, end_told, events_of}
+use Rattle.thy_run.specs.World.{seen, turns_behind, did_events, end_events, events_of}
 
 -- ---- a step
 
@@ -84,8 +84,8 @@ ReadsEnd K p n ended result =
     (o : Origin) (k : ℕ) (v : View) (r : Stepped) → r.ended ≡ ended → CanGather K o k v p n r
     → IfOk result (λ s. IsEnding o v (K.view o p.machine n) s)
 
-abbrev pub TellsReload : {M : Type 0} → KindOf M → Progress M → Bool → Type 0
-TellsReload K p reload =
+abbrev pub ReportsReload : {M : Type 0} → KindOf M → Progress M → Bool → Type 0
+ReportsReload K p reload =
     (o : Origin) (k : ℕ) (v : View) (n : Device) (r : Stepped) → CanGather K o k v p n r
     → reload ≡ (p.fresh && loads (K.view o p.machine n))
 
@@ -101,7 +101,7 @@ abbrev pub NotesRestart : {T E : Type 0} → ℕ → ℕ → Option (Box MachSta
     → Result T E → Type 0
 NotesRestart epoch count restored old new result =
     (o : Origin) (v : View) → Restores o (Restarted epoch count) restored
-    → OnOk result (new ≡ old ++ did_told o v (Restarted epoch count) 0)
+    → OnOk result (new ≡ old ++ did_events o v (Restarted epoch count) 0)
 
 -- if what was done is an epoch's end, these are the turns after the committed checkpoint
 abbrev pub EndsWithTurns : Origin → View → Did → List ℕ → Type 0
@@ -112,19 +112,19 @@ EndsWithTurns o v did turns = Unit {0}
 abbrev pub NotesSeal : {T E : Type 0} → ℕ → ℕ → EndCause → List ℕ → List Event → List Event → Result T E → Type 0
 NotesSeal epoch count cause turns old new result =
     (o : Origin) (v : View) → EndsWithTurns o v (Sealed epoch count cause) turns
-    → OnOk result (new ≡ old ++ did_told o v (Sealed epoch count cause) 0)
+    → OnOk result (new ≡ old ++ did_events o v (Sealed epoch count cause) 0)
 
 -- the events of what a step did are made
 abbrev pub NotesDid : {T E : Type 0} → Did → List ℕ → Option (Box MachState Global) → ℕ → List Event → List Event
     → Result T E → Type 0
 NotesDid did turns restored cycle old new result =
     (o : Origin) (v : View) → EndsWithTurns o v did turns → Restores o did restored
-    → OnOk result (new ≡ old ++ did_told o v did cycle)
+    → OnOk result (new ≡ old ++ did_events o v did cycle)
 
 -- the event of a run's end is made
 abbrev pub NotesEnd : {T E : Type 0} → Option (Box MachState Global) → ℕ → List Event → List Event → Result T E → Type 0
 NotesEnd ended cycle old new result =
-    (o : Origin) (v next : View) → IsEnding o v next ended → OnOk result (new ≡ old ++ end_told o v next cycle)
+    (o : Origin) (v next : View) → IsEnding o v next ended → OnOk result (new ≡ old ++ end_events o v next cycle)
 
 -- if the program has ended, its status is returned
 abbrev pub AnswersEnd : {E : Type 0} → Option (Box MachState Global) → Result (Option Status) E → Type 0

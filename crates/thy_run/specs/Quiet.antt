@@ -25,7 +25,7 @@ pub record IsLed {M O : Type 0} (K : KindOf M) (has_seen : O → List Taken → 
   pub turns : List ℕ
   pub goes : GoesOn K plan fitted q n now turns
   pub watched : Watched K has_seen plan fitted q n now turns o
-  pub untold : q.events ≡ p.events
+  pub unlisted : q.events ≡ p.events
   pub uncut : q.passed ≡ p.passed
   pub fresh : q.fresh ≡ p.fresh
   pub more : done ≤ now

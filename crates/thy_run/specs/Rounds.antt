@@ -17,7 +17,7 @@ use Rattle.thy_run.specs.declared.plan.Plan.{Plan}
 use Rattle.thy_run.specs.declared.progress.Progress.{Progress}
 use Rattle.thy_block.specs.declared.bytes.Bytes.{Bytes}
 use Rattle.thy_block.specs.Bytes.{bytes_of, room_of}
-use Rattle.thy_run.specs.Going.{origin_of, given_of, world_at, HasTurnsRoom, GoesOn, telling_of}
+use Rattle.thy_run.specs.Going.{origin_of, given_of, world_at, HasTurnsRoom, GoesOn, reporting_of}
 use Rattle.thy_run.specs.World.{World}
 use Rattle.thy_run.specs.Endings.{HasRun}
 
@@ -42,7 +42,7 @@ pub record Running {M : Type 0} (K : KindOf M) (plan : Plan) (fitted : Device) (
     (turns : List ℕ) (terminal shown report read : Stream) : Type 0 where
   pub goes : GoesOn K plan fitted p n cycles turns
   pub shown_all : Took terminal shown (released_of (origin_of plan) p.events)
-  pub read_all : Took report read (report_of (telling_of plan) p.events)
+  pub read_all : Took report read (report_of (reporting_of plan) p.events)
 
 -- what a run of a plan leaves
 abbrev pub RunEnds : {M : Type 0} → KindOf M → Plan → Device → Device → Ending

@@ -2,7 +2,7 @@
 -- What a sink took of a text that grows.
 use Rattle.std.specs.Prelude.{◌≡◌, ◌≢◌, Bool, true, false, ℕ, List, [], ◌++◌, take}
 use Rattle.thy_block.specs.Outside.{Stream, Took, TookPart}
-use Rattle.thy_text.specs.declared.telling.Telling.{Telling}
+use Rattle.thy_text.specs.declared.reporting.Reporting.{Reporting}
 use Rattle.thy_text.specs.Event.{Event}
 use Rattle.thy_text.specs.Lines.{report_of}
 
@@ -26,9 +26,9 @@ pub record Sends (before after : List ℕ) (failed : Bool) (old new : Stream) : 
   pub sent : Sent failed old new more
 
 -- the report took the lines of the events from the first on, or a first part of them if it failed
-abbrev pub TellsLines : Telling → ℕ → List Event → Bool → Stream → Stream → Type 0
-TellsLines telling first events failed old new =
-    Sends (report_of telling (take first events)) (report_of telling events) failed old new
+abbrev pub ReportsLines : Reporting → ℕ → List Event → Bool → Stream → Stream → Type 0
+ReportsLines reporting first events failed old new =
+    Sends (report_of reporting (take first events)) (report_of reporting events) failed old new
 
 -- What a sink took of a whole text: first all that was settled before the last cycle, then what was added, or a first
 -- part of that if it failed. If an allocation failed, it may have taken less than the whole.

@@ -22,12 +22,12 @@ pub record StepFailed {M : Type 0} (K : KindOf M) (o : Origin) (w : World M) (ev
   pub leaves : LeavesSafe K (line o w) (mix_pick o.geometry.harts w.mix) w.machine next w.device n
   pub framed : IsFramed w.device n
   pub rose : Rose w.device.faults n.faults
-  pub nothing_told : events ≡ w.events
+  pub nothing_reported : events ≡ w.events
 
 -- a read for the events of a step failed with a fault of the device: there was one to be made, and none was
 pub record ReadFailed {M : Type 0} (w : World M) (events : List Event) (n : Device) (next : World M) (rest : List Event) : Type 0 where
   pub due : rest ≢ []
-  pub nothing_told : events ≡ w.events
+  pub nothing_reported : events ≡ w.events
   pub failed : HasFailed next.device n
   pub framed : IsFramed next.device n
   pub rose : Rose next.device.faults n.faults
@@ -38,7 +38,7 @@ LeftAlone K o cuts n next rest = (n ≡ next.device) × ((rest ≢ []) ⊎ (is_d
 
 -- The step was done, but only the first of its events were made: a read for the others failed, or an allocation
 -- failed. `Why` says what became of the step's device, and what was still to be done.
-pub record TellingFailed {M : Type 0} (K : KindOf M) (o : Origin) (w : World M) (events : List Event)
+pub record ReportingFailed {M : Type 0} (K : KindOf M) (o : Origin) (w : World M) (events : List Event)
     (Why : World M → List Event → Type 0) : Type 0 where
   pub next : World M
   pub steps : TakesStep K o w next
@@ -57,8 +57,8 @@ IsLast w events n = (events ≡ w.events) × (n ≡ w.device)
 -- was begun. If memory ran out before the first cycle, none was.
 abbrev pub AtStop : {M : Type 0} → KindOf M → Origin → List ℕ → World M → List Event → Device → Stop → Type 0
 AtStop K o cuts w events n (Ended status) = IsLast w events n
-AtStop K o cuts w events n Nvm = StepFailed K o w events n ⊎ TellingFailed K o w events (ReadFailed w events n)
-AtStop K o cuts w events n Memory = ((w.cycles ≡ 0) × IsLast w events n) ⊎ TellingFailed K o w events (LeftAlone K o cuts n)
+AtStop K o cuts w events n Nvm = StepFailed K o w events n ⊎ ReportingFailed K o w events (ReadFailed w events n)
+AtStop K o cuts w events n Memory = ((w.cycles ≡ 0) × IsLast w events n) ⊎ ReportingFailed K o w events (LeftAlone K o cuts n)
 AtStop K o cuts w events n Terminal = IsLast w events n
 AtStop K o cuts w events n Report = IsLast w events n
 AtStop K o cuts w events n Limit = IsLast w events n

@@ -8,11 +8,11 @@ use Rattle.thy_run.specs.World.{World, Given, Cycle, IsFirst, is_due}
 -- a done cycle: what it did, how many events were made in it, and whether a cut fell after it
 pub record Taken : Type 0 where
   pub stepped : Stepped
-  pub told : ℕ
+  pub reported : ℕ
   pub fell : Bool
 
 abbrev pub taken : Stepped → ℕ → Bool → Taken
-taken stepped told fell = record { stepped = stepped; told = told; fell = fell }
+taken stepped reported fell = record { stepped = stepped; reported = reported; fell = fell }
 
 -- a cycle of a run
 abbrev pub taken_in : {M : Type 0} (K : KindOf M) (o : Origin) (cuts tears : List ℕ) (w next : World M)
@@ -48,8 +48,8 @@ Keeps has_seen keeps old new r = (seen : List Taken) → has_seen old seen → k
 
 -- an observer has seen the cycle of this step, after which the cut fell
 abbrev pub SeesCutAfter : {O : Type 0} → (O → List Taken → Type 0) → (O → List Taken → Stepped → Type 0) → O → O → ℕ → Type 0
-SeesCutAfter has_seen keeps old new told =
-    (seen : List Taken) (r : Stepped) → keeps old seen r → has_seen new (seen ++ taken r told true ∷ [])
+SeesCutAfter has_seen keeps old new reported =
+    (seen : List Taken) (r : Stepped) → keeps old seen r → has_seen new (seen ++ taken r reported true ∷ [])
 
 -- an observer forgets the step: the cycle is not done
 abbrev pub Forgets : {O : Type 0} → (O → List Taken → Type 0) → (O → List Taken → Stepped → Type 0) → O → O → Type 0

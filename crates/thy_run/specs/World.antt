@@ -9,7 +9,7 @@ use Rattle.thy_block.specs.Mix.{mix_start, mix_pick, mix_next}
 use Rattle.thy_dram.specs.Contents.{lost}
 use Rattle.thy_layout.specs.Decoded.{Decoded}
 use Rattle.thy_view.specs.Kind.{KindOf, IsStep}
-use Rattle.thy_text.specs.declared.telling.Telling.{Telling}
+use Rattle.thy_text.specs.declared.reporting.Reporting.{Reporting}
 use Rattle.thy_text.specs.Event.{Event, EpochEnd, Commit, Cut, Restart, Reload, Ended}
 use Rattle.thy_view.specs.declared.did.Did.{Did}
 use Rattle.thy_view.specs.declared.did.Did.TheVariants.{Loaded, Restarted, Retired, Sealed, Committed}
@@ -19,7 +19,7 @@ use Rattle.thy_view.specs.Booting.{first_view, view_of_image}
 use Rattle.thy_view.specs.Views.{loads, halts, is_halt}
 use Rattle.thy_view.specs.Origin.{Origin, at}
 use Rattle.thy_view.specs.Safe.{ceiling, Safe}
-use Rattle.thy_view.specs.Told.{told, AgreeBelow, count_of, reach}
+use Rattle.thy_view.specs.WithTurns.{with_turns, AgreeBelow, count_of, reach}
 
 -- a run between two cycles
 pub record World (M : Type 0) : Type 0 where
@@ -39,7 +39,7 @@ pub record World (M : Type 0) : Type 0 where
 
 -- the run with the turns reported so far
 abbrev pub line : {M : Type 0} → Origin → World M → Origin
-line o w = told o w.turns
+line o w = with_turns o w.turns
 
 -- what the machine shows
 abbrev pub seen : {M : Type 0} → KindOf M → Origin → World M → View
@@ -63,24 +63,24 @@ turns_behind o done = drop (count_of done - o.start.count) o.turns
 -- ---- events
 
 -- the event of what a cycle did from this view; an epoch's end reports the turns after the committed checkpoint
-abbrev pub did_told : Origin → View → Did → ℕ → List Event
-did_told o v Loaded cycle = Commit 0 cycle 0 ∷ []
-did_told o v (Restarted epoch count) cycle = Restart epoch count (at o count) ∷ []
-did_told o v (Sealed epoch count cause) cycle = EpochEnd epoch count cause (turns_behind o v.done) ∷ []
-did_told o v (Committed epoch overlapped) cycle = Commit epoch cycle overlapped ∷ []
-did_told o v did cycle = []
+abbrev pub did_events : Origin → View → Did → ℕ → List Event
+did_events o v Loaded cycle = Commit 0 cycle 0 ∷ []
+did_events o v (Restarted epoch count) cycle = Restart epoch count (at o count) ∷ []
+did_events o v (Sealed epoch count cause) cycle = EpochEnd epoch count cause (turns_behind o v.done) ∷ []
+did_events o v (Committed epoch overlapped) cycle = Commit epoch cycle overlapped ∷ []
+did_events o v did cycle = []
 
 -- the first cycle after a cut reports that the file is loaded again
-abbrev pub reload_told : Bool → View → List Event
-reload_told fresh next = if fresh && loads next then Reload ∷ [] else []
+abbrev pub reload_events : Bool → View → List Event
+reload_events fresh next = if fresh && loads next then Reload ∷ [] else []
 
 -- a cycle that halts reports the end
-abbrev pub end_told : Origin → View → View → ℕ → List Event
-end_told o v next cycle = if halts v next then Ended (at o next.count).status next.count cycle (at o next.count) ∷ [] else []
+abbrev pub end_events : Origin → View → View → ℕ → List Event
+end_events o v next cycle = if halts v next then Ended (at o next.count).status next.count cycle (at o next.count) ∷ [] else []
 
 -- the events of a cycle
 abbrev pub events_of : Origin → Bool → View → Did → View → ℕ → List Event
-events_of o fresh v did next cycle = reload_told fresh next ++ did_told o v did cycle ++ end_told o v next cycle
+events_of o fresh v did next cycle = reload_events fresh next ++ did_events o v did cycle ++ end_events o v next cycle
 
 -- ---- cycles
 
@@ -92,7 +92,7 @@ after_step K o w m n turns did = record w {
   mix = mix_next o.geometry.harts w.mix;
   cycles = w.cycles + 1;
   fresh = false;
-  events = w.events ++ events_of (told o turns) w.fresh (seen K o w) did (K.view (told o turns) m n) (w.cycles + 1);
+  events = w.events ++ events_of (with_turns o turns) w.fresh (seen K o w) did (K.view (with_turns o turns) m n) (w.cycles + 1);
   turns = turns;
 }
 
@@ -151,12 +151,12 @@ pub record Given : Type 0 where
   pub fitted : Device
 
 -- how the events of a run are reported
-abbrev pub telling : Given → Telling
-telling given = record { digest = given.digest; harts = given.config.harts }
+abbrev pub reporting : Given → Reporting
+reporting given = record { digest = given.digest; harts = given.config.harts }
 
 -- power comes on for the first time, over a device that was fitted; no turn is reported yet
 pub record IsFirst {M : Type 0} (K : KindOf M) (o : Origin) (given : Given) (w : World M) : Type 0 where
-  pub untold : w.turns ≡ []
+  pub unlisted : w.turns ≡ []
   pub device : w.device ≡ given.fitted
   pub powered : K.powered o.geometry w.machine
   pub at_moment : K.is_at (line o w) 0 w.machine w.device

@@ -4,7 +4,7 @@ ghost use Rattle.std.specs.Prelude.{◌≡◌, ◌↔◌, ◌<◌, ◌≤◌, �
 ghost use Rattle.thy_block.specs.Bytes.{bytes_of, room_of};
 ghost use Rattle.thy_block.specs.Device.{Device as DeviceValue};
 ghost use Rattle.thy_run.specs.declared.advance.HartCycle.TheVariants.{Left};
-ghost use Rattle.thy_run.specs.Due.{is_told, IsQuiet, AreQuietBelow};
+ghost use Rattle.thy_run.specs.Due.{is_reported, IsQuiet, AreQuietBelow};
 ghost use Rattle.thy_run.specs.Going.{IsPlanned, HasDrawn, HasRoomToList, list_after, CanCut, IsCutOffTo};
 ghost use Rattle.thy_run.specs.Promises.{AdvancesOn, StepsOn, HasStepped, CanConclude, Concludes};
 ghost use Rattle.thy_run.specs.Seeing.{Reports};
@@ -13,7 +13,7 @@ ghost use Rattle.thy_run.specs.Watching.{CanSee};
 ghost use Rattle.thy_run.specs.World.{turns_after};
 ghost use Rattle.thy_view.specs.declared.did.Advance.{Advance as AdvanceValue};
 ghost use Rattle.thy_view.specs.declared.did.Did.TheVariants.{Retired};
-ghost use Rattle.thy_view.specs.Advances.{IsOthersTurn, did_of, stepped_of};
+ghost use Rattle.thy_view.specs.Advances.{IsOthersCycle, did_of, stepped_of};
 
 use crate::ending::Stop;
 use crate::gather::{Readings, gather};
@@ -21,10 +21,10 @@ use crate::note::note;
 use crate::observer::Observer;
 use crate::plan::Plan;
 use crate::progress::Progress;
-use crate::tell::{tell, write_lines};
+use crate::write_report::{write_lines, write_report};
 use std::alloc::Global;
 use thy_base::{Bytes, Config, Nvm, NvmError, Pick, Sink};
-use thy_text::{Event, Events, Telling};
+use thy_text::{Event, Events, Reporting};
 use thy_view::{Advance, Computer, Did, Stepped};
 
 /// What a cycle came to.
@@ -111,7 +111,7 @@ pub fn advance<M: Computer, N: Nvm>(
     requires few { done < 2 ^ 62 }
     ensures advances { let n = N.device nvm.old in
         AdvancesOn M.kind plan.now progress.old progress.new n (N.device nvm.new) done pick result }
-    ensures others { result ≡ Left → IsOthersTurn M.kind pick progress.old.machine (N.device nvm.old) }
+    ensures others { result ≡ Left → IsOthersCycle M.kind pick progress.old.machine (N.device nvm.old) }
 {
     match progress.machine.advance(pick, &plan.start, nvm) {
         Ok(Some(advance)) => {
@@ -134,7 +134,7 @@ pub fn take_other<M: Computer, N: Nvm>(
     requires planned { IsPlanned plan.now }
     requires drawn { let n = N.device nvm.old in
         (fitted : DeviceValue) × (turns : List ℕ) × HasDrawn M.kind plan.now fitted progress.old n done turns pick }
-    requires others { IsOthersTurn M.kind pick progress.old.machine (N.device nvm.old) }
+    requires others { IsOthersCycle M.kind pick progress.old.machine (N.device nvm.old) }
     requires few { done < 2 ^ 62 }
     ensures { let n = N.device nvm.old in
         StepsOn M.kind plan.now progress.old progress.new n (N.device nvm.new) done pick result }
@@ -159,8 +159,8 @@ fn is_due(config: &Config, passed: usize, cycle: u64) -> bool
 
 /// Whether what was done has an event of its own.
 #[inline(always)]
-fn is_told(did: Did) -> bool
-    ensures { result ≡ is_told did }
+fn is_reported(did: Did) -> bool
+    ensures { result ≡ is_reported did }
 {
     matches!(
         did,
@@ -173,7 +173,7 @@ fn is_told(did: Did) -> bool
 pub fn is_quiet<M>(progress: &Progress<M>, plan: &Plan, stepped: &Stepped, cycle: u64) -> bool
     ensures { result ≡ true ↔ IsQuiet plan.now.config.cuts progress.now stepped.now cycle }
 {
-    !is_told(stepped.did)
+    !is_reported(stepped.did)
         && !stepped.ended
         && !progress.fresh
         && !is_due(&plan.config, progress.passed, cycle)
@@ -318,7 +318,7 @@ fn conclude<M: Computer, T: Sink, R: Sink, O: Observer>(
     let first = progress.events.len();
     let turns = &progress.turns;
     let events = &mut progress.events;
-    let telling = Telling {
+    let reporting = Reporting {
         digest: plan.digest,
         harts: plan.config.harts,
     };
@@ -332,7 +332,7 @@ fn conclude<M: Computer, T: Sink, R: Sink, O: Observer>(
         ended,
         cycle,
     ) else {
-        progress.report_failed = write_lines(&progress.events, first, telling, report);
+        progress.report_failed = write_lines(&progress.events, first, reporting, report);
         return Outcome::Breaks(Stop::Memory);
     };
     progress.released += bytes.len() as u64;
@@ -343,11 +343,11 @@ fn conclude<M: Computer, T: Sink, R: Sink, O: Observer>(
         return Outcome::Cuts(bytes);
     }
     observer.see(stepped, progress.events.len() - first, cycle);
-    let failures = tell(
+    let failures = write_report(
         bytes.as_slice(),
         &progress.events,
         first,
-        telling,
+        reporting,
         terminal,
         report,
     );

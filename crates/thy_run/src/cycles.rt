@@ -15,11 +15,11 @@ use crate::observer::Observer;
 use crate::plan::Plan;
 use crate::progress::Progress;
 use crate::quiet::{Pause, run_quiet};
-use crate::tell::tell;
+use crate::write_report::write_report;
 use std::alloc::{AllocError, Global};
 use thy_base::{Bytes, Geometry, Mix, Nvm, Sink};
 use thy_dram::Dram;
-use thy_text::{Events, Telling};
+use thy_text::{Events, Reporting};
 use thy_view::Computer;
 
 /// Cuts the power after a cycle, and then gives the sinks what they have to get for it.
@@ -51,7 +51,7 @@ fn cut_power<M: Computer, T: Sink, R: Sink, N: Nvm, O: Observer>(
         let bytes = bytes_of bytes in
         SeesCut M.kind O.has_seen O.keeps plan.now progress n new done bytes first before after o observer.new result }
 {
-    let telling = Telling {
+    let reporting = Reporting {
         digest: plan.digest,
         harts: plan.config.harts,
     };
@@ -59,7 +59,14 @@ fn cut_power<M: Computer, T: Sink, R: Sink, N: Nvm, O: Observer>(
         Ok(next) => next,
         Err(events) => {
             observer.forget();
-            let failures = tell(bytes.as_slice(), &events, first, telling, terminal, report);
+            let failures = write_report(
+                bytes.as_slice(),
+                &events,
+                first,
+                reporting,
+                terminal,
+                report,
+            );
             return Err(Ending {
                 stop: Stop::Memory,
                 events,
@@ -69,11 +76,11 @@ fn cut_power<M: Computer, T: Sink, R: Sink, N: Nvm, O: Observer>(
             });
         }
     };
-    let failures = tell(
+    let failures = write_report(
         bytes.as_slice(),
         &next.events,
         first,
-        telling,
+        reporting,
         terminal,
         report,
     );

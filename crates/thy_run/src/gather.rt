@@ -3,8 +3,8 @@ ghost use Rattle.std.specs.Prelude.{◌≡◌, ◌&&◌, true, IfErr, OnOk, OnEr
 ghost use Rattle.thy_block.specs.Device.{IsFramed};
 ghost use Rattle.thy_view.specs.Kind.{CanRead, HasFailedToRead};
 ghost use Rattle.thy_view.specs.Views.{loads};
-ghost use Rattle.thy_run.specs.Due.{shows_console, IsTold};
-ghost use Rattle.thy_run.specs.Promises.{BoxesSnapshot, ReadsRestart, ReadsDue, ReadsEnd, TellsReload, GathersAll};
+ghost use Rattle.thy_run.specs.Due.{shows_console, IsReported};
+ghost use Rattle.thy_run.specs.Promises.{BoxesSnapshot, ReadsRestart, ReadsDue, ReadsEnd, ReportsReload, GathersAll};
 
 use crate::progress::Progress;
 use std::alloc::{AllocError, Global};
@@ -121,7 +121,7 @@ fn ending<M: Computer, N: Nvm>(
 
 /// Whether the step is the first after a cut, and found no checkpoint.
 fn reloads<M: Computer>(progress: &Progress<M>) -> bool
-    ensures { TellsReload M.kind progress.now result }
+    ensures { ReportsReload M.kind progress.now result }
 {
     let loads = progress.machine.loading();
     progress.fresh && loads
@@ -139,7 +139,7 @@ pub fn gather<M: Computer, N: Nvm>(
     ensures read { GathersAll M.kind progress.now (N.device nvm.old) stepped.now result }
     ensures same { OnOk result (N.device nvm.new ≡ N.device nvm.old) }
     ensures err { IfErr result (λ e. HasFailedToRead e (N.device nvm.old) (N.device nvm.new)) }
-    ensures due { OnErr result (IsTold stepped.now) }
+    ensures due { OnErr result (IsReported stepped.now) }
     ensures frame { IsFramed (N.device nvm.old) (N.device nvm.new) }
 {
     let reload = reloads(progress);

@@ -17,7 +17,7 @@ mod plan;
 mod progress;
 mod quiet;
 mod singles;
-mod tell;
+mod write_report;
 
 pub use cycles::run;
 pub use ending::{Ending, Stop};
@@ -29,4 +29,4 @@ pub use observer::{Observer, Silent};
 pub use plan::Plan;
 pub use progress::Progress;
 pub use singles::{SingleCycle, begin, end, single};
-pub use tell::write_bytes;
+pub use write_report::write_bytes;

@@ -3,7 +3,7 @@ ghost use Rattle.std.specs.Prelude.{◌≡◌, ◌≢◌, ◌++◌, ◌∷◌, [
 ghost use Rattle.thy_block.specs.Bytes.{bytes_of};
 ghost use Rattle.thy_view.specs.Origin.{Origin};
 ghost use Rattle.thy_view.specs.declared.view.View.{View};
-ghost use Rattle.thy_run.specs.World.{did_told};
+ghost use Rattle.thy_run.specs.World.{did_events};
 ghost use Rattle.thy_isa.specs.Step.{state_of};
 ghost use Rattle.thy_text.specs.Event.{Reload, Commit, Ended};
 ghost use Rattle.thy_run.specs.Promises.{NotesRestart, NotesSeal, NotesDid, NotesEnd, AnswersEnd, NotesAll, NotesSome};
@@ -103,7 +103,7 @@ fn note_did(
 ) -> Result<(), AllocError>
     ensures ok { NotesDid did (bytes_of turns.now) restored cycle events.old events.new result }
     ensures err { OnErr result (events.new ≡ events.old) }
-    ensures due { (o : Origin) (v : View) → OnErr result (did_told o v did cycle ≢ []) }
+    ensures due { (o : Origin) (v : View) → OnErr result (did_events o v did cycle ≢ []) }
 {
     match did {
         Did::Loaded => note_commit(events, 0, cycle, 0),

@@ -20,18 +20,18 @@ pub trait Observer {
 
     /// Sees one more cycle of the machine that is done: what it did, and how many events were made in it. No cut fell
     /// after it. The cycle's number is one more than how many cycles were seen.
-    fn see(&mut self, stepped: &Stepped, told: usize, cycle: u64)
+    fn see(&mut self, stepped: &Stepped, reported: usize, cycle: u64)
         requires { CanSee has_seen self.old cycle }
-        ensures { Sees has_seen self.old self.new (taken stepped.now told false) };
+        ensures { Sees has_seen self.old self.new (taken stepped.now reported false) };
 
     /// Keeps the step of a cycle after which a cut falls.
     fn keep(&mut self, stepped: &Stepped)
         ensures { Keeps has_seen keeps self.old self.new stepped.now };
 
     /// Sees the cycle of the step that it keeps: the cut has fallen after it.
-    fn see_cut(&mut self, told: usize, cycle: u64)
+    fn see_cut(&mut self, reported: usize, cycle: u64)
         requires { CanSeeCut keeps self.old cycle }
-        ensures { SeesCutAfter has_seen keeps self.old self.new told };
+        ensures { SeesCutAfter has_seen keeps self.old self.new reported };
 
     /// Forgets the step that it keeps: the cycle is not done.
     fn forget(&mut self)
@@ -54,11 +54,11 @@ impl Observer for Silent {
 
     ghost has_seen_last = { λ o base state. Unit {0} };
 
-    fn see(&mut self, _stepped: &Stepped, _told: usize, _cycle: u64) {}
+    fn see(&mut self, _stepped: &Stepped, _reported: usize, _cycle: u64) {}
 
     fn keep(&mut self, _stepped: &Stepped) {}
 
-    fn see_cut(&mut self, _told: usize, _cycle: u64) {}
+    fn see_cut(&mut self, _reported: usize, _cycle: u64) {}
 
     fn forget(&mut self) {}
 

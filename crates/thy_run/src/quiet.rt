@@ -3,7 +3,7 @@
 //! them so.
 ghost use Rattle.std.specs.Prelude.{◌≡◌, ◌≤◌, ◌<◌, ◌+◌, ℕ, List, true};
 ghost use Rattle.thy_block.specs.Device.{Device as DeviceValue};
-ghost use Rattle.thy_view.specs.Advances.{IsOthersTurn};
+ghost use Rattle.thy_view.specs.Advances.{IsOthersCycle};
 ghost use Rattle.thy_run.specs.Due.{AreQuietBelow};
 ghost use Rattle.thy_run.specs.Going.{IsPlanned, HasDrawn};
 ghost use Rattle.thy_run.specs.Quiet.{IsWatched, LeadsQuietly, PassesTo, RunsQuietly};
@@ -43,7 +43,7 @@ fn pass_other<M: Computer, N: Nvm, O: Observer>(
     requires planned { IsPlanned plan.now }
     requires drawn { let n = N.device nvm.old in
         (fitted : DeviceValue) × (turns : List ℕ) × HasDrawn M.kind plan.now fitted progress.old n now turns pick }
-    requires others { IsOthersTurn M.kind pick progress.old.machine (N.device nvm.old) }
+    requires others { IsOthersCycle M.kind pick progress.old.machine (N.device nvm.old) }
     requires few { now < plan.now.geometry.limit }
     requires unseen { CanSee O.has_seen observer.old (now + 1) }
     ensures { let n = N.device nvm.old in

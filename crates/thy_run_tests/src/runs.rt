@@ -75,12 +75,12 @@ fn called_over(
     line: &str,
     shelf: &mut MemShelf,
     unseen: &[u64],
-    untold: &[u64],
+    unreported: &[u64],
     nvm: &mut MemNvm,
 ) -> Given {
     let arguments = arguments_of(rt, alloc, line);
     let mut terminal = sink(rt, alloc, unseen);
-    let mut report = sink(rt, alloc, untold);
+    let mut report = sink(rt, alloc, unreported);
     let answer = thynvm(alloc, &arguments, shelf, &mut terminal, &mut report, nvm);
     Given {
         status: answer.status,
@@ -96,7 +96,7 @@ fn called(rt: &impl Abort, alloc: Global, line: &str, shelf: &mut MemShelf) -> G
 }
 
 /// Calls with the arguments of a line over this shelf, and over a report that fails at this call.
-fn called_untold(
+fn called_unreported(
     rt: &impl Abort,
     alloc: Global,
     line: &str,
@@ -127,8 +127,8 @@ fn check(rt: &impl Abort, holds: bool, at: &str) {
 /// Compares what a call gave with a status, what the terminal takes, and a report.
 fn compare(rt: &impl Abort, at: &str, given: &Given, status: u8, printed: &str, report: &str) {
     let is_shown = given.printed.as_slice() == printed.as_bytes();
-    let is_told = given.report.as_slice() == report.as_bytes();
-    check(rt, given.status == status && is_shown && is_told, at);
+    let is_reported = given.report.as_slice() == report.as_bytes();
+    check(rt, given.status == status && is_shown && is_reported, at);
 }
 
 /// Calls over this shelf and compares status and report; nothing is printed.
@@ -282,9 +282,9 @@ static BEFORE: [&str; 4] = [
 ];
 
 /// Runs it with a report that fails at this call, the first being 1, and compares the lines before.
-fn expect_untold(rt: &impl Abort, alloc: Global, failing: u64, before: &str) {
+fn expect_unreported(rt: &impl Abort, alloc: Global, failing: u64, before: &str) {
     let line = "thynvm run F --pages 8";
-    let given = called_untold(rt, alloc, line, &mut shelf(rt, alloc, &[]), failing);
+    let given = called_unreported(rt, alloc, line, &mut shelf(rt, alloc, &[]), failing);
     compare(rt, line, &given, 6, "", before);
 }
 
@@ -292,7 +292,7 @@ fn expect_untold(rt: &impl Abort, alloc: Global, failing: u64, before: &str) {
 fn a_report_that_fails_has_taken_the_lines_before(rt: HostRuntime) {
     let alloc = rt.alloc();
     for (k, before) in BEFORE.iter().enumerate() {
-        expect_untold(&rt, alloc, k as u64 + 1, before);
+        expect_unreported(&rt, alloc, k as u64 + 1, before);
     }
 }
 
@@ -330,9 +330,13 @@ static MODIFYING: [&str; 3] = [
 ];
 
 /// Calls over the files of these tests, and compares status and report but for what is overlapped.
-fn expect_told(rt: &impl Abort, alloc: Global, line: &str, report: &str) {
+fn expect_reported(rt: &impl Abort, alloc: Global, line: &str, report: &str) {
     let given = ran(rt, alloc, line);
-    check(rt, given.status == 0 && tells(&given.report, report), line);
+    check(
+        rt,
+        given.status == 0 && reports(&given.report, report),
+        line,
+    );
 }
 
 #[test]
@@ -347,7 +351,7 @@ fn a_program_that_modifies_itself_over_an_epochs_end_exits_with_9(rt: HostRuntim
          commit 3\n\
          exit 9 at 8\n";
     for line in &MODIFYING {
-        expect_told(&rt, alloc, line, report);
+        expect_reported(&rt, alloc, line, report);
     }
 }
 
@@ -368,7 +372,7 @@ fn without_overlapped(line: &str) -> &str {
 }
 
 /// Whether a report has these lines, in which the lines of commits end with the epoch.
-fn tells(report: &[u8], wanted: &str) -> bool {
+fn reports(report: &[u8], wanted: &str) -> bool {
     let Ok(report) = std::str::from_utf8(report) else {
         return false;
     };

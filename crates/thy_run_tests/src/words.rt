@@ -3,8 +3,8 @@
 use crate::support::expect::{expect, expect_at};
 use std::alloc::Global;
 use std::process::Abort;
+use thy_arguments::{Command, Job, WordsError, settings};
 use thy_base::{Config, SchemeName};
-use thy_words::{Command, Job, WordsError, settings};
 
 /// Arguments of invalid usage.
 static USAGE: [&str; 56] = [
@@ -160,14 +160,14 @@ const DEFAULTS: [u64; 14] = [
 type Asked<'a> = (&'a str, &'a str, u64);
 
 /// The name of a command's input, the name under which it saves, and whether it reports digests.
-type Told<'a> = (Option<&'a str>, Option<&'a str>, bool);
+type Expected<'a> = (Option<&'a str>, Option<&'a str>, bool);
 
 /// What a row says of a command and its configuration: the numbers in the order of the fields, the cuts and
 /// the tears.
 type Row = (
     &'static str,
     Asked<'static>,
-    Told<'static>,
+    Expected<'static>,
     [u64; 14],
     &'static [u64],
     &'static [u64],
@@ -460,11 +460,11 @@ fn command_of(rt: &impl Abort, alloc: Global, row: &str) -> Command {
 
 /// Compares a command with what a row says of it.
 fn compare(rt: &impl Abort, command: &Command, row: &Row) {
-    let (words, want, told, numbers, cuts, tears) = row;
+    let (words, want, reported, numbers, cuts, tears) = row;
     expect_at(rt, asked(command), *want, *words);
     let job = job(command).expect(rt, "a command that runs");
     let found = (text(&job.input), text(&job.save), job.digest);
-    expect_at(rt, found, *told, *words);
+    expect_at(rt, found, *reported, *words);
     expect_at(rt, &numbers_of(&job.config), numbers, *words);
     expect_at(rt, job.config.cuts.as_slice(), *cuts, *words);
     expect_at(rt, job.config.tears.as_slice(), *tears, *words);

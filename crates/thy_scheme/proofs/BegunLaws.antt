@@ -22,7 +22,7 @@ use Rattle.thy_hart.proofs.FollowLaws.{crosses-on}
 use Rattle.thy_block.specs.declared.span.Span.{Span}
 use Rattle.thy_view.specs.Origin.{Origin, at}
 use Rattle.thy_view.specs.Stores.{stored_by}
-use Rattle.thy_view.specs.Turn.{front_of}
+use Rattle.thy_view.specs.NextActor.{front_of}
 use Rattle.thy_scheme.specs.Scheme.{SchemeOf}
 use Rattle.thy_scheme.specs.Machine.{Machine, cpu_fronted, processor_of, moment_of, memory_of, moves_begun}
 use Rattle.thy_scheme.specs.Sound.{OpenFor, OpenNow, IsToWrite, SoundRun}

@@ -7,7 +7,7 @@ use Rattle.thy_block.specs.Device.{Device}
 use Rattle.thy_block.specs.Marks.{mark}
 use Rattle.thy_block.proofs.RangeLemmas.{epoch_least}
 use Rattle.thy_block.proofs.MemoryLaws.{length-console_bytes}
-use Rattle.thy_hart.specs.HartState.{new_hart, reserved}
+use Rattle.thy_hart.specs.HartState.{new_hart, secured}
 use Rattle.thy_hart.specs.Laws.{IsSized, Follows}
 use Rattle.thy_hart.specs.Moments.{moment}
 use Rattle.thy_hart.specs.OneStep.{current}
@@ -212,7 +212,7 @@ module _ {S : Type 0} (K : SchemeOf S) (o : Origin) (cycles : ℕ) (m : Machine 
       let blank = blank_on in
       let step : CoreStep o (K.boot_view o m.scheme n) DidBoot (K.boot_view o t new) = (boots_phase o (K.boot_view o m.scheme n) shown, b.answers.1) in
       let none = boots_spent o (K.boot_view o t new) (at.lawful.boot_holds o t new (record { boots = b.answers.0; up = up })).shown in
-      let unreserved : reserved m.hart.hand ≡ 0 = ap reserved blank.hand in
+      let unsecured : secured m.hart.hand ≡ 0 = ap secured blank.hand in
       let clean = blank.clean in
       record {
         at_next = record {
@@ -235,7 +235,7 @@ module _ {S : Type 0} (K : SchemeOf S) (o : Origin) (cycles : ℕ) (m : Machine 
           queues = b.queue;
           boots = λ boot. b.nearer;
           strides = refl;
-          entries = omega (arith, unreserved, clean);
+          entries = omega (arith, unsecured, clean);
         };
         works = record { done = tt; left = booting_no_more K DidBoot (in_boot o m) (after_boot o GoesOn t (in_boot o m)) n new };
         dirties = inl (uses_none K o (in_boot o m) (after_boot o GoesOn t (in_boot o m)) n new (omega arith) refl (λ run. absurd (not_behind run)));

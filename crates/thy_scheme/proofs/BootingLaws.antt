@@ -3,7 +3,7 @@ use Rattle.std.proofs.Common.{◌≡◌, ◌≢◌, ℕ, ◌+◌, ◌≤◌, tru
 use Rattle.thy_block.specs.declared.mark.Mark.{Mark}
 use Rattle.thy_block.specs.Device.{Device}
 use Rattle.thy_cache.specs.Contents.{dirty_count}
-use Rattle.thy_hart.specs.HartState.{reserved}
+use Rattle.thy_hart.specs.HartState.{secured}
 use Rattle.thy_view.specs.declared.did.Did.{Did}
 use Rattle.thy_view.specs.declared.did.Did.TheVariants.{Moved}
 use Rattle.thy_view.specs.declared.view.Phase.TheVariants.{Boot}
@@ -76,7 +76,7 @@ simulates-booting {S} K o cycles did m n t new at-m phase other up boots small s
     let new-view = view-boot K o (after_drain t m) new phase in
     let blank = (sound-boot K o cycles m n at-m.sound phase).blank in
     let none = uncounted o (K.boot_view o t new) (at-m.lawful.boot_holds o t new (record { boots = boots; up = up })).shown in
-    let clean : dirty_count m.cache + reserved m.hart.hand ≤ K.free t = omega (arith, blank.clean, ap reserved blank.hand) in
+    let clean : dirty_count m.cache + secured m.hart.hand ≤ K.free t = omega (arith, blank.clean, ap secured blank.hand) in
     let was = uncounted o (K.boot_view o m.scheme n) (holds-boot K at-m.lawful o cycles m n at-m.sound phase).shown in
     let in_boot : is_boot (view_of K o m n).phase ≡ true = ap (λ (v : View). is_boot v.phase) old-view ∙ ap is_boot was.phase in
     record {

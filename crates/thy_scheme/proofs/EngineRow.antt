@@ -16,7 +16,7 @@ use Rattle.thy_view.specs.Action.{Acts}
 use Rattle.thy_view.specs.CoreStep.{phase_at, busier, CoreStep}
 use Rattle.thy_view.specs.Dram.{ActsOnDram, WritesBlock}
 use Rattle.thy_view.specs.Origin.{Origin, at, runs_at}
-use Rattle.thy_view.specs.Turn.{has_stopped}
+use Rattle.thy_view.specs.NextActor.{has_stopped}
 use Rattle.thy_view.specs.Work.{adds_copies, GetsDone}
 use Rattle.thy_scheme.specs.SchemeStore.{held_by_scheme}
 use Rattle.thy_scheme.specs.Scheme.{SchemeOf}

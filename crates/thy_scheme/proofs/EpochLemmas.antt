@@ -4,7 +4,7 @@ use Rattle.std.proofs.lemmas.Bool.{eqb-true, eq-eqb, cases_eq}
 use Rattle.thy_block.specs.declared.cause.EndCause.TheVariants.{Length, Ended}
 use Rattle.thy_hart.specs.Epoch.{over_after, HasRetired}
 use Rattle.thy_hart.specs.declared.hand.Hand.{Hand}
-use Rattle.thy_hart.specs.declared.hand.Hand.TheVariants.{Nothing, Reading, Reserving, Writing, Retiring}
+use Rattle.thy_hart.specs.declared.hand.Hand.TheVariants.{Nothing, Reading, Securing, Writing, Retiring}
 use Rattle.thy_hart.specs.HartState.{blocks_of, next_block}
 use Rattle.thy_block.specs.declared.span.Span.{Span}
 use Rattle.thy_block.specs.Spans.{rest_of}
@@ -35,7 +35,7 @@ two_blocks to = by_len ((rest_of to).len == 0)
 few_behind : (h : Hand) → left_behind h ≤ 13
 few_behind Nothing = omega arith
 few_behind (Reading e from to) = omega (arith, two_blocks from)
-few_behind (Reserving e to) = omega (arith, two_blocks to)
+few_behind (Securing e to) = omega (arith, two_blocks to)
 few_behind (Writing e to done) = omega (arith, two_blocks to)
 few_behind (Retiring e wrote) = omega arith
 

@@ -15,7 +15,7 @@ use Rattle.thy_view.specs.declared.view.View.{View}
 use Rattle.thy_view.specs.Action.{Action, Rest, ReadAt, WriteAt, Barrier as ActBarrier, Drain, Asks, IsAccess, is_commit_write, doubt_after_fault}
 use Rattle.thy_view.specs.Origin.{Origin}
 use Rattle.thy_view.specs.Safe.{Safe}
-use Rattle.thy_view.specs.Turn.{has_stopped, waits}
+use Rattle.thy_view.specs.NextActor.{has_stopped, waits}
 use Rattle.thy_view.specs.Views.{doubt_of}
 use Rattle.thy_view.proofs.ActionLemmas.{asks_by}
 use Rattle.thy_view.proofs.SafeLemmas.{Safe-failed}
@@ -93,7 +93,7 @@ module _ {S : Type 0} (K : SchemeOf S) (o : Origin) (cycles : ℕ) (m : Machine 
   stands : Stands K o m.marks m.scheme n
   stands = record { sound = run_is.checkpoints; up = at.sound.up }
 
-  -- the hart may store where it doesn't wait
+  -- the hart may store if it doesn't wait
   free_to_run : waits o (view_of K o m n) (pressure_of K m) ≡ false → is_free_to_run K m.scheme ≡ true
   free_to_run calm =
       let plain : waits o (run_view m) (pressure_of K m) ≡ false = subst (λ v. waits o v (pressure_of K m) ≡ false) view_is calm in

@@ -58,7 +58,7 @@ lessens CopyFirst c old new dirty more open_for store count =
       nearer = omega (arith, owed, count);
     }
 
--- the cycles of flushes and merges that are left, where a line was dirty
+-- the cycles of flushes and merges that are left, if a line was dirty
 flushes_some : (most dirty merges : ℕ) → 0 < dirty → flushes_left most dirty merges ≡ dirty + most
 flushes_some most dirty merges some =
     ap (λ (b : Bool). if b then merges else dirty + most) (ne_eqb dirty 0 (λ none. absurd (omega (arith, some, none))))

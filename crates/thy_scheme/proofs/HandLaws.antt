@@ -1,4 +1,4 @@
--- Before room is reserved, what the instruction in hand is to write is what the plain machine's writes.
+-- Before room is secured, what the instruction in hand is to write is what the plain machine's writes.
 use Rattle.std.proofs.Common.{◌≡◌, ℕ, ◌+◌, ◌-◌, ◌==◌, Bool, true, false, if◌then◌else◌, List, length, refl, sym, ◌∙◌, ap, subst}
 use Rattle.thy_block.specs.declared.block.Block.{Block}
 use Rattle.thy_block.specs.declared.parameters.Parameters.{Parameters}
@@ -16,9 +16,9 @@ use Rattle.thy_isa.proofs.BlockLaws.{effect_in-flat}
 use Rattle.thy_cache.specs.Contents.{dirty_count}
 use Rattle.thy_hart.specs.Epoch.{exhausted}
 use Rattle.thy_hart.specs.declared.hand.Hand.{Hand}
-use Rattle.thy_hart.specs.declared.hand.Hand.TheVariants.{Nothing, Reading, Reserving, Writing, Retiring}
+use Rattle.thy_hart.specs.declared.hand.Hand.TheVariants.{Nothing, Reading, Securing, Writing, Retiring}
 use Rattle.thy_hart.specs.HartState.{HartState, blocks_of, has_written}
-use Rattle.thy_hart.specs.Outcomes.{Given, begun, written_on, fetched, is_short, dropped, room_reserved, acted_by}
+use Rattle.thy_hart.specs.Outcomes.{Given, begun, written_on, fetched, is_short, dropped, room_secured, acted_by}
 use Rattle.thy_hart.specs.Moments.{Moment, memory_of, brings_line}
 use Rattle.thy_hart.specs.OneStep.{current, hart_after}
 use Rattle.thy_hart.specs.Laws.{IsSized, Follows}
@@ -78,7 +78,7 @@ begun_writes : (stored : Span) (e : Effect) (from to : Span) → to ≡ stored �
 unfolding begun
 begun_writes stored e from to is = by_len (from.len == 0) (to.len == 0) refl
   where
-    by_len : (a b : Bool) → (to.len == 0) ≡ b → IsToWrite stored (if a then (if b then Retiring e false else Reserving e to) else Reading e from to)
+    by_len : (a b : Bool) → (to.len == 0) ≡ b → IsToWrite stored (if a then (if b then Retiring e false else Securing e to) else Reading e from to)
     by_len true true none = tt
     by_len true false some = (is, some)
     by_len false b some = is
@@ -90,10 +90,10 @@ fetched_writes stored input memory h is =
     let moves = moves_of h.cpu.regs (calls_in h.geometry h.cpu (length input)) e in
     begun_writes stored e moves.from moves.to (sym is)
 
-reserved_writes : (stored : Span) (free : ℕ) (way : Bool) (dirty : ℕ) (e : Effect) (to : Span) (h : HartState) → IsToWrite stored h.hand
-    → IsToWrite stored (room_reserved free way dirty e to h).hand
-unfolding room_reserved
-reserved_writes stored free way dirty e to h w = by_room (is_short free dirty to) way
+secured_writes : (stored : Span) (free : ℕ) (way : Bool) (dirty : ℕ) (e : Effect) (to : Span) (h : HartState) → IsToWrite stored h.hand
+    → IsToWrite stored (room_secured free way dirty e to h).hand
+unfolding room_secured
+secured_writes stored free way dirty e to h w = by_room (is_short free dirty to) way
   where
     by_room : (short under : Bool) → IsToWrite stored (if short then (if under then h else dropped (exhausted free dirty (blocks_of to) h.epoch) h) else record h { hand = Writing e to 0 }).hand
     by_room true true = w
@@ -112,8 +112,8 @@ acted_writes : (stored : Span) (g : Given) (dirty : ℕ) (memory : List Block) (
     → (hand ≡ Nothing → stored ≡ stored_in g.input h memory) → IsToWrite stored (acted_by g dirty memory h hand).hand
 acted_writes stored g dirty memory h Nothing is w next = fetched_writes stored g.input memory h (next refl)
 acted_writes stored g dirty memory h (Reading e from to) is w next = begun_writes stored e (rest_of from) to w
-acted_writes stored g dirty memory h (Reserving e to) is w next =
-    reserved_writes stored g.free g.under_way dirty e to h (subst (IsToWrite stored) (sym is) w)
+acted_writes stored g dirty memory h (Securing e to) is w next =
+    secured_writes stored g.free g.under_way dirty e to h (subst (IsToWrite stored) (sym is) w)
 acted_writes stored g dirty memory h (Writing e to done) is w next = written_writes stored e (rest_of to) (done + head_len to)
 acted_writes stored g dirty memory h (Retiring e wrote) is w next = tt
 

@@ -12,10 +12,10 @@ use Rattle.thy_isa.specs.declared.state.Effect.{Effect}
 use Rattle.thy_isa.specs.OnBlocks.{setting_for}
 use Rattle.thy_isa.specs.Step.{state_with, fronted, is_running, step}
 use Rattle.thy_hart.specs.declared.hand.Hand.{Hand}
-use Rattle.thy_hart.specs.declared.hand.Hand.TheVariants.{Nothing, Reading, Reserving, Writing, Retiring}
+use Rattle.thy_hart.specs.declared.hand.Hand.TheVariants.{Nothing, Reading, Securing, Writing, Retiring}
 use Rattle.thy_hart.specs.declared.hand.HartStep.{HartStep}
 use Rattle.thy_hart.specs.declared.hand.HartStep.TheVariants.{Moved, Retired, Waiting, Over}
-use Rattle.thy_hart.specs.HartState.{HartState, reserved, has_reserved, blocks_of}
+use Rattle.thy_hart.specs.HartState.{HartState, secured, has_secured, blocks_of}
 use Rattle.thy_hart.specs.Outcomes.{Given, given}
 use Rattle.thy_hart.specs.Moments.{Moment, moment, brings_line, left_behind, moves_left}
 use Rattle.thy_hart.specs.OneStep.{current, ComesNearer, HasCome, answer_to}
@@ -30,8 +30,8 @@ use Rattle.thy_view.specs.Dram.{WritesBlock}
 use Rattle.thy_view.specs.Kind.{without_memory}
 use Rattle.thy_view.specs.Origin.{Origin, turn_at, at, runs_at}
 use Rattle.thy_view.specs.Pace.{Gauge}
-use Rattle.thy_view.specs.Stores.{blocks_in, stored_by, UsesEntries, ReservesEntries, Dirties}
-use Rattle.thy_view.specs.Turn.{Advances, Shortage, HandsOn, begun_by, over_by}
+use Rattle.thy_view.specs.Stores.{blocks_in, stored_by, UsesEntries, SecuresEntries, Dirties}
+use Rattle.thy_view.specs.NextActor.{Advances, Shortage, HandsOn, begun_by, over_by}
 use Rattle.thy_view.specs.Work.{MovesOn}
 use Rattle.thy_scheme.specs.Scheme.{SchemeOf}
 use Rattle.thy_scheme.specs.Calls.{owed_in}
@@ -47,7 +47,7 @@ use Rattle.thy_scheme.proofs.EpochLemmas.{retired-on, few-begun}
 use Rattle.thy_scheme.proofs.HandLaws.{hand_writes}
 use Rattle.thy_scheme.proofs.WorkLaws.{moves_over}
 use Rattle.thy_scheme.proofs.Facts.{view-run, sound-run, holds-run, is-going}
-use Rattle.thy_scheme.proofs.ToldLemmas.{shortage, IsRetired, KeepsEntries, TakesEntries, EntriesBy, IsMoved, IsExhausted, IsWaiting, Told, reserving-brings, told}
+use Rattle.thy_scheme.proofs.StatedLemmas.{shortage, IsRetired, KeepsEntries, TakesEntries, EntriesBy, IsMoved, IsExhausted, IsWaiting, Stated, securing-brings, stated}
 use Rattle.thy_scheme.proofs.HartRow.{hart_on, IsOn, is-on, IsNext, simulates-next}
 use Rattle.thy_scheme.proofs.FlushRow.{flushes_most}
 
@@ -69,7 +69,7 @@ left-over : {S : Type 0} (K : SchemeOf S) (p : Parameters) (m : Machine S) (n : 
     → cycles_left K p m n ≡ K.engine_left m.scheme + K.promotions_left m.scheme + owed_in K m.scheme n + flushes_left (K.most_merges p) (dirty_count m.cache) (K.merges_left m.scheme)
 left-over K p m n cause e = ap (λ x. K.engine_left m.scheme + K.promotions_left m.scheme + owed_in K m.scheme n + hart_left K p x m n) e
 
--- the instruction's, where it moved
+-- the instruction's, if it moved
 instructions-moved : (before now : Option ℕ) (old new : Moment) → new.hart.epoch ≡ old.hart.epoch → moves_begun now (moves_left new) + 1 ≤ moves_begun before (moves_left old)
     → instructions_left now new + 1 ≤ instructions_left before old
 instructions-moved before now old new e l =
@@ -94,7 +94,7 @@ instructions-retired before now old new b e l =
 is-short-of : (free dirty : ℕ) (h : Hand) (s : Shortage) → short_of free dirty h ≡ Some s → (s.free ≡ free) × (s.dirty ≡ dirty)
 is-short-of free dirty Nothing s e = absurd (cc)
 is-short-of free dirty (Reading x from to) s e = absurd (cc)
-is-short-of free dirty (Reserving x to) s e = by_room (nat_lt free (dirty + blocks_of to)) e
+is-short-of free dirty (Securing x to) s e = by_room (nat_lt free (dirty + blocks_of to)) e
   where
     by_room : (b : Bool) → (if b then Some (shortage free dirty (blocks_of to)) else None) ≡ Some s → (s.free ≡ free) × (s.dirty ≡ dirty)
     by_room true e = let is : shortage free dirty (blocks_of to) ≡ s = cc in (ap (λ (x : Shortage). x.free) (sym is), ap (λ (x : Shortage). x.dirty) (sym is))
@@ -106,23 +106,23 @@ is-short-of free dirty (Retiring x wrote) s e = absurd (cc)
 fresh-short : (free dirty : ℕ) (h : Hand) (s : Shortage) (d : ℕ) (r : Bool) → short_of free dirty h ≡ Some s → IsFresh h d r → (d ≡ 0) × (r ≡ true)
 fresh-short free dirty Nothing s d r e f = f
 fresh-short free dirty (Reading x from to) s d r e f = f
-fresh-short free dirty (Reserving x to) s d r e f = f
+fresh-short free dirty (Securing x to) s d r e f = f
 fresh-short free dirty (Writing x to done) s d r e f = absurd (cc)
 fresh-short free dirty (Retiring x wrote) s d r e f = absurd (cc)
 
--- a hand that is short of entries has nothing reserved
-short-reserved : (free dirty : ℕ) (h : Hand) (s : Shortage) → short_of free dirty h ≡ Some s → reserved h ≡ 0
-short-reserved free dirty Nothing s e = refl
-short-reserved free dirty (Reading x from to) s e = refl
-short-reserved free dirty (Reserving x to) s e = refl
-short-reserved free dirty (Writing x to done) s e = absurd (cc)
-short-reserved free dirty (Retiring x wrote) s e = refl
+-- a hand that is short of entries has nothing secured
+short-secured : (free dirty : ℕ) (h : Hand) (s : Shortage) → short_of free dirty h ≡ Some s → secured h ≡ 0
+short-secured free dirty Nothing s e = refl
+short-secured free dirty (Reading x from to) s e = refl
+short-secured free dirty (Securing x to) s e = refl
+short-secured free dirty (Writing x to done) s e = absurd (cc)
+short-secured free dirty (Retiring x wrote) s e = refl
 
 -- a hand that is short of entries has a move left
 short-moves : (free dirty : ℕ) (h : Hand) (s : Shortage) → short_of free dirty h ≡ Some s → 1 ≤ left_behind h
 short-moves free dirty Nothing s e = absurd (cc)
 short-moves free dirty (Reading x from to) s e = absurd (cc)
-short-moves free dirty (Reserving x to) s e = omega arith
+short-moves free dirty (Securing x to) s e = omega arith
 short-moves free dirty (Writing x to done) s e = absurd (cc)
 short-moves free dirty (Retiring x wrote) s e = absurd (cc)
 
@@ -191,25 +191,25 @@ moves-on old new W on = elim on as (λ _. new.moves ≤ old.moves) [
 
 -- ---- the lines that are dirty
 
--- once an instruction has ended nothing is reserved
+-- once an instruction has ended nothing is secured
 ended-entries : {S : Type 0} (K : SchemeOf S) (m : Machine S) (n : Device) (hart lap : ℕ) (last : Option ℕ) (h : HartState) (c : Contents) (t : S) (new : Device)
-    → h.hand ≡ Nothing → dirty_count c ≤ dirty_count m.cache + (reserved m.hart.hand - reserved h.hand)
-    → dirty_count c + K.free m.scheme ≤ dirty_count m.cache + (reserved m.hart.hand - reserved h.hand) + K.free t
+    → h.hand ≡ Nothing → dirty_count c ≤ dirty_count m.cache + (secured m.hart.hand - secured h.hand)
+    → dirty_count c + K.free m.scheme ≤ dirty_count m.cache + (secured m.hart.hand - secured h.hand) + K.free t
     → UsesEntries (run_view m) (pressure_of K m) (pressure_of K (hart_on hart true lap last h c t m)) (gauge_of K m n) (gauge_of K (hart_on hart true lap last h c t m) new)
 ended-entries K m n hart lap last h c t new gone tidy room =
-    let none : reserved h.hand ≡ 0 = ap reserved gone in
+    let none : secured h.hand ≡ 0 = ap secured gone in
     record { entries = omega (arith, none); lines = omega (arith, none, tidy); room = λ run. omega (arith, none, room); once = λ some. absurd (some refl) }
 
 -- what is to be written next lies in the same number of blocks as what the plain machine's instruction stores
-blocks-stored : (stored : Span) (e : Effect) (to : Span) (hand : Hand) → IsToWrite stored hand → hand ≡ Reserving e to → blocks_of to ≡ blocks_in stored
+blocks-stored : (stored : Span) (e : Effect) (to : Span) (hand : Hand) → IsToWrite stored hand → hand ≡ Securing e to → blocks_of to ≡ blocks_in stored
 blocks-stored stored e to hand writes is =
-    let w : IsToWrite stored (Reserving e to) = subst (IsToWrite stored) is writes in
+    let w : IsToWrite stored (Securing e to) = subst (IsToWrite stored) is writes in
     sym (ap (λ (b : Bool). if b then 0 else blocks_of to) w.1) ∙ ap blocks_in w.0
 
 module _ {S : Type 0} (K : SchemeOf S) (o : Origin) (m : Machine S) (n : Device) (hart lap : ℕ) (last : Option ℕ) (h : HartState) (c : Contents) (t : S) (new : Device)
-    (tidy : dirty_count c ≤ dirty_count m.cache + (reserved m.hart.hand - reserved h.hand))
-    (room : dirty_count c + K.free m.scheme ≤ dirty_count m.cache + (reserved m.hart.hand - reserved h.hand) + K.free t)
-    (left : (e : Effect) (to : Span) → m.hart.hand ≡ Reserving e to → t ≡ m.scheme) where
+    (tidy : dirty_count c ≤ dirty_count m.cache + (secured m.hart.hand - secured h.hand))
+    (room : dirty_count c + K.free m.scheme ≤ dirty_count m.cache + (secured m.hart.hand - secured h.hand) + K.free t)
+    (left : (e : Effect) (to : Span) → m.hart.hand ≡ Securing e to → t ≡ m.scheme) where
   -- an instruction that goes on
   goes-entries : KeepsEntries m.hart.hand h.hand
       → UsesEntries (run_view m) (pressure_of K m) (pressure_of K (hart_on hart false lap last h c t m)) (gauge_of K m n) (gauge_of K (hart_on hart false lap last h c t m) new)
@@ -217,26 +217,26 @@ module _ {S : Type 0} (K : SchemeOf S) (o : Origin) (m : Machine S) (n : Device)
       let less = kept.entries in
       record { entries = omega (arith, less); lines = omega (arith, less, tidy); room = λ run. omega (arith, less, room); once = λ some. kept.once }
 
-  -- an instruction that reserves entries is begun
+  -- an instruction that secures entries is begun
   takes-entries : ((b : ℕ) → m.begun ≡ Some b → b ≡ hart) → (m.begun ≡ None → m.hart.hand ≡ Nothing)
       → IsToWrite (stored_by o (fronted hart (at o m.hart.cpu.count))) m.hart.hand → TakesEntries m.hart.hand h.hand
-      → ReservesEntries o (run_view m) (pressure_of K m) (pressure_of K (hart_on hart false lap last h c t m)) (gauge_of K m n) (gauge_of K (hart_on hart false lap last h c t m) new)
+      → SecuresEntries o (run_view m) (pressure_of K m) (pressure_of K (hart_on hart false lap last h c t m)) (gauge_of K m n) (gauge_of K (hart_on hart false lap last h c t m) new)
   takes-entries own rests writes taken =
-      let zero : reserved m.hart.hand ≡ 0 = ap reserved taken.was in
+      let zero : secured m.hart.hand ≡ 0 = ap secured taken.was in
       record {
         hart = hart;
         is_begun = begun_is m.begun refl;
         none = omega (arith, zero);
         entries = ap (λ k. dirty_count c + k)
-            (ap reserved taken.becomes ∙ blocks-stored (stored_by o (fronted hart (at o m.hart.cpu.count))) taken.effect taken.span m.hart.hand writes taken.was);
+            (ap secured taken.becomes ∙ blocks-stored (stored_by o (fronted hart (at o m.hart.cpu.count))) taken.effect taken.span m.hart.hand writes taken.was);
         lines = omega (arith, zero, tidy);
         free = omega (arith, ap K.free (left taken.effect taken.span taken.was));
-        had_not = ap has_reserved taken.was;
-        has = ap has_reserved taken.becomes;
+        had_not = ap has_secured taken.was;
+        has = ap has_secured taken.becomes;
       }
     where
       begun_is : (begun : Option ℕ) → m.begun ≡ begun → m.begun ≡ Some hart
-      begun_is None is = absurd (let no : Nothing ≡ Reserving taken.effect taken.span = sym (rests is) ∙ taken.was in cc)
+      begun_is None is = absurd (let no : Nothing ≡ Securing taken.effect taken.span = sym (rests is) ∙ taken.was in cc)
       begun_is (Some b) is = is ∙ ap Some (own b is)
 
   -- what a step that moves on makes of them
@@ -274,8 +274,8 @@ moved-next K o cycles m n hart h c t new at-m turn hs mv =
     let over : h.epoch.over ≡ None = ap (λ (x : Epoch). x.over) mv.epoch ∙ going.going in
     let writes = step-writes K o cycles m n hart h c t new Moved at-m turn hs in
     let done = moved-done K m n hart (m.lap + 0) m.last h c t new going.going over hs.asked on.up begun.moves w.nears in
-    let left : (e : Effect) (to : Span) → m.hart.hand ≡ Reserving e to → t ≡ m.scheme
-    = λ e to is. (hs.untouched (reserving-brings (moment_of K (begun_by_hart hart m) n) e to is)).0 in
+    let left : (e : Effect) (to : Span) → m.hart.hand ≡ Securing e to → t ≡ m.scheme
+    = λ e to is. (hs.untouched (securing-brings (moment_of K (begun_by_hart hart m) n) e to is)).0 in
     let f = follows-on (given o.input (K.free m.scheme) (K.under_way m.scheme)) (moment_of K (begun_by_hart hart m) n) (moment h c (held_by_scheme K t new)) Moved (fronted hart (at o m.hart.cpu.count))
     (ap is_running begun.status ∙ run.counted.running ∙ going.runs) w begun.follows in
     record {
@@ -298,7 +298,7 @@ moved-next K o cycles m n hart h c t new at-m turn hs mv =
       fresh =
           let old : m.hart.epoch.retired ≡ 0 → IsFresh m.hart.hand (dirty_count m.cache) (K.storeless m.scheme)
           = subst (λ x. StartsFresh x m.hart.epoch.retired m.hart.hand (dirty_count m.cache) (K.storeless m.scheme)) going.going run.paced.fresh in
-          let tidy : reserved m.hart.hand ≡ 0 → dirty_count c ≤ dirty_count m.cache = λ none. omega (arith, hs.tidy, none) in
+          let tidy : secured m.hart.hand ≡ 0 → dirty_count c ≤ dirty_count m.cache = λ none. omega (arith, hs.tidy, none) in
           subst (λ x. StartsFresh x h.epoch.retired h.hand (dirty_count c) (K.storeless t)) (sym over)
           (λ zero. mv.fresh (dirty_count m.cache) (dirty_count c) (K.storeless m.scheme) (K.storeless t) (old (sym (ap (λ (x : Epoch). x.retired) mv.epoch) ∙ zero)) tidy hs.rests);
       strides = λ idle ends. absurd (ends over);
@@ -385,9 +385,9 @@ exhausted-next K o cycles m n hart h c t new free dd need at-m turn hs ex =
           = subst (λ x. StartsFresh x m.hart.epoch.retired m.hart.hand (dirty_count m.cache) (K.storeless m.scheme)) going.going run.paced.fresh in
           let was = old (sym (ap (λ (x : Epoch). x.retired) ex.epoch) ∙ zero) in
           let clean = fresh-short (K.free m.scheme) (dirty_count m.cache) m.hart.hand (shortage free dd need) (dirty_count m.cache) (K.storeless m.scheme) ex.short was in
-          let unreserved = short-reserved (K.free m.scheme) (dirty_count m.cache) m.hart.hand (shortage free dd need) ex.short in
+          let unsecured = short-secured (K.free m.scheme) (dirty_count m.cache) m.hart.hand (shortage free dd need) ex.short in
           let tidy = hs.tidy in
-          (omega (arith, tidy, unreserved, clean.0), hs.rests clean.0 ∙ clean.1));
+          (omega (arith, tidy, unsecured, clean.0), hs.rests clean.0 ∙ clean.1));
       strides = λ idle ends.
           (let some = exhausted-once K o cycles m n (dirty_count m.cache) free dd need at-m turn.goes ex.idle ex.short ex.is_short.short ex.is_short.most refl idle in
           omega (arith, some, ap (λ (x : Epoch). x.retired) ex.epoch));
@@ -497,12 +497,12 @@ retired-next K o cycles m n hart h c t new s over at-m turn hs rt come closed f 
 
 -- ---- by the answer
 
-told-step : {S : Type 0} (K : SchemeOf S) (g : Given) (m : Machine S) (n : Device) (h : HartState) (c : Contents) (t : S) (new : Device) (s : HartStep)
-    → HartCall K g m n h c t new s → Told s (brings_line (moment_of K m n)) g (dirty_count m.cache) m.hart h
-told-step K g m n h c t new s hs =
+stated-step : {S : Type 0} (K : SchemeOf S) (g : Given) (m : Machine S) (n : Device) (h : HartState) (c : Contents) (t : S) (new : Device) (s : HartStep)
+    → HartCall K g m n h c t new s → Stated s (brings_line (moment_of K m n)) g (dirty_count m.cache) m.hart h
+stated-step K g m n h c t new s hs =
     let old = moment_of K m n in
-    subst (λ x. Told x (brings_line old) g (dirty_count m.cache) m.hart h) (sym hs.is_step.says)
-    (subst (Told (answer_to g old) (brings_line old) g (dirty_count m.cache) m.hart) (sym hs.is_step.hart) (told g old))
+    subst (λ x. Stated x (brings_line old) g (dirty_count m.cache) m.hart h) (sym hs.is_step.says)
+    (subst (Stated (answer_to g old) (brings_line old) g (dirty_count m.cache) m.hart) (sym hs.is_step.hart) (stated g old))
 
 follows-step : {S : Type 0} (K : SchemeOf S) (o : Origin) (cycles : ℕ) (m : Machine S) (n : Device) (hart : ℕ) (h : HartState) (c : Contents) (t : S) (new : Device) (s : HartStep)
     → At K o cycles m n → HartAdvances K o m n hart → HartCall K (given o.input (K.free m.scheme) (K.under_way m.scheme)) (begun_by_hart hart m) n h c t new s
@@ -530,25 +530,25 @@ turn-here K o m n hart phase mine = subst (λ (v : View). turn_at o v.count ≡ 
 pub hart-simulates : {S : Type 0} (K : SchemeOf S) → HartSimulates K
 hart-simulates {S} K o cycles m n hart h c t new Moved at-m turn hs mine =
     simulates-next K o cycles m n hart false (m.lap + 0) m.last DidMove h c t new Moved at-m turn hs (inl refl)
-    (moved-next K o cycles m n hart h c t new at-m turn hs (told-step K (given o.input (K.free m.scheme) (K.under_way m.scheme)) (begun_by_hart hart m) n h c t new Moved hs))
+    (moved-next K o cycles m n hart h c t new at-m turn hs (stated-step K (given o.input (K.free m.scheme) (K.under_way m.scheme)) (begun_by_hart hart m) n h c t new Moved hs))
 hart-simulates {S} K o cycles m n hart h c t new Retired at-m turn hs mine =
     simulates-next K o cycles m n hart true (m.lap + 1) (Some hart) (DidRetire hart) h c t new Retired at-m turn hs (inr refl)
-    (retired-next K o cycles m n hart h c t new Retired None at-m turn hs (told-step K (given o.input (K.free m.scheme) (K.under_way m.scheme)) (begun_by_hart hart m) n h c t new Retired hs)
+    (retired-next K o cycles m n hart h c t new Retired None at-m turn hs (stated-step K (given o.input (K.free m.scheme) (K.under_way m.scheme)) (begun_by_hart hart m) n h c t new Retired hs)
     hs.is_step.leads hs.is_step.closed (follows-step K o cycles m n hart h c t new Retired at-m turn hs)
     (turn-here K o m n hart turn.goes.phase mine))
 hart-simulates {S} K o cycles m n hart h c t new Waiting at-m turn hs mine =
-    absurd (no-wait K o cycles m n hart at-m turn.goes (told-step K (given o.input (K.free m.scheme) (K.under_way m.scheme)) (begun_by_hart hart m) n h c t new Waiting hs))
+    absurd (no-wait K o cycles m n hart at-m turn.goes (stated-step K (given o.input (K.free m.scheme) (K.under_way m.scheme)) (begun_by_hart hart m) n h c t new Waiting hs))
 hart-simulates {S} K o cycles m n hart h c t new (Over Length) at-m turn hs mine =
     simulates-next K o cycles m n hart true (m.lap + 1) (Some hart) (DidRetire hart) h c t new (Over Length) at-m turn hs (inr refl)
-    (retired-next K o cycles m n hart h c t new (Over Length) (Some Length) at-m turn hs (told-step K (given o.input (K.free m.scheme) (K.under_way m.scheme)) (begun_by_hart hart m) n h c t new (Over Length) hs)
+    (retired-next K o cycles m n hart h c t new (Over Length) (Some Length) at-m turn hs (stated-step K (given o.input (K.free m.scheme) (K.under_way m.scheme)) (begun_by_hart hart m) n h c t new (Over Length) hs)
     hs.is_step.leads hs.is_step.closed (follows-step K o cycles m n hart h c t new (Over Length) at-m turn hs)
     (turn-here K o m n hart turn.goes.phase mine))
 hart-simulates {S} K o cycles m n hart h c t new (Over (Exhausted free dd need)) at-m turn hs mine =
     simulates-next K o cycles m n hart true (m.lap + 0) m.last DidMove h c t new (Over (Exhausted free dd need)) at-m turn hs (inl refl)
-    (exhausted-next K o cycles m n hart h c t new free dd need at-m turn hs (told-step K (given o.input (K.free m.scheme) (K.under_way m.scheme)) (begun_by_hart hart m) n h c t new (Over (Exhausted free dd need)) hs))
+    (exhausted-next K o cycles m n hart h c t new free dd need at-m turn hs (stated-step K (given o.input (K.free m.scheme) (K.under_way m.scheme)) (begun_by_hart hart m) n h c t new (Over (Exhausted free dd need)) hs))
 hart-simulates {S} K o cycles m n hart h c t new (Over Ended) at-m turn hs mine =
     simulates-next K o cycles m n hart true (m.lap + 1) (Some hart) (DidRetire hart) h c t new (Over Ended) at-m turn hs (inr refl)
-    (retired-next K o cycles m n hart h c t new (Over Ended) (Some Ended) at-m turn hs (told-step K (given o.input (K.free m.scheme) (K.under_way m.scheme)) (begun_by_hart hart m) n h c t new (Over Ended) hs)
+    (retired-next K o cycles m n hart h c t new (Over Ended) (Some Ended) at-m turn hs (stated-step K (given o.input (K.free m.scheme) (K.under_way m.scheme)) (begun_by_hart hart m) n h c t new (Over Ended) hs)
     hs.is_step.leads hs.is_step.closed (follows-step K o cycles m n hart h c t new (Over Ended) at-m turn hs)
     (turn-here K o m n hart turn.goes.phase mine))
 
@@ -557,7 +557,7 @@ hart-simulates {S} K o cycles m n hart h c t new (Over Ended) at-m turn hs mine 
 -- by the hand that a hart's step left in hand, and what it was short of
 hands-by : {S : Type 0} (K : SchemeOf S) (o : Origin) (cycles : ℕ) (m : Machine S) (n : Device) (hart : ℕ) (h : HartState) (c : Contents) (t : S) (new : Device) (s : HartStep)
     → At K o cycles m n → HartAdvances K o m n hart
-    → Told s (brings_line (moment_of K (begun_by_hart hart m) n)) (given o.input (K.free m.scheme) (K.under_way m.scheme)) (dirty_count m.cache) (begun_by_hart hart m).hart h
+    → Stated s (brings_line (moment_of K (begun_by_hart hart m) n)) (given o.input (K.free m.scheme) (K.under_way m.scheme)) (dirty_count m.cache) (begun_by_hart hart m).hart h
     → HandsOn (Advances hart) (hart_did hart s) (pressure_of K m) (pressure_of K (after_hart hart s h c t m))
 hands-by K o cycles m n hart h c t new Moved at-m turn mv =
     record { begun_is = ap (λ x. begun_by x hart) (sym mv.enough); last_is = refl }
@@ -571,4 +571,4 @@ hands-by K o cycles m n hart h c t new (Over Ended) at-m turn rt = record { begu
 pub hart-hands-on : {S : Type 0} (K : SchemeOf S) → HartHandsOn K
 hart-hands-on K o cycles m n hart h c t new s at-m turn hs =
     hands-by K o cycles m n hart h c t new s at-m turn
-    (told-step K (given o.input (K.free m.scheme) (K.under_way m.scheme)) (begun_by_hart hart m) n h c t new s hs)
+    (stated-step K (given o.input (K.free m.scheme) (K.under_way m.scheme)) (begun_by_hart hart m) n h c t new s hs)

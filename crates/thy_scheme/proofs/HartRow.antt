@@ -7,7 +7,7 @@ use Rattle.thy_dram.specs.Contents.{Contents as DramContents}
 use Rattle.thy_hart.specs.Epoch.{HasRetired}
 use Rattle.thy_hart.specs.declared.hand.Hand.TheVariants.{Nothing}
 use Rattle.thy_hart.specs.declared.hand.HartStep.{HartStep}
-use Rattle.thy_hart.specs.HartState.{HartState, reserved}
+use Rattle.thy_hart.specs.HartState.{HartState, secured}
 use Rattle.thy_hart.specs.Outcomes.{given}
 use Rattle.thy_hart.specs.Laws.{Follows}
 use Rattle.thy_view.specs.declared.did.Did.{Did}
@@ -20,7 +20,7 @@ use Rattle.thy_view.specs.Dram.{ActsOnDram, LeavesDram, WritesBlock}
 use Rattle.thy_view.specs.Origin.{Origin, at, runs_at}
 use Rattle.thy_view.specs.Pace.{KeepsPace}
 use Rattle.thy_view.specs.Stores.{stored_by, Dirties}
-use Rattle.thy_view.specs.Turn.{has_stopped, over_by}
+use Rattle.thy_view.specs.NextActor.{has_stopped, over_by}
 use Rattle.thy_view.specs.Work.{begins_instruction, GetsDone, Works}
 use Rattle.thy_view.proofs.ActionLemmas.{acts_by}
 use Rattle.thy_scheme.specs.Scheme.{SchemeOf}
@@ -58,9 +58,9 @@ pub record IsOn {S : Type 0} (K : SchemeOf S) (o : Origin) (m : Machine S) (n : 
   pub holds : RunHolds K o m.marks t new
   pub engine : K.engine_left t ≤ K.engine_left m.scheme
   pub sealed_storeless : K.sealed_storeless t ≡ K.sealed_storeless m.scheme
-  pub room : dirty_count c + reserved h.hand ≤ K.free t
-  -- no more entries are taken than lines go clean and reserved ones are used
-  pub taken : dirty_count c + K.free m.scheme ≤ dirty_count m.cache + (reserved m.hart.hand - reserved h.hand) + K.free t
+  pub room : dirty_count c + secured h.hand ≤ K.free t
+  -- no more entries are taken than lines go clean and secured ones are used
+  pub taken : dirty_count c + K.free m.scheme ≤ dirty_count m.cache + (secured m.hart.hand - secured h.hand) + K.free t
   pub geometry : h.geometry ≡ o.geometry
   pub owed_later : K.owed_later t ≤ K.owed_later m.scheme
   pub dram : ActsOnDram n new (K.dram m.scheme) (K.dram t)
@@ -87,7 +87,7 @@ is-on K o cycles m n hart h c t new s at turn hs =
     let going = is-going K o cycles m n at turn.goes in
     let up = l.ready_up t new w.ready.ready in
     let stays = l.stays_sound o m.marks m.scheme n t new (record { sound = run.checkpoints; up = at.sound.up }) going.free hs.stays in
-    let taken : dirty_count c + (K.holding m.scheme n).free ≤ dirty_count m.cache + (reserved m.hart.hand - reserved h.hand) + (K.holding t new).free = w.room in
+    let taken : dirty_count c + (K.holding m.scheme n).free ≤ dirty_count m.cache + (secured m.hart.hand - secured h.hand) + (K.holding t new).free = w.room in
     record {
       up = up;
       whole = l.ready_whole t new w.ready.ready;

@@ -7,7 +7,7 @@ use Rattle.thy_cache.specs.Contents.{Contents, dirty_count, KeepsSize}
 use Rattle.thy_cache.specs.Flat.{flat, Agrees}
 use Rattle.thy_hart.specs.Epoch.{HasRetired}
 use Rattle.thy_hart.specs.declared.hand.Hand.TheVariants.{Nothing}
-use Rattle.thy_hart.specs.HartState.{HartState, next_block, reserved}
+use Rattle.thy_hart.specs.HartState.{HartState, next_block, secured}
 use Rattle.thy_hart.specs.Laws.{Follows}
 use Rattle.thy_hart.specs.Moments.{IsOpenFor, moment}
 use Rattle.thy_isa.specs.Step.{fronted, state_with, is_running}
@@ -22,7 +22,7 @@ use Rattle.thy_view.specs.Dram.{LeavesDram, WritesBlock}
 use Rattle.thy_view.specs.Kind.{without_memory}
 use Rattle.thy_view.specs.Origin.{Origin, at, runs_at}
 use Rattle.thy_view.specs.Pace.{Queues, Strides as StridesOn}
-use Rattle.thy_view.specs.Turn.{front_of, over_by}
+use Rattle.thy_view.specs.NextActor.{front_of, over_by}
 use Rattle.thy_view.specs.Work.{adds_copies, GetsDone}
 use Rattle.thy_view.proofs.ActionLemmas.{acts_by}
 use Rattle.thy_scheme.specs.SchemeStore.{held_by_scheme}
@@ -187,8 +187,8 @@ module _ {S : Type 0} (K : SchemeOf S) (m next : Machine S) (n new : Device)
   dirty_kept : dirty_count next.cache ≡ dirty_count m.cache
   dirty_kept = ap dirty_count cache
 
-  reserved_kept : reserved next.hart.hand ≡ reserved m.hart.hand
-  reserved_kept = ap (λ (h : HartState). reserved h.hand) hart
+  secured_kept : secured next.hart.hand ≡ secured m.hart.hand
+  secured_kept = ap (λ (h : HartState). secured h.hand) hart
 
   -- the cache reads as memory over a store that holds the same
   pub held_kept : IsLawful K → HoldsSame (K.holding m.scheme n) (K.holding next.scheme new) → IsHeld K m n → IsHeld K next new
@@ -196,11 +196,11 @@ module _ {S : Type 0} (K : SchemeOf S) (m next : Machine S) (n new : Device)
       let before : (K.holding m.scheme n).free ≡ K.free m.scheme = l.free_is m.scheme n in
       let behind : (K.holding next.scheme new).free ≡ K.free next.scheme = l.free_is next.scheme new in
       let more : (K.holding m.scheme n).free ≤ (K.holding next.scheme new).free = same.free in
-      let room : dirty_count m.cache + reserved m.hart.hand ≤ K.free m.scheme = h.room in
+      let room : dirty_count m.cache + secured m.hart.hand ≤ K.free m.scheme = h.room in
       let page : Option ℕ = (K.holding next.scheme new).open_page in
       record {
         agree = subst (λ c. Agrees c (K.holding next.scheme new).blocks) (sym cache) (subst (Agrees m.cache) (sym same.blocks) h.agree);
-        room = omega (arith, before, behind, more, room, dirty_kept, reserved_kept);
+        room = omega (arith, before, behind, more, room, dirty_kept, secured_kept);
         opened = subst (λ (x : HartState). OpenNow x.epoch.over next.begun next.cache x page) (sym hart)
             (subst (λ b. OpenNow m.hart.epoch.over b next.cache m.hart page) (sym begun)
             (subst (λ c. OpenNow m.hart.epoch.over m.begun c m.hart page) (sym cache)

@@ -9,8 +9,8 @@ use Rattle.thy_cache.proofs.FlushLaws.{empty-agrees, empty-count, empty-flat}
 use Rattle.thy_cache.proofs.SizeLaws.{IsSized-empty}
 use Rattle.thy_block.specs.declared.span.Span.{Span}
 use Rattle.thy_hart.specs.declared.hand.Hand.{Hand}
-use Rattle.thy_hart.specs.declared.hand.Hand.TheVariants.{Nothing, Reading, Reserving, Writing, Retiring}
-use Rattle.thy_hart.specs.HartState.{blocks_of, reserved, has_reserved}
+use Rattle.thy_hart.specs.declared.hand.Hand.TheVariants.{Nothing, Reading, Securing, Writing, Retiring}
+use Rattle.thy_hart.specs.HartState.{blocks_of, secured, has_secured}
 use Rattle.thy_hart.specs.Moments.{Moment}
 use Rattle.thy_view.specs.declared.view.Phase.{Phase}
 use Rattle.thy_view.specs.declared.view.Phase.TheVariants.{Boot, Run, Halt}
@@ -18,7 +18,7 @@ use Rattle.thy_view.specs.declared.view.View.{View}
 use Rattle.thy_view.specs.Kind.{IsPoweredOn, IsUnderWay, IsShortage, IsPressed}
 use Rattle.thy_view.specs.Origin.{Origin}
 use Rattle.thy_view.specs.Stores.{blocks_in, stored_by, needs_at, CountsLines}
-use Rattle.thy_view.specs.Turn.{Shortage, front_of}
+use Rattle.thy_view.specs.NextActor.{Shortage, front_of}
 use Rattle.thy_view.specs.Views.{is_boot}
 use Rattle.thy_view.specs.Work.{IsWithin}
 use Rattle.thy_scheme.specs.Boots.{IsBootView}
@@ -85,7 +85,7 @@ powered_on K l o k m n s on empty =
     ap (λ p. own_left (most_spent K o.geometry) p (view_of K o m n) (gauge_of K m n)) phase in
     record {
       queued = omega (arith, none, queued);
-      clean = omega (arith, on.blank.clean, ap reserved on.blank.hand);
+      clean = omega (arith, on.blank.clean, ap secured on.blank.hand);
       boot_left = omega (arith, boots, left);
       ahead = omega (arith, none, queued, left, boots, own);
     }
@@ -94,28 +94,28 @@ powered_on K l o k m n s on empty =
 record IsShortOf (hand : Hand) (entries lines : ℕ) (stored : Span) (s : Shortage) : Type 0 where
   free : s.free ≡ entries
   dirty : s.dirty ≡ lines
-  had_not : has_reserved hand ≡ false
+  had_not : has_secured hand ≡ false
   need : s.need ≡ blocks_in stored
   short : s.free < s.dirty + s.need
 
 short_free : (free dirty : ℕ) (stored : Span) (hand : Hand) (s : Shortage) → IsToWrite stored hand → short_of free dirty hand ≡ Some s
-    → IsShortOf hand free (dirty + reserved hand) stored s
+    → IsShortOf hand free (dirty + secured hand) stored s
 short_free free dirty stored Nothing s w e = absurd (cc)
 short_free free dirty stored (Reading effect from to) s w e = absurd (cc)
-short_free free dirty stored (Reserving effect to) s w e = told (nat_lt free (dirty + blocks_of to)) refl e
+short_free free dirty stored (Securing effect to) s w e = stated (nat_lt free (dirty + blocks_of to)) refl e
   where
     some : blocks_of to ≡ blocks_in stored
     some = sym (ap (λ (b : Bool). if b then 0 else blocks_of to) w.1) ∙ ap blocks_in w.0
 
-    told : (less : Bool) → nat_lt free (dirty + blocks_of to) ≡ less
+    stated : (less : Bool) → nat_lt free (dirty + blocks_of to) ≡ less
         → (if less then Some (record { free = free; dirty = dirty; need = blocks_of to }) else None) ≡ Some s
-        → IsShortOf (Reserving effect to) free (dirty + 0) stored s
-    told true less e =
+        → IsShortOf (Securing effect to) free (dirty + 0) stored s
+    stated true less e =
         let same : record { free = free; dirty = dirty; need = blocks_of to } ≡ s = cc in
         let below : free < dirty + blocks_of to = ltb-true free (dirty + blocks_of to) less in
-        subst (IsShortOf (Reserving effect to) free (dirty + 0) stored) same
+        subst (IsShortOf (Securing effect to) free (dirty + 0) stored) same
         (record { free = refl; dirty = omega arith; had_not = refl; need = some; short = below })
-    told false less e = absurd (cc)
+    stated false less e = absurd (cc)
 short_free free dirty stored (Writing effect to done) s w e = absurd (cc)
 short_free free dirty stored (Retiring effect wrote) s w e = absurd (cc)
 
@@ -169,9 +169,9 @@ module _ {S : Type 0} (K : SchemeOf S) (o : Origin) (m : Machine S) (n : Device)
         promotions = omega (arith, promotions, most_promotions);
       }
 
-  -- while no instruction is begun none is in hand, so nothing is reserved, and none has reserved
+  -- while no instruction is begun none is in hand, so nothing is secured, and none has secured
   counts_by : (m.begun ≡ None → m.hart.hand ≡ Nothing) → CountsLines (pressure_of K m) (gauge_of K m n)
-  counts_by rests = record { lines = omega arith; unreserved = λ none. omega (arith, ap reserved (rests none)); unmarked = λ none. ap has_reserved (rests none) }
+  counts_by rests = record { lines = omega arith; unsecured = λ none. omega (arith, ap secured (rests none)); unmarked = λ none. ap has_secured (rests none) }
 
   -- ---- in each phase
 
@@ -219,7 +219,7 @@ machine_is_lawful K l = record {
   sized = λ o k m n at. let sound = sound-here K o k m n at in (kept_in K o m n m.phase l sound.up sound.moment).1;
   powered_on = λ o k m n at. powered_on K l o k m n (sound-here K o k m n at);
   unfailed = λ o k m n at. (sound-here K o k m n at).unfailed;
-  tells_failure = λ o before m stopped. stopped.failed;
+  shows_failure = λ o before m stopped. stopped.failed;
   some_ahead = λ o k m n at. omega arith;
   counts_queues = λ m n. refl;
   counts_dram = λ m. l.queued_is m.scheme;

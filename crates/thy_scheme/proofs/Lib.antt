@@ -3,7 +3,7 @@ pub mod RecordLemmas
 pub mod FoundLemmas
 pub mod AtLemmas
 pub mod StallLemmas
-pub mod ToldLemmas
+pub mod StatedLemmas
 pub mod EpochLemmas
 pub mod Facts
 pub mod HartRow

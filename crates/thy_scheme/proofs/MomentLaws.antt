@@ -6,7 +6,7 @@ use Rattle.thy_view.specs.declared.view.Phase.TheVariants.{Boot, Run, Halt}
 use Rattle.thy_view.specs.declared.view.View.{View}
 use Rattle.thy_view.specs.Kind.{IsSeenAlike}
 use Rattle.thy_view.specs.Origin.{Origin}
-use Rattle.thy_view.specs.Told.{told, AgreeBelow, reach, HasTurn}
+use Rattle.thy_view.specs.WithTurns.{with_turns, AgreeBelow, reach, HasTurn}
 use Rattle.thy_view.proofs.TurnLaws.{AgreeBelow-same, AgreeBelow-on, AgreeBelow-less}
 use Rattle.thy_view.proofs.ReachLaws.{steps-reach, HasTurn-agrees}
 use Rattle.thy_scheme.specs.Scheme.{SchemeOf}
@@ -23,13 +23,13 @@ sound-here K o cycles m n at = at o.turns (AgreeBelow-same o (reach (view_of K o
 
 -- what a machine shows is the same along other turns
 alike-in : {S : Type 0} (K : SchemeOf S) → IsLawful K → (o : Origin) (turns : List ℕ) (m : Machine S) (n : Device) (phase : Phase)
-    → view_in K (told o turns) phase m n ≡ view_in K o phase m n
+    → view_in K (with_turns o turns) phase m n ≡ view_in K o phase m n
 alike-in K l o turns m n Boot = l.boot_alike o turns m.scheme n
 alike-in K l o turns m n Run = refl
 alike-in K l o turns m n Halt = refl
 
 pub view-alike : {S : Type 0} (K : SchemeOf S) → IsLawful K → (o : Origin) (turns : List ℕ) (m : Machine S) (n : Device)
-    → view_of K (told o turns) m n ≡ view_of K o m n
+    → view_of K (with_turns o turns) m n ≡ view_of K o m n
 view-alike K l o turns m n = alike-in K l o turns m n m.phase
 
 pub seen-alike : {S : Type 0} (K : SchemeOf S) → IsLawful K → (o : Origin) (turns : List ℕ) (m : Machine S) (n : Device) → IsSeenAlike (kind_over K) o turns m n
@@ -39,11 +39,11 @@ seen-alike K l o turns m n = record {
 }
 
 pub is_at-agrees : {S : Type 0} (K : SchemeOf S) → IsLawful K → (o : Origin) (turns : List ℕ) (cycles : ℕ) (m : Machine S) (n : Device)
-    → IsAt K o cycles m n → AgreeBelow o turns (reach (view_of K o m n)) → IsAt K (told o turns) cycles m n
+    → IsAt K o cycles m n → AgreeBelow o turns (reach (view_of K o m n)) → IsAt K (with_turns o turns) cycles m n
 is_at-agrees K l o turns cycles m n at agree =
     λ more further. at more
     (AgreeBelow-on o turns more (reach (view_of K o m n)) agree
-    (subst (λ (v : View). AgreeBelow (told o turns) more (reach v)) (view-alike K l o turns m n) further))
+    (subst (λ (v : View). AgreeBelow (with_turns o turns) more (reach v)) (view-alike K l o turns m n) further))
 
 pub leads_to_moment : {S : Type 0} (K : SchemeOf S) → LeadsToMoment K
 leads_to_moment K o cycles did m next n new l simulates mine =
@@ -52,4 +52,4 @@ leads_to_moment K o cycles did m next n new l simulates mine =
     let step = (simulates o.turns (AgreeBelow-same o (reach v)) mine).step in
     λ turns agree.
     (simulates turns (AgreeBelow-less o turns (reach v) (reach w) (steps-reach o v w did step) agree)
-    (subst (λ (x : View). HasTurn (told o turns) x did) (sym (view-alike K l o turns m n)) (HasTurn-agrees o turns v w did step agree mine))).at_next
+    (subst (λ (x : View). HasTurn (with_turns o turns) x did) (sym (view-alike K l o turns m n)) (HasTurn-agrees o turns v w did step agree mine))).at_next

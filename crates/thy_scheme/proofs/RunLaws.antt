@@ -12,7 +12,7 @@ use Rattle.thy_view.specs.declared.view.Phase.TheVariants.{Boot, Run, Halt}
 use Rattle.thy_view.specs.declared.view.View.{View}
 use Rattle.thy_view.specs.Booting.{view_of_image, found_first, first_view}
 use Rattle.thy_view.specs.Origin.{Origin, StartsFrom, IsOrigin}
-use Rattle.thy_view.specs.Told.{told, AgreeBelow, reach}
+use Rattle.thy_view.specs.WithTurns.{with_turns, AgreeBelow, reach}
 use Rattle.thy_view.specs.Safe.{ceiling, IsOneOf, Safe}
 use Rattle.thy_view.specs.Views.{doubt_of}
 use Rattle.thy_scheme.specs.Boots.{IsBootView}
@@ -21,7 +21,7 @@ use Rattle.thy_scheme.specs.Laws.{IsOwn, IsFound, IsLawful as IsLawfulScheme}
 use Rattle.thy_scheme.specs.Machine.{Machine, view_in, view_of}
 use Rattle.thy_scheme.specs.Sound.{IsSmallMark, IsSmall, SoundIn, Sound, IsAt, IsPowered}
 use Rattle.thy_scheme.specs.Runs.{MomentIsSafe, FreshSimulates, LeftSimulates}
-use Rattle.thy_view.proofs.TurnLaws.{at-agrees, at-early, IsOrigin-told}
+use Rattle.thy_view.proofs.TurnLaws.{at-agrees, at-early, IsOrigin-with_turns}
 
 -- ---- a moment is safe
 
@@ -87,20 +87,20 @@ module _ {S : Type 0} (K : SchemeOf S) (o : Origin) (cycles : ℕ) (m : Machine 
 
 -- ---- and so with all turns that agree as far as the image goes
 
-own_told : (o : Origin) (turns : List ℕ) (d : Decoded) → AgreeBelow o turns (reach (view_of_image o.start.count d)) → IsOwn o d → IsOwn (told o turns) d
-own_told o turns Nothing agree own = own
-own_told o turns (Refused bad) agree own = own
-own_told o turns (At epoch state) agree own = own ∙ sym (at-agrees o turns state.count agree)
+own_with_turns : (o : Origin) (turns : List ℕ) (d : Decoded) → AgreeBelow o turns (reach (view_of_image o.start.count d)) → IsOwn o d → IsOwn (with_turns o turns) d
+own_with_turns o turns Nothing agree own = own
+own_with_turns o turns (Refused bad) agree own = own
+own_with_turns o turns (At epoch state) agree own = own ∙ sym (at-agrees o turns state.count agree)
 
 is_at-found : {S : Type 0} (K : SchemeOf S) (o : Origin) (cycles : ℕ) (m : Machine S) (n : Device) → IsLawfulScheme K → IsOrigin o
     → IsPowered K o.geometry m → IsFound K o n → IsSmall cycles (view_of_image o.start.count (K.decode o.geometry ceiling n.image)) → IsAt K o cycles m n
 is_at-found K o cycles m n lawful origin on found small = λ turns agree.
-    sound_found K (told o turns) cycles m n lawful (IsOrigin-told o turns origin) on
+    sound_found K (with_turns o turns) cycles m n lawful (IsOrigin-with_turns o turns origin) on
     (record {
       up = found.up;
       sized = found.sized;
       settled = found.settled;
-      own = own_told o turns (K.decode o.geometry ceiling n.image)
+      own = own_with_turns o turns (K.decode o.geometry ceiling n.image)
           (subst (λ (v : View). AgreeBelow o turns (reach v)) (view_found K o cycles m n lawful origin on found) agree) found.own;
     }) small
 

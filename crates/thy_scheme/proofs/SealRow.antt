@@ -14,7 +14,7 @@ use Rattle.thy_cache.specs.Flat.{flat, Agrees}
 use Rattle.thy_cache.proofs.FlushLaws.{flat-clean}
 use Rattle.thy_hart.specs.Epoch.{Epoch, next_epoch}
 use Rattle.thy_hart.specs.declared.hand.Hand.{Hand}
-use Rattle.thy_hart.specs.declared.hand.Hand.TheVariants.{Nothing, Reading, Reserving, Writing, Retiring}
+use Rattle.thy_hart.specs.declared.hand.Hand.TheVariants.{Nothing, Reading, Securing, Writing, Retiring}
 use Rattle.thy_hart.specs.HartState.{HartState, has_written}
 use Rattle.thy_hart.specs.Laws.{Follows}
 use Rattle.thy_hart.specs.OneStep.{current, coming, coming_by}
@@ -23,7 +23,7 @@ use Rattle.thy_isa.specs.Step.{State, fronted}
 use Rattle.thy_view.specs.declared.did.Did.TheVariants.{Sealed}
 use Rattle.thy_view.specs.Action.{Rest}
 use Rattle.thy_view.specs.Origin.{Origin, at as at_count, runs_at}
-use Rattle.thy_view.specs.Turn.{front_of}
+use Rattle.thy_view.specs.NextActor.{front_of}
 use Rattle.thy_view.specs.Safe.{ceiling}
 use Rattle.thy_scheme.specs.Scheme.{SchemeOf}
 use Rattle.thy_scheme.specs.Calls.{OpensNone, IsTaken}
@@ -46,7 +46,7 @@ coming_on : (input : List ℕ) (h : HartState) (memory : List Block) (e : Epoch)
     → coming_by input (record h { epoch = e }) memory hand ≡ coming_by input h memory hand
 coming_on input h memory e Nothing = refl
 coming_on input h memory e (Reading effect from to) = refl
-coming_on input h memory e (Reserving effect to) = refl
+coming_on input h memory e (Securing effect to) = refl
 coming_on input h memory e (Writing effect to done) = refl
 coming_on input h memory e (Retiring effect wrote) = refl
 

@@ -4,7 +4,7 @@ use Rattle.std.proofs.Common.{◌≡◌, ◌≢◌, ℕ, ◌+◌, ◌≤◌, fal
 use Rattle.thy_block.specs.declared.cause.EndCause.{EndCause}
 use Rattle.thy_block.specs.Device.{Device}
 use Rattle.thy_cache.specs.Contents.{dirty_count}
-use Rattle.thy_hart.specs.HartState.{reserved, has_reserved}
+use Rattle.thy_hart.specs.HartState.{secured, has_secured}
 use Rattle.thy_hart.specs.Moments.{Moment, moves_left}
 use Rattle.thy_view.specs.declared.did.Did.{Did}
 use Rattle.thy_view.specs.declared.view.Phase.{Phase}
@@ -85,12 +85,12 @@ booting_no_more K did m next n new =
 
 -- ---- dirty lines
 
--- with the instruction in hand as it was, and no more dirty lines, no entry is reserved; after the boot none may be taken but
+-- with the instruction in hand as it was, and no more dirty lines, no entry is secured; after the boot none may be taken but
 -- for lines that went clean
 pub uses_none : {S : Type 0} (K : SchemeOf S) (o : Origin) (m next : Machine S) (n new : Device) → dirty_count next.cache ≤ dirty_count m.cache
     → next.hart.hand ≡ m.hart.hand
     → (is_boot (view_of K o m n).phase ≡ false → dirty_count next.cache + K.free m.scheme ≤ dirty_count m.cache + K.free next.scheme)
     → UsesEntries (view_of K o m n) (pressure_of K m) (pressure_of K next) (gauge_of K m n) (gauge_of K next new)
 uses_none K o m next n new fewer same room =
-    let kept : reserved next.hart.hand ≡ reserved m.hart.hand = ap reserved same in
-    record { entries = omega (arith, kept); lines = omega (arith, fewer, kept); room = λ run. omega (arith, kept, room run); once = λ begun. ap has_reserved same }
+    let kept : secured next.hart.hand ≡ secured m.hart.hand = ap secured same in
+    record { entries = omega (arith, kept); lines = omega (arith, fewer, kept); room = λ run. omega (arith, kept, room run); once = λ begun. ap has_secured same }

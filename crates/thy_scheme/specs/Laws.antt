@@ -11,7 +11,7 @@ use Rattle.thy_layout.specs.Decoded.{Decoded, Nothing, Refused, At}
 use Rattle.thy_view.specs.Booting.{view_of_image}
 use Rattle.thy_view.specs.Origin.{Origin, IsOrigin, at}
 use Rattle.thy_view.specs.Safe.{ceiling, Safe}
-use Rattle.thy_view.specs.Told.{told}
+use Rattle.thy_view.specs.WithTurns.{with_turns}
 use Rattle.thy_view.specs.Views.{doubt_of}
 use Rattle.thy_scheme.specs.CheckpointMarks.{CheckpointMarks, doubt_in}
 use Rattle.thy_scheme.specs.Scheme.{SchemeOf, Stands, IsBooting, StaysOf}
@@ -113,7 +113,7 @@ pub record IsLawful {S : Type 0} (K : SchemeOf S) : Type 0 where
   pub finds : (o : Origin) (s : S) (n : Device) → IsOrigin o → K.powered o.geometry s → IsFound K o n → BootsFound K o s n
   pub boot_holds : (o : Origin) (s : S) (n : Device) → IsBooting K o s n → BootHolds K o s n
   -- what a boot shows is the same with other turns
-  pub boot_alike : (o : Origin) (turns : List ℕ) (s : S) (n : Device) → K.boot_view (told o turns) s n ≡ K.boot_view o s n
+  pub boot_alike : (o : Origin) (turns : List ℕ) (s : S) (n : Device) → K.boot_view (with_turns o turns) s n ≡ K.boot_view o s n
   -- what holds of a lawful scheme after the boot
   pub run_holds : (o : Origin) (k : CheckpointMarks) (s : S) (n : Device) → Stands K o k s n → RunHolds K o k s n
   -- blocks are held only while the NVM is up, and are stored only if no page is being promoted

@@ -9,9 +9,9 @@ use Rattle.thy_block.specs.Marks.{mark}
 use Rattle.thy_cache.specs.Contents.{Contents, dirty_count, empty_cache}
 use Rattle.thy_cache.specs.Flat.{flat}
 use Rattle.thy_hart.specs.declared.hand.Hand.{Hand}
-use Rattle.thy_hart.specs.declared.hand.Hand.TheVariants.{Nothing, Reading, Reserving, Writing, Retiring}
+use Rattle.thy_hart.specs.declared.hand.Hand.TheVariants.{Nothing, Reading, Securing, Writing, Retiring}
 use Rattle.thy_dram.specs.Contents.{Contents as DramContents}
-use Rattle.thy_hart.specs.HartState.{HartState, new_hart, blocks_of, reserved, has_reserved as hand_reserved}
+use Rattle.thy_hart.specs.HartState.{HartState, new_hart, blocks_of, secured, has_secured as hand_secured}
 use Rattle.thy_isa.specs.declared.state.CpuState.{CpuState}
 use Rattle.thy_isa.specs.Step.{cpu_crossed, zero_cpu}
 use Rattle.thy_hart.specs.Moments.{Moment, moment, moves_left}
@@ -20,7 +20,7 @@ use Rattle.thy_view.specs.declared.view.Phase.TheVariants.{Boot, Run, Halt}
 use Rattle.thy_view.specs.declared.view.View.{View}
 use Rattle.thy_view.specs.Origin.{Origin}
 use Rattle.thy_view.specs.Pace.{Gauge}
-use Rattle.thy_view.specs.Turn.{Pressure, Shortage, front_of}
+use Rattle.thy_view.specs.NextActor.{Pressure, Shortage, front_of}
 use Rattle.thy_scheme.specs.CheckpointMarks.{CheckpointMarks, only}
 use Rattle.thy_scheme.specs.Scheme.{SchemeOf}
 use Rattle.thy_scheme.specs.SchemeStore.{held_by_scheme}
@@ -122,11 +122,11 @@ view_of K o m n = view_in K o m.phase m n
 abbrev pub is_barred : {S : Type 0} → SchemeOf S → Machine S → Bool
 is_barred K m = K.under_way m.scheme && not K.overlaps
 
--- an instruction that reserves room is short if fewer entries are free than the dirty lines and its blocks need
+-- an instruction that secures room is short if fewer entries are free than the dirty lines and its blocks need
 abbrev pub short_of : ℕ → ℕ → Hand → Option Shortage
 short_of free dirty Nothing = None
 short_of free dirty (Reading e from to) = None
-short_of free dirty (Reserving e to) =
+short_of free dirty (Securing e to) =
     if nat_lt free (dirty + blocks_of to) then Some (record { free = free; dirty = dirty; need = blocks_of to }) else None
 short_of free dirty (Writing e to done) = None
 short_of free dirty (Retiring e wrote) = None
@@ -180,8 +180,8 @@ gauge_in K phase m n = record {
   idle = m.idle;
   queued = length n.queue + K.queued m.scheme;
   free = K.free m.scheme;
-  dirty = dirty_count m.cache + reserved m.hart.hand;
-  has_reserved = hand_reserved m.hart.hand;
+  dirty = dirty_count m.cache + secured m.hart.hand;
+  has_secured = hand_secured m.hart.hand;
   moves = moves_in phase m.hart.epoch.over m.begun (moment_of K m n);
   owed = after_boot_only phase (K.holding m.scheme n).owed;
   owed_later = after_boot_only phase (K.owed_later m.scheme);

@@ -13,7 +13,7 @@ use Rattle.thy_hart.specs.Epoch.{next_epoch}
 use Rattle.thy_hart.specs.declared.hand.HartStep.{HartStep}
 use Rattle.thy_hart.specs.declared.hand.HartStep.TheVariants.{Moved, Retired, Waiting, Over}
 use Rattle.thy_hart.specs.Outcomes.{Given}
-use Rattle.thy_hart.specs.HartState.{HartState, new_hart, reserved}
+use Rattle.thy_hart.specs.HartState.{HartState, new_hart, secured}
 use Rattle.thy_hart.specs.Moments.{moment, brings_line}
 use Rattle.thy_hart.specs.OneStep.{IsStep}
 use Rattle.thy_isa.specs.declared.state.CpuState.{CpuState}
@@ -45,8 +45,8 @@ pub record HartCall {S : Type 0} (K : SchemeOf S) (g : Given) (m : Machine S) (n
   pub asked : IsAsked K m.scheme n t new
   pub stays : K.stays m.scheme n t new
   pub untouched : brings_line (moment_of K m n) ≡ false → (t ≡ m.scheme) × (new ≡ n)
-  -- no more lines become dirty than reserved room is used, and without a dirty line nothing is stored
-  pub tidy : dirty_count c ≤ dirty_count m.cache + (reserved m.hart.hand - reserved h.hand)
+  -- no more lines become dirty than secured room is used, and without a dirty line nothing is stored
+  pub tidy : dirty_count c ≤ dirty_count m.cache + (secured m.hart.hand - secured h.hand)
   pub rests : dirty_count m.cache ≡ 0 → K.storeless t ≡ K.storeless m.scheme
 
 -- a step of a flush left this cache and scheme; it was not the last

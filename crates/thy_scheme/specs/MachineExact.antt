@@ -20,7 +20,7 @@ use Rattle.thy_view.specs.declared.did.Stall.TheVariants.{Booting, Sealing, Wait
 use Rattle.thy_view.specs.Action.{after}
 use Rattle.thy_view.specs.Booting.{boot_did}
 use Rattle.thy_view.specs.Origin.{Origin}
-use Rattle.thy_view.specs.Turn.{Actor, Nvm, Dram, Checkpoint, Advances, Stalled}
+use Rattle.thy_view.specs.NextActor.{Actor, Nvm, Dram, Checkpoint, Advances, Stalled}
 use Rattle.thy_scheme.specs.Calls.{IsOneAccess, engine_did}
 use Rattle.thy_scheme.specs.Exact.{Made}
 use Rattle.thy_scheme.specs.Scheme.{SchemeOf}

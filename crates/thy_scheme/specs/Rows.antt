@@ -21,8 +21,8 @@ use Rattle.thy_view.specs.Dram.{LeavesDram}
 use Rattle.thy_view.specs.Origin.{Origin}
 use Rattle.thy_view.specs.Pace.{KeepsPace}
 use Rattle.thy_view.specs.Stores.{Dirties}
-use Rattle.thy_view.specs.Told.{HasTurn}
-use Rattle.thy_view.specs.Turn.{Advances, HandsOn, stall_in, over_by}
+use Rattle.thy_view.specs.WithTurns.{HasTurn}
+use Rattle.thy_view.specs.NextActor.{Advances, HandsOn, stall_in, over_by}
 use Rattle.thy_view.specs.Views.{IsRestarting}
 use Rattle.thy_view.specs.Work.{Works}
 use Rattle.thy_scheme.specs.Scheme.{SchemeOf}
@@ -36,7 +36,7 @@ use Rattle.thy_scheme.specs.MachineCalls.{HartCall, FlushCall, begun_by_hart, ha
 
 -- A cycle that did this leads to the next moment: by a step of the view, one action of both devices, and within bounds,
 -- and gets done what it says. No more lines become dirty than entries are used that the instruction in hand has
--- reserved. In a boot that found a checkpoint it leaves the NVM as it was, unless the scheme migrates.
+-- secured. In a boot that found a checkpoint it leaves the NVM as it was, unless the scheme migrates.
 pub record SimulatesCycle {S : Type 0} (K : SchemeOf S) (o : Origin) (cycles : ℕ) (did : Did) (m : Machine S) (n : Device) (next : Machine S) (new : Device) : Type 0 where
   pub at_next : Sound K o (cycles + 1) next new
   pub step : CoreStep o (view_of K o m n) did (view_of K o next new)

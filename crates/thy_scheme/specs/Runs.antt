@@ -12,12 +12,12 @@ use Rattle.thy_view.specs.declared.view.Phase.TheVariants.{Boot}
 use Rattle.thy_view.specs.declared.view.View.{View}
 use Rattle.thy_view.specs.Booting.{first_view, view_of_image}
 use Rattle.thy_view.specs.CoreStep.{CoreStep}
-use Rattle.thy_view.specs.Kind.{IsLawful, IsFittedFor, IsLeft, IsStep, LeavesSafe}
+use Rattle.thy_view.specs.Kind.{IsLawful, IsFittedFor, IsCrashOfView, IsStep, LeavesSafe}
 use Rattle.thy_view.specs.Origin.{Origin, IsOrigin}
 use Rattle.thy_view.specs.Pace.{Gauge, KeepsPace, retires}
 use Rattle.thy_view.specs.Safe.{ceiling, Safe}
-use Rattle.thy_view.specs.Told.{told, AgreeBelow, reach, HasTurn}
-use Rattle.thy_view.specs.Turn.{Turn, HandsOn, turn_of}
+use Rattle.thy_view.specs.WithTurns.{with_turns, AgreeBelow, reach, HasTurn}
+use Rattle.thy_view.specs.NextActor.{NextActor, HandsOn, actor_of}
 use Rattle.thy_view.specs.Views.{is_halt, halts, doubt_of}
 use Rattle.thy_scheme.specs.Scheme.{SchemeOf}
 use Rattle.thy_scheme.specs.Laws.{IsLawful as IsLawfulScheme}
@@ -46,7 +46,7 @@ FreshSimulates {S} K =
 abbrev pub LeftSimulates : {S : Type 0} → SchemeOf S → Type 0
 LeftSimulates {S} K =
     (o : Origin) (cycles : ℕ) (m next : Machine S) (n left : Device)
-    → IsLawfulScheme K → Sound K o cycles m n → IsPowered K o.geometry next → IsLeft (kind_over K) o (view_of K o m n) left
+    → IsLawfulScheme K → Sound K o cycles m n → IsPowered K o.geometry next → IsCrashOfView (kind_over K) o (view_of K o m n) left
     → IsAt K o cycles next left
     × (view_of K o next left ≡ view_of_image o.start.count (K.decode o.geometry ceiling left.image))
 
@@ -62,8 +62,8 @@ abbrev pub LeadsToMoment : {S : Type 0} → SchemeOf S → Type 0
 LeadsToMoment {S} K =
     (o : Origin) (cycles : ℕ) (did : Did) (m next : Machine S) (n new : Device)
     → IsLawfulScheme K
-    → ((turns : List ℕ) → AgreeBelow o turns (reach (view_of K o m n)) → HasTurn (told o turns) (view_of K (told o turns) m n) did
-    → SimulatesCycle K (told o turns) cycles did m n next new)
+    → ((turns : List ℕ) → AgreeBelow o turns (reach (view_of K o m n)) → HasTurn (with_turns o turns) (view_of K (with_turns o turns) m n) did
+    → SimulatesCycle K (with_turns o turns) cycles did m n next new)
     → HasTurn o (view_of K o m n) did → IsAt K o (cycles + 1) next new
 
 -- a cycle that leads to the next moment, at the turn of its pick, and makes what that actor's makes is a step of a machine
@@ -71,10 +71,10 @@ abbrev pub SimulatingIsStep : {S : Type 0} → SchemeOf S → Type 0
 SimulatingIsStep {S} K =
     (o : Origin) (cycles : ℕ) (pick : Pick) (m next : Machine S) (n new : Device) (r : Stepped)
     → At K o cycles m n → SimulatesCycle K o cycles r.did m n next new → IsAt K o (cycles + 1) next new
-    → Turn o pick (length n.queue) (view_of K o m n) (pressure_of K m) r.did r.stall
-    → HandsOn (turn_of o pick (length n.queue) (view_of K o m n) (pressure_of K m)) r.did (pressure_of K m) (pressure_of K next)
+    → NextActor o pick (length n.queue) (view_of K o m n) (pressure_of K m) r.did r.stall
+    → HandsOn (actor_of o pick (length n.queue) (view_of K o m n) (pressure_of K m)) r.did (pressure_of K m) (pressure_of K next)
     → r.ended ≡ halts (view_of K o m n) (view_of K o next new)
-    → MakesCycle K o (turn_of o pick (length n.queue) (view_of K o m n) (pressure_of K m)) m n r.did next new
+    → MakesCycle K o (actor_of o pick (length n.queue) (view_of K o m n) (pressure_of K m)) m n r.did next new
     → IsStep (kind_over K) o cycles pick m next n new r
 
 -- a cycle whose action failed is a failed cycle of a machine, if the processor is as before
@@ -82,7 +82,7 @@ abbrev pub FailingIsSafe : {S : Type 0} → SchemeOf S → Type 0
 FailingIsSafe {S} K =
     (o : Origin) (cycles : ℕ) (pick : Pick) (m next : Machine S) (n new : Device) (did : Did) (stall : Option Stall)
     → IsMoment K o cycles m n → Fails K o did m next.scheme n new → processor_of next ≡ processor_of m → next.failed ≡ true
-    → Turn o pick (length n.queue) (view_of K o m n) (pressure_of K m) did stall
+    → NextActor o pick (length n.queue) (view_of K o m n) (pressure_of K m) did stall
     → LeavesSafe (kind_over K) o pick m next n new
 
 -- a machine over a lawful scheme keeps the laws of machines

@@ -10,8 +10,8 @@ use Rattle.thy_cache.specs.Flat.{Agrees, AgreesWithAll, ReadsAsStore}
 use Rattle.thy_block.specs.declared.span.Span.{Span}
 use Rattle.thy_hart.specs.Epoch.{HasRetired}
 use Rattle.thy_hart.specs.declared.hand.Hand.{Hand}
-use Rattle.thy_hart.specs.declared.hand.Hand.TheVariants.{Nothing, Reading, Reserving, Writing, Retiring}
-use Rattle.thy_hart.specs.HartState.{HartState, next_block, reserved}
+use Rattle.thy_hart.specs.declared.hand.Hand.TheVariants.{Nothing, Reading, Securing, Writing, Retiring}
+use Rattle.thy_hart.specs.HartState.{HartState, next_block, secured}
 use Rattle.thy_hart.specs.Moments.{IsOpenFor}
 use Rattle.thy_hart.specs.Laws.{Follows}
 use Rattle.thy_isa.specs.Step.{State, state_with, fronted, is_running}
@@ -21,8 +21,8 @@ use Rattle.thy_view.specs.declared.view.View.{View}
 use Rattle.thy_view.specs.Kind.{without_memory}
 use Rattle.thy_view.specs.Origin.{Origin, IsOrigin, at, runs_at}
 use Rattle.thy_view.specs.Stores.{stored_by}
-use Rattle.thy_view.specs.Told.{told, AgreeBelow, reach}
-use Rattle.thy_view.specs.Turn.{front_of, has_stopped}
+use Rattle.thy_view.specs.WithTurns.{with_turns, AgreeBelow, reach}
+use Rattle.thy_view.specs.NextActor.{front_of, has_stopped}
 use Rattle.thy_view.specs.Views.{is_boot}
 use Rattle.thy_scheme.specs.Scheme.{SchemeOf}
 use Rattle.thy_scheme.specs.Machine.{Machine, machine_on, processor_of, memory_of, view_of}
@@ -55,17 +55,17 @@ abbrev pub OpenNow : Option EndCause → Option ℕ → Contents → HartState �
 OpenNow None begun c h page = OpenFor begun c h page
 OpenNow (Some cause) begun c h page = IsOpenForFlush c page
 
--- the cache reads as memory over the scheme, which has room for its dirty lines and for what is reserved
+-- the cache reads as memory over the scheme, which has room for its dirty lines and for what is secured
 pub record IsHeld {S : Type 0} (K : SchemeOf S) (m : Machine S) (n : Device) : Type 0 where
   pub agree : Agrees m.cache (K.holding m.scheme n).blocks
-  pub room : dirty_count m.cache + reserved m.hart.hand ≤ K.free m.scheme
+  pub room : dirty_count m.cache + secured m.hart.hand ≤ K.free m.scheme
   pub opened : OpenNow m.hart.epoch.over m.begun m.cache m.hart (K.holding m.scheme n).open_page
 
--- before room is reserved, what the instruction in hand is to write is what the plain machine's writes
+-- before room is secured, what the instruction in hand is to write is what the plain machine's writes
 abbrev pub IsToWrite : Span → Hand → Type 0
 IsToWrite stored Nothing = Unit {0}
 IsToWrite stored (Reading e from to) = to ≡ stored
-IsToWrite stored (Reserving e to) = (to ≡ stored) × ((to.len == 0) ≡ false)
+IsToWrite stored (Securing e to) = (to ≡ stored) × ((to.len == 0) ≡ false)
 IsToWrite stored (Writing e to done) = Unit {0}
 IsToWrite stored (Retiring e wrote) = Unit {0}
 
@@ -127,15 +127,15 @@ pub record IsEnded {S : Type 0} (o : Origin) (m : Machine S) : Type 0 where
   pub live : m.phase ≡ Run → m.hart.epoch.over ≡ None → has_stopped o m.marks.sealed ≡ false
       → runs_at o m.hart.cpu.count ≡ true
 
--- with no room reserved, nothing was stored and no line is dirty
+-- with no room secured, nothing was stored and no line is dirty
 abbrev pub IsFresh : Hand → ℕ → Bool → Type 0
 IsFresh Nothing dirty storeless = (dirty ≡ 0) × (storeless ≡ true)
 IsFresh (Reading e from to) dirty storeless = (dirty ≡ 0) × (storeless ≡ true)
-IsFresh (Reserving e to) dirty storeless = (dirty ≡ 0) × (storeless ≡ true)
+IsFresh (Securing e to) dirty storeless = (dirty ≡ 0) × (storeless ≡ true)
 IsFresh (Writing e to done) dirty storeless = Unit {0}
 IsFresh (Retiring e wrote) dirty storeless = Unit {0}
 
--- an epoch stores nothing before its first instruction has room reserved, and one that retires none stores nothing
+-- an epoch stores nothing before its first instruction has room secured, and one that retires none stores nothing
 abbrev pub StartsFresh : Option EndCause → ℕ → Hand → ℕ → Bool → Type 0
 StartsFresh None retired hand dirty storeless = retired ≡ 0 → IsFresh hand dirty storeless
 StartsFresh (Some cause) retired hand dirty storeless = retired ≡ 0 → (dirty ≡ 0) × (storeless ≡ true)
@@ -201,7 +201,7 @@ pub record Sound {S : Type 0} (K : SchemeOf S) (o : Origin) (cycles : ℕ) (m : 
 
 -- what holds after this number of cycles along all turns that agree so far: later turns don't matter
 abbrev pub IsAt : {S : Type 0} → SchemeOf S → Origin → ℕ → Machine S → Device → Type 0
-IsAt K o cycles m n = (turns : List ℕ) → AgreeBelow o turns (reach (view_of K o m n)) → Sound K (told o turns) cycles m n
+IsAt K o cycles m n = (turns : List ℕ) → AgreeBelow o turns (reach (view_of K o m n)) → Sound K (with_turns o turns) cycles m n
 
 -- power has just come on, over the DRAM that the scheme has: this very machine
 pub record IsPowered {S : Type 0} (K : SchemeOf S) (p : Parameters) (m : Machine S) : Type 0 where

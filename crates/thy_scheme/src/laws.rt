@@ -7,7 +7,7 @@ use crate::Scheme;
 
 /// A step of a hart leads to the next moment: by a step of the view, one action on the NVM or one write of the DRAM, and
 /// within bounds. It gets done what it says. It is short of entries only if the blocks that the plain machine's
-/// instruction stores to have no room, and it reserves an entry for each of them, once.
+/// instruction stores to have no room, and it secures an entry for each of them, once.
 pub fn the_hart_simulates<S: Scheme>()
     ensures { HartSimulates S.scheme }
 {}

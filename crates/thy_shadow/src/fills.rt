@@ -29,7 +29,7 @@ impl Fills for Relist {
 
     fn list(geometry: &Geometry, commit: &Block, slot: &[u8], control: &mut Pool) {
         control.list(slot);
-        control.sound();
+        control.recall_sound();
     }
 
     fn most_fills(geometry: &Geometry) -> u64 {

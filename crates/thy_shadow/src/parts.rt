@@ -24,8 +24,8 @@ impl Parts for Relist {
         control.cut(pick)
     }
 
-    fn sound(control: &Pool) {
-        control.sound();
+    fn recall_sound(control: &Pool) {
+        control.recall_sound();
     }
 
     fn load<N: Nvm>(control: &Pool, b: u64, nvm: &mut N) -> Result<Block, NvmError> {
@@ -47,7 +47,7 @@ impl Parts for Relist {
         block: &Block,
         nvm: &mut N,
     ) -> Result<Stored, NvmError> {
-        control.sound();
+        control.recall_sound();
         control.store(b, block, nvm)
     }
 

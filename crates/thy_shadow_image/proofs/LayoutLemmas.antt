@@ -28,7 +28,7 @@ use Rattle.thy_view.proofs.IssuingLemmas.{issued_is_checkpoint}
 use Rattle.thy_shadow_image.specs.Places.{scheme_number, slot_blocks, slot_place, first_pool, pool_pages, image_blocks, pool_place, pool_page, place_of}
 use Rattle.thy_shadow_image.specs.Slots.{IsMap, table_in, slot_fault, table_fault}
 use Rattle.thy_shadow_image.specs.Layout.{shadow_layouts}
-use Rattle.thy_shadow_image.specs.CheckpointParts.{ReadsBack, memory_places, parts_by, IsIssuing, IsIssuedCheckpoint, IsToldBy}
+use Rattle.thy_shadow_image.specs.CheckpointParts.{ReadsBack, memory_places, parts_by, IsIssuing, IsIssuedCheckpoint, HoldsCheckpoint}
 use Rattle.thy_shadow_image.proofs.SlotLemmas.{slot_reads_back, faultless_map}
 use Rattle.thy_shadow_image.specs.Free.{Target, SlotBlock, PoolBlock, target_place, IsTarget, IsFree}
 
@@ -133,7 +133,7 @@ module _ (p : Parameters) (ceiling : ℕ) (cpu : CpuState) (table : List (Option
       h.parts (is_zero-commit_of epoch)
       (no_fault (newest n 0) header) in
       record {
-        told = record {
+        meant = record {
           of_epoch =
               ap epoch_of (next_image-commit (commit_of epoch) n (omega (arith, h.parts.sized)))
               ∙ epoch_is;
@@ -183,19 +183,19 @@ free_of_memory p epoch table (PoolBlock q c) h there free inside =
     free (page_of of.0) (subst (Lists table (page_of of.0)) same page.1)
 
 module _ (p : Parameters) (image : List Block) (epoch : ℕ) (table : List (Option ℕ)) (x : Target)
-    (told : IsToldBy p image epoch table) (there : IsTarget p x) (free : IsFree epoch table x) where
+    (meant : HoldsCheckpoint p image epoch table) (there : IsTarget p x) (free : IsFree epoch table x) where
   abbrev l : Layout
   l = shadow_layouts p
 
   not_in_slot : Contains (slot_places l (block_at image 1)) (target_place p x) → ⊥
   not_in_slot inside =
       let of = Contains-range (slot_place p (epoch_of (block_at image 1) % 2)) (slot_blocks p) (target_place p x) inside in
-      free_of_slot p epoch table x there free of.0 of.1 (sym (ap (λ (e : ℕ). slot_place p (e % 2) + of.0) told.of_epoch) ∙ of.2)
+      free_of_slot p epoch table x there free of.0 of.1 (sym (ap (λ (e : ℕ). slot_place p (e % 2) + of.0) meant.of_epoch) ∙ of.2)
 
   not_in_memory : Contains (places_by l (block_at image 1) (slot_in l image)) (target_place p x) → ⊥
   not_in_memory inside =
-      free_of_memory p epoch table x told.whole there free
-      (subst (λ (t : List (Option ℕ)). Contains (memory_places p t) (target_place p x)) told.table_is inside)
+      free_of_memory p epoch table x meant.whole there free
+      (subst (λ (t : List (Option ℕ)). Contains (memory_places p t) (target_place p x)) meant.table_is inside)
 
   pub free_not_looked : Contains (1 ∷ looked_by l image) (target_place p x) → ⊥
   free_not_looked inside = not_looked l image (target_place p x) (target_behind p x there) not_in_slot not_in_memory inside

@@ -68,7 +68,7 @@ pub record IsIssuing (p : Parameters) (n : Device) (cpu : CpuState) (table : Lis
   pub parts : AreIssued (image_blocks p) (parts_by p cpu table epoch) n memory k
 
 -- an image has the checkpoint of this epoch, with this map
-pub record IsToldBy (p : Parameters) (image : List Block) (epoch : ℕ) (table : List (Option ℕ)) : Type 0 where
+pub record HoldsCheckpoint (p : Parameters) (image : List Block) (epoch : ℕ) (table : List (Option ℕ)) : Type 0 where
   pub of_epoch : epoch_of (block_at image commit_place) ≡ epoch
   pub table_is : table_in p (slot_in (shadow_layouts p) image) ≡ table
   pub whole : IsMap p table
@@ -76,7 +76,7 @@ pub record IsToldBy (p : Parameters) (image : List Block) (epoch : ℕ) (table :
 -- the next image, with the commit block of this epoch, is the checkpoint, has its map, and lacks no other write
 pub record IsIssuedCheckpoint (p : Parameters) (ceiling : ℕ) (n : Device) (cpu : CpuState) (table : List (Option ℕ)) (epoch : ℕ)
     (memory : List Block) : Type 0 where
-  pub told : IsToldBy p (next_image n (commit_of epoch)) epoch table
+  pub meant : HoldsCheckpoint p (next_image n (commit_of epoch)) epoch table
   pub decodes : decode_by (shadow_layouts p) ceiling (next_image n (commit_of epoch)) ≡ At epoch (state_from p cpu memory)
   pub issued : IsIssued (looked_by (shadow_layouts p)) n (next_image n (commit_of epoch))
 

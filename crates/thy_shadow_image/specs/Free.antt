@@ -8,7 +8,7 @@ use Rattle.thy_layout.specs.Layout.{looked_by}
 use Rattle.thy_layout.specs.Commit.{slot_of_epoch}
 use Rattle.thy_shadow_image.specs.Places.{slot_blocks, slot_place, pool_pages, pool_place}
 use Rattle.thy_shadow_image.specs.Layout.{shadow_layouts}
-use Rattle.thy_shadow_image.specs.CheckpointParts.{IsToldBy}
+use Rattle.thy_shadow_image.specs.CheckpointParts.{HoldsCheckpoint}
 
 -- what a write is for: block k of slot s, or block c of page q of the pool
 pub data Target : Type 0 where
@@ -35,5 +35,5 @@ IsFree epoch table (PoolBlock q c) = (x : ℕ) → Lists table x q → ⊥
 abbrev pub FreeIsNotLooked : Type 0
 FreeIsNotLooked =
     (p : Parameters) (image : List Block) (epoch : ℕ) (table : List (Option ℕ)) (x : Target)
-    → IsToldBy p image epoch table → IsTarget p x → IsFree epoch table x
+    → HoldsCheckpoint p image epoch table → IsTarget p x → IsFree epoch table x
     → ¬ Contains (commit_place ∷ looked_by (shadow_layouts p) image) (target_place p x)

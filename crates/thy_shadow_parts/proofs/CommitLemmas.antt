@@ -3,9 +3,9 @@ use Rattle.std.proofs.Common.{◌≡◌, ◌⊎◌, ℕ, ◌+◌, ◌-◌, ◌<�
 use Rattle.std.proofs.lemmas.Bool.{cases_lt, lt-ltb, ltb-true, ltb-false, le-ltb}
 use Rattle.std.proofs.lemmas.List.{length-map, get_or-map, get_or_past}
 use Rattle.thy_block.specs.declared.parameters.Parameters.{Parameters}
-use Rattle.thy_table.specs.Listing.{Listing, IsListing, entry_at, lists, place_of}
+use Rattle.thy_table.specs.Listing.{Listing, IsListing, entry_at, lists, index_of}
 use Rattle.thy_table.proofs.IndexLemmas.{lists-some, lists-key, lists-inside}
-use Rattle.thy_table.proofs.ListingLaws.{place_of-lists, place_of-none, found-once, IsListing-once}
+use Rattle.thy_table.proofs.ListingLaws.{index_of-lists, index_of-none, found-once, IsListing-once}
 use Rattle.thy_shadow_parts.specs.declared.entry.Held.{Held}
 use Rattle.thy_shadow_parts.specs.declared.entry.Framed.{Framed}
 use Rattle.thy_shadow_parts.specs.Keys.{number_key, page_key, held, framed}
@@ -46,8 +46,8 @@ not_true : (b : Bool) → (b ≡ true → ⊥) → b ≡ false
 not_true true never = absurd (never refl)
 not_true false never = refl
 
-pub unlisted : (t : Listing Held) (n : ℕ) → ((q : ℕ) → lists number_key n (entry_at t q) ≡ true → ⊥) → place_of number_key n t ≡ None
-unlisted t n none = place_of-none number_key t n (λ q. not_true (lists number_key n (entry_at t q)) (none q))
+pub unlisted : (t : Listing Held) (n : ℕ) → ((q : ℕ) → lists number_key n (entry_at t q) ≡ true → ⊥) → index_of number_key n t ≡ None
+unlisted t n none = index_of-none number_key t n (λ q. not_true (lists number_key n (entry_at t q)) (none q))
 
 -- a filled frame is there
 pub filled-inside : (s : State) (j : ℕ) → IsSoundState s → is_some (entry_at s.frames j) ≡ true → j < s.p.ptt
@@ -76,9 +76,9 @@ entry_at-committed k p frames pool q =
 module _ (k : ℕ) (p : Parameters) (frames : Listing Framed) where
   -- of a page of memory, and of a frame
   pub low : (n : ℕ) → n < p.pages
-      → committed_entry k p frames (Some (held n)) ≡ (if is_below k (place_of page_key n frames) then None else Some (held n))
+      → committed_entry k p frames (Some (held n)) ≡ (if is_below k (index_of page_key n frames) then None else Some (held n))
   low n l =
-      ap (λ b. if b then (if is_below k (place_of page_key n frames) then None else Some (held n))
+      ap (λ b. if b then (if is_below k (index_of page_key n frames) then None else Some (held n))
       else (if nat_lt (n - p.pages) k then Some (held (page_by (entry_at frames (n - p.pages)))) else Some (held n))) (lt-ltb n p.pages l)
 
   pub high : (j : ℕ) → committed_entry k p frames (Some (held (p.pages + j)))
@@ -86,11 +86,11 @@ module _ (k : ℕ) (p : Parameters) (frames : Listing Framed) where
   high j =
       let past : nat_lt (p.pages + j) p.pages ≡ false = le-ltb (p.pages + j) p.pages (omega arith) in
       let plain : p.pages + j - p.pages ≡ j = omega arith in
-      λ i. if past i then (if is_below k (place_of page_key (p.pages + j) frames) then None else Some (held (p.pages + j)))
+      λ i. if past i then (if is_below k (index_of page_key (p.pages + j) frames) then None else Some (held (p.pages + j)))
       else (if nat_lt (plain i) k then Some (held (page_by (entry_at frames (plain i)))) else Some (held (p.pages + j)))
 
   -- what a page without a frame had stays its
-  stays : (n : ℕ) → n < p.pages → place_of page_key n frames ≡ None → committed_entry k p frames (Some (held n)) ≡ Some (held n)
+  stays : (n : ℕ) → n < p.pages → index_of page_key n frames ≡ None → committed_entry k p frames (Some (held n)) ≡ Some (held n)
   stays n l none = low n l ∙ ap (λ o. if is_below k o then None else Some (held n)) none
 
   -- a place that was held by a frame is held by the frame's page
@@ -114,7 +114,7 @@ module _ (s : State) (h : IsSoundState s) where
   below_none : (x : ℕ) (o : Option ℕ) → frame_of s x ≡ o → is_below s.p.ptt o ≡ false → frame_of s x ≡ None
   below_none x None e b = e
   below_none x (Some j) e b =
-      let here = place_of-lists page_key s.frames x j e in
+      let here = index_of-lists page_key s.frames x j e in
       let inside : j < s.p.ptt = subst (λ (n : ℕ). j < n) h.frames_size (lists-inside page_key s.frames.entries j x here) in
       let both : false ≡ true = sym b ∙ lt-ltb j s.p.ptt inside in absurd (cc)
 
@@ -198,16 +198,16 @@ module _ (s : State) (h : IsSoundState s) where
     by_frame None e =
         let place = some_of (pool_of s x) (h.mapped x l) in
         let was : entry_at s.pool place.0 ≡ Some (held x)
-        = held_is x (entry_at s.pool place.0) (place_of-lists number_key s.pool x place.0 place.1) in
+        = held_is x (entry_at s.pool place.0) (index_of-lists number_key s.pool x place.0 place.1) in
         page_found x place.0
         (entry_at-committed s.p.ptt s.p s.frames s.pool place.0 ∙ ap (committed_entry s.p.ptt s.p s.frames) was
         ∙ stays s.p.ptt s.p s.frames x l e)
         ∙ sym place.1 ∙ sym (ap (next_page_by s x) e)
     by_frame (Some j) e =
-        let here : entry_at s.frames j ≡ Some (framed x) = framed_is x (entry_at s.frames j) (place_of-lists page_key s.frames x j e) in
+        let here : entry_at s.frames j ≡ Some (framed x) = framed_is x (entry_at s.frames j) (index_of-lists page_key s.frames x j e) in
         let place = some_of (target s j) (sym (h.claimed j) ∙ ap is_some here) in
         let was : entry_at s.pool place.0 ≡ Some (held (s.p.pages + j))
-        = held_is (s.p.pages + j) (entry_at s.pool place.0) (place_of-lists number_key s.pool (s.p.pages + j) place.0 place.1) in
+        = held_is (s.p.pages + j) (entry_at s.pool place.0) (index_of-lists number_key s.pool (s.p.pages + j) place.0 place.1) in
         let inside : j < s.p.ptt = filled-inside s j h (ap is_some here) in
         page_found x place.0 (entry_at-committed s.p.ptt s.p s.frames s.pool place.0 ∙ ap (committed_entry s.p.ptt s.p s.frames) was
         ∙ moves s.p.ptt s.p s.frames j x inside here)

@@ -3,9 +3,9 @@ use Rattle.std.proofs.Common.{◌≡◌, ◌≢◌, ℕ, ◌+◌, ◌-◌, ◌<�
 use Rattle.std.proofs.lemmas.Bool.{cases_Bool, cases_eq, cases_lt, lt-ltb, le-ltb, eq-eqb, ne_eqb}
 use Rattle.std.proofs.lemmas.List.{length-map, length-set, get_or-map, get_or_past, ext_get_or}
 use Rattle.thy_block.specs.declared.parameters.Parameters.{Parameters}
-use Rattle.thy_table.specs.Listing.{Listing, IsListing, listing, entry_at, lists, place_of, with_entry}
+use Rattle.thy_table.specs.Listing.{Listing, IsListing, listing, entry_at, lists, index_of, with_entry}
 use Rattle.thy_table.proofs.IndexLemmas.{lists-inside}
-use Rattle.thy_table.proofs.ListingLaws.{entry_at-with_same, entry_at-with_other, place_of-lists, place_of-none, none-lists, found-once}
+use Rattle.thy_table.proofs.ListingLaws.{entry_at-with_same, entry_at-with_other, index_of-lists, index_of-none, none-lists, found-once}
 use Rattle.thy_shadow_parts.specs.declared.entry.Framed.{Framed}
 use Rattle.thy_shadow_parts.specs.declared.entry.Held.{Held}
 use Rattle.thy_shadow_parts.specs.Commit.{page_by, is_below, committed_entry, committed_pool, freed_entry, renamed_entry, freed, renamed, moved_by}
@@ -60,13 +60,13 @@ entry_at-renamed n x t q = entry_at-by (renamed_entry n x) refl t q
 
 -- ---- the table after each change
 
-pub place_of-freed : (n : ℕ) (t : Listing Held) → place_of number_key n (freed n t) ≡ None
-place_of-freed n t =
-    place_of-none number_key (freed n t) n (λ q. ap (lists number_key n) (entry_at-freed n t q) ∙ freed_unlisted n (entry_at t q))
+pub index_of-freed : (n : ℕ) (t : Listing Held) → index_of number_key n (freed n t) ≡ None
+index_of-freed n t =
+    index_of-none number_key (freed n t) n (λ q. ap (lists number_key n) (entry_at-freed n t q) ∙ freed_unlisted n (entry_at t q))
 
-module _ (t : Listing Held) (once : IsListing number_key t) (n q : ℕ) (found : place_of number_key n t ≡ Some q) where
+module _ (t : Listing Held) (once : IsListing number_key t) (n q : ℕ) (found : index_of number_key n t ≡ Some q) where
   here : lists number_key n (entry_at t q) ≡ true
-  here = place_of-lists number_key t n q found
+  here = index_of-lists number_key t n q found
 
   inside : q < length t.entries
   inside = lists-inside number_key t.entries q n here
@@ -103,18 +103,18 @@ module _ (t : Listing Held) (once : IsListing number_key t) (n q : ℕ) (found :
       ])
 
 -- a number that is not listed
-pub freed_absent : (t : Listing Held) (n : ℕ) → place_of number_key n t ≡ None → t ≡ freed n t
+pub freed_absent : (t : Listing Held) (n : ℕ) → index_of number_key n t ≡ None → t ≡ freed n t
 freed_absent t n absent = listing_same t (freed n t) (sym (length-map t.entries (freed_entry n))) refl
     (λ i. sym (entry_at-freed n t i ∙ freed_other n (entry_at t i) (none-lists number_key t n absent i)))
 
-pub renamed_absent : (t : Listing Held) (n x : ℕ) → place_of number_key n t ≡ None → t ≡ renamed n x t
+pub renamed_absent : (t : Listing Held) (n x : ℕ) → index_of number_key n t ≡ None → t ≡ renamed n x t
 renamed_absent t n x absent = listing_same t (renamed n x t) (sym (length-map t.entries (renamed_entry n x))) refl
     (λ i. sym (entry_at-renamed n x t i ∙ renamed_other n x (entry_at t i) (none-lists number_key t n absent i)))
 
 -- once an entry is free, a number that was not listed is not listed
-pub unlisted_cleared : (t : Listing Held) (q n : ℕ) → q < length t.entries → place_of number_key n t ≡ None
-    → place_of number_key n (with_entry q None t) ≡ None
-unlisted_cleared t q n inside absent = place_of-none number_key (with_entry q None t) n
+pub unlisted_cleared : (t : Listing Held) (q n : ℕ) → q < length t.entries → index_of number_key n t ≡ None
+    → index_of number_key n (with_entry q None t) ≡ None
+unlisted_cleared t q n inside absent = index_of-none number_key (with_entry q None t) n
     (λ i. elim (cases_eq i q) as (λ _. lists number_key n (entry_at (with_entry q None t) i) ≡ false) [
       | inl same ↦ ap (lists number_key n) (ap (entry_at (with_entry q None t)) same ∙ entry_at-with_same t q None inside)
       | inr other ↦ ap (lists number_key n) (entry_at-with_other t q i None other) ∙ none-lists number_key t n absent i
@@ -158,7 +158,7 @@ module _ (p : Parameters) (frames : Listing Framed) where
   first : (o : Option Held) → committed_entry 0 p frames o ≡ o
   first None = refl
   first (Some e) = elim (cases_lt e.number p.pages) as (λ _. committed_entry 0 p frames (Some e) ≡ Some e) [
-    | inl l ↦ low 0 p frames e.number l ∙ none_below (place_of page_key e.number frames)
+    | inl l ↦ low 0 p frames e.number l ∙ none_below (index_of page_key e.number frames)
     | inr l ↦
         let j : ℕ = e.number - p.pages in
         let number : e.number ≡ p.pages + j = omega (arith, l) in
@@ -176,7 +176,7 @@ module _ (p : Parameters) (frames : Listing Framed) where
 
   module _ (pool : Listing Held) (frames_once : IsListing page_key frames) (pages : frames.numbers ≡ p.pages)
       (pool_once : IsListing number_key pool)
-      (claimed : (j : ℕ) → is_some (entry_at frames j) ≡ is_some (place_of number_key (p.pages + j) pool)) where
+      (claimed : (j : ℕ) → is_some (entry_at frames j) ≡ is_some (index_of number_key (p.pages + j) pool)) where
     -- the frame of a listed number is filled
     filled : (q j : ℕ) → entry_at pool q ≡ Some (held (p.pages + j)) → is_some (entry_at frames j) ≡ true
     filled q j is = claimed j ∙ ap is_some (pool_once.found q (p.pages + j) (held_lists (p.pages + j) (entry_at pool q) is))
@@ -192,12 +192,12 @@ module _ (p : Parameters) (frames : Listing Framed) where
     step_none k free q (Some e) is =
         elim (cases_lt e.number p.pages) as (λ _. committed_entry (k + 1) p frames (Some e) ≡ committed_entry k p frames (Some e)) [
           | inl l ↦
-              let other : (i : ℕ) → place_of page_key e.number frames ≡ Some i → i ≢ k = λ i at same.
+              let other : (i : ℕ) → index_of page_key e.number frames ≡ Some i → i ≢ k = λ i at same.
               (let there : entry_at frames i ≡ Some (framed e.number) = framed_is e.number (entry_at frames i)
-              (place_of-lists page_key frames e.number i at) in
+              (index_of-lists page_key frames e.number i at) in
               let both : None ≡ Some (framed e.number) = sym free ∙ sym (ap (entry_at frames) same) ∙ there in cc) in
               low (k + 1) p frames e.number l
-              ∙ ap (λ b. if b then None else Some e) (below_more k (place_of page_key e.number frames) other)
+              ∙ ap (λ b. if b then None else Some e) (below_more k (index_of page_key e.number frames) other)
               ∙ sym (low k p frames e.number l)
           | inr l ↦
               let j : ℕ = e.number - p.pages in
@@ -222,7 +222,7 @@ module _ (p : Parameters) (frames : Listing Framed) where
       page : x < p.pages
       page = framed_page k x full
 
-      of_frame : place_of page_key x frames ≡ Some k
+      of_frame : index_of page_key x frames ≡ Some k
       of_frame = frames_once.found k x (framed_lists x (entry_at frames k) full)
 
       -- one frame more is committed: an entry of a page of memory
@@ -232,7 +232,7 @@ module _ (p : Parameters) (frames : Listing Framed) where
           elim (cases_eq n x) as
           (λ _. committed_entry (k + 1) p frames (Some (held n)) ≡ step (committed_entry k p frames (Some (held n)))) [
             | inl same ↦
-                let at : place_of page_key n frames ≡ Some k = ap (λ m. place_of page_key m frames) same ∙ of_frame in
+                let at : index_of page_key n frames ≡ Some k = ap (λ m. index_of page_key m frames) same ∙ of_frame in
                 let now : committed_entry (k + 1) p frames (Some (held n)) ≡ None = low (k + 1) p frames n l
                 ∙ ap (λ o. if is_below (k + 1) o then None else Some (held n)) at
                 ∙ ap (λ b. if b then None else Some (held n)) (lt-ltb k (k + 1) (omega arith)) in
@@ -241,14 +241,14 @@ module _ (p : Parameters) (frames : Listing Framed) where
                 ∙ ap (λ b. if b then None else Some (held n)) (le-ltb k k (omega arith)) in
                 now ∙ sym (ap step before ∙ ap (renamed_entry (p.pages + k) x) (freed_here x (Some (held n)) (eq-eqb n x same)))
             | inr other ↦
-                let apart : (i : ℕ) → place_of page_key n frames ≡ Some i → i ≢ k = λ i at same.
+                let apart : (i : ℕ) → index_of page_key n frames ≡ Some i → i ≢ k = λ i at same.
                 (let there : entry_at frames i ≡ Some (framed n)
-                = framed_is n (entry_at frames i) (place_of-lists page_key frames n i at) in
+                = framed_is n (entry_at frames i) (index_of-lists page_key frames n i at) in
                 let both : Some (framed x) ≡ Some (framed n) = sym full ∙ sym (ap (entry_at frames) same) ∙ there in
                 other (sym (framed_same x n both))) in
                 low (k + 1) p frames n l
-                ∙ ap (λ b. if b then None else Some (held n)) (below_more k (place_of page_key n frames) apart)
-                ∙ stays other (is_below k (place_of page_key n frames))
+                ∙ ap (λ b. if b then None else Some (held n)) (below_more k (index_of page_key n frames) apart)
+                ∙ stays other (is_below k (index_of page_key n frames))
                 ∙ sym (ap step (low k p frames n l))
           ] where
             stays : n ≢ x → (b : Bool) → (if b then None else Some (held n)) ≡ step (if b then None else Some (held n))

@@ -14,7 +14,7 @@ use Rattle.thy_block.specs.Places.{frame_place}
 use Rattle.thy_block.proofs.BasicLemmas.{Contains-range}
 use Rattle.thy_table.specs.Listing.{entry_at}
 use Rattle.thy_table.proofs.IndexLemmas.{lists-inside, one_if}
-use Rattle.thy_table.proofs.ListingLaws.{place_of-lists}
+use Rattle.thy_table.proofs.ListingLaws.{index_of-lists}
 use Rattle.thy_shadow_parts.specs.Commit.{page_by}
 use Rattle.thy_shadow_parts.specs.Keys.{page_key, framed}
 use Rattle.thy_shadow_parts.specs.State.{State, IsSoundState, frame_of, frame_block, page_place}
@@ -41,12 +41,12 @@ module _ (s : State) (sound : IsSoundState s) where
   -- a frame that has a page is there, and has one
   pub frame_inside : (x j : ℕ) → frame_of s x ≡ Some j → j < s.p.ptt
   frame_inside x j found =
-      let inside = lists-inside page_key s.frames.entries j x (place_of-lists page_key s.frames x j found) in
+      let inside = lists-inside page_key s.frames.entries j x (index_of-lists page_key s.frames x j found) in
       let size = sound.frames_size in
       omega (arith, inside, size)
 
 pub frame_has : (s : State) (x j : ℕ) → frame_of s x ≡ Some j → entry_at s.frames j ≡ Some (framed x)
-frame_has s x j found = framed_is x (entry_at s.frames j) (place_of-lists page_key s.frames x j found)
+frame_has s x j found = framed_is x (entry_at s.frames j) (index_of-lists page_key s.frames x j found)
 
 pub one_page : (s : State) (x y i j : ℕ) → frame_of s x ≡ Some i → frame_of s y ≡ Some j → i ≡ j → x ≡ y
 one_page s x y i j a b same =

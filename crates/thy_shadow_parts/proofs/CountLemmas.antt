@@ -4,9 +4,9 @@ use Rattle.std.specs.List.{count_by}
 use Rattle.std.proofs.lemmas.Bool.{cases_Bool, cases_eq, eq-eqb, ne_eqb}
 use Rattle.std.proofs.lemmas.List.{get_or-set_same, get_or-set_other, get_or_default}
 use Rattle.std.proofs.lemmas.List.Sums.{sum_by-set, sum_by-cons, sum_by-le}
-use Rattle.thy_table.specs.Listing.{Listing, IsListing, entry_at, lists, place_of, free_count}
+use Rattle.thy_table.specs.Listing.{Listing, IsListing, entry_at, lists, index_of, free_count}
 use Rattle.thy_table.proofs.IndexLemmas.{one_if, free_one, lists-inside}
-use Rattle.thy_table.proofs.ListingLaws.{place_of-lists, none-lists, found-once}
+use Rattle.thy_table.proofs.ListingLaws.{index_of-lists, none-lists, found-once}
 use Rattle.thy_shadow_parts.specs.Guarded.{PoolHasRoom}
 use Rattle.thy_shadow_parts.specs.Keys.{number_key}
 use Rattle.thy_shadow_parts.specs.State.{pool_of}
@@ -98,11 +98,11 @@ module _ {E : Type 0} (key : E → ℕ) where
       omega (arith, rest, each, both, one, sum_by-cons (free_one {X = E}) (Some e) es)
 
   -- a number is listed once, or not at all
-  pub count-once : (t : Listing E) (n : ℕ) (o : Option ℕ) → IsListing key t → place_of key n t ≡ o
+  pub count-once : (t : Listing E) (n : ℕ) (o : Option ℕ) → IsListing key t → index_of key n t ≡ o
       → count_by (lists key n) t.entries ≡ one_if (is_some o)
   count-once t n None listing e = count-nowhere (lists key n) t.entries None (λ k l. none-lists key t n e k)
   count-once t n (Some i) listing e =
-      let here : lists key n (entry_at t i) ≡ true = place_of-lists key t n i e in
+      let here : lists key n (entry_at t i) ≡ true = index_of-lists key t n i e in
       let inside : i < length t.entries = lists-inside key t.entries i n here in
       let others : count_by (lists key n) (slice_set t.entries i None) ≡ 0
       = count-nowhere (lists key n) (slice_set t.entries i None) None
@@ -119,12 +119,12 @@ module _ {E : Type 0} (key : E → ℕ) where
 
   -- the number of free entries and the number of numbers that are listed make the number of entries
   pub count-listed : (t : Listing E) (n : ℕ) → IsListing key t → t.numbers ≡ n
-      → free_count t + total (λ m. one_if (is_some (place_of key m t))) n ≡ length t.entries
+      → free_count t + total (λ m. one_if (is_some (index_of key m t))) n ≡ length t.entries
   count-listed t n listing numbers =
       let all = count-numbers n t.entries (λ i m l. omega (arith, listing.inside i m l, numbers)) in
-      let each : total (λ m. count_by (lists key m) t.entries) n ≡ total (λ m. one_if (is_some (place_of key m t))) n
-      = total-same (λ m. count_by (lists key m) t.entries) (λ m. one_if (is_some (place_of key m t))) n
-      (λ m l. count-once t m (place_of key m t) listing refl) in
+      let each : total (λ m. count_by (lists key m) t.entries) n ≡ total (λ m. one_if (is_some (index_of key m t))) n
+      = total-same (λ m. count_by (lists key m) t.entries) (λ m. one_if (is_some (index_of key m t))) n
+      (λ m l. count-once t m (index_of key m t) listing refl) in
       omega (arith, all, each)
 
 -- an entry is free or not

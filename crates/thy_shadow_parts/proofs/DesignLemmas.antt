@@ -29,7 +29,7 @@ use Rattle.thy_parts.specs.Moments.{IsMoment, Carries, Commits, SealsTo, ReadsSa
 use Rattle.thy_parts.proofs.SameLemmas.{moment_of, carried, makes_alike}
 use Rattle.thy_shadow_image.specs.Places.{slot_blocks, slot_place, first_pool, pool_place, pool_page, image_blocks}
 use Rattle.thy_shadow_image.proofs.LayoutLemmas.{slot_behind, free_not_looked}
-use Rattle.thy_shadow_image.specs.CheckpointParts.{ReadsBack, IsToldBy, memory_places}
+use Rattle.thy_shadow_image.specs.CheckpointParts.{ReadsBack, HoldsCheckpoint, memory_places}
 use Rattle.thy_shadow_image.specs.Free.{Target, SlotBlock, PoolBlock, target_place as place_of_target, IsTarget, IsFree}
 use Rattle.thy_shadow_image.specs.Layout.{shadow_layouts}
 use Rattle.thy_shadow_image.specs.Slots.{IsMap, table_in, slot_fault}
@@ -174,10 +174,10 @@ holds_reads (Applying from) epoch s n m sound sized r h = tt
 
 -- ---- what is free
 
-kept_apart : (s : State) (g : List Block) (epoch : ℕ) (x : Target) → IsToldBy s.p g epoch (committed_table s) → IsTarget s.p x
+kept_apart : (s : State) (g : List Block) (epoch : ℕ) (x : Target) → HoldsCheckpoint s.p g epoch (committed_table s) → IsTarget s.p x
     → IsFree epoch (committed_table s) x → place_of_target s.p x ≢ 0 → IsSpared shadow_design s g (place_of_target s.p x)
-kept_apart s g epoch x told there free low inside =
-    free_not_looked s.p g epoch (committed_table s) x told there free
+kept_apart s g epoch x meant there free low inside =
+    free_not_looked s.p g epoch (committed_table s) x meant there free
     (not_first (place_of_target s.p x) 0 (1 ∷ looked_by (shadow_layouts s.p) g) (λ e. low (sym e)) inside)
 
 -- ---- the slot
@@ -201,7 +201,7 @@ module _ (e : Progress) (s : State) (n : Device) (moment : IsMoment shadow_desig
   pub slot_fits : (shadow_layouts e.p).slot_bad ceiling (commit_of e.epoch) slot ≡ None
   slot_fits = ap (λ (k : ℕ). slot_fault e.p ceiling k slot) epoch_is ∙ back.faultless
 
-  pub slot_makes : (g : List Block) → block_at g 1 ≡ commit_of e.epoch → slot_in (shadow_layouts e.p) g ≡ slot → IsToldBy s.p g e.epoch (next_table s)
+  pub slot_makes : (g : List Block) → block_at g 1 ≡ commit_of e.epoch → slot_in (shadow_layouts e.p) g ≡ slot → HoldsCheckpoint s.p g e.epoch (next_table s)
   slot_makes g commit is = record {
     of_epoch = ap epoch_of commit ∙ epoch_is;
     table_is =
@@ -218,7 +218,7 @@ module _ (e : Progress) (s : State) (n : Device) (moment : IsMoment shadow_desig
       → IsSpared shadow_design s g ((shadow_layouts e.p).slot_place (commit_of e.epoch) + k)
   slot_spared g k keeps l =
       subst (IsSpared shadow_design s g) (sym (place_is k))
-      (kept_apart s g keeps.kept (SlotBlock (e.epoch % 2) k) keeps.told
+      (kept_apart s g keeps.kept (SlotBlock (e.epoch % 2) k) keeps.meant
       (half e.epoch, subst (λ (p : Parameters). k < slot_blocks p) (sym can.same_p) l) keeps.other (λ q. omega (arith, q)))
 
   -- memory reads at its places by the slot as it was sealed
@@ -269,7 +269,7 @@ body_carried epoch s n x moment found =
     let same : works s m ≡ works s n = works_over s n moment.sound moment.sized to block aside in
     let there = paged_on s n moment.sound moment.sized x filled moment.holds in
     carried (moment_of moment (length-written_to n to block) moment.stands there) same same
-    (commits_over s n moment.sound moment.sized to block aside) (λ g h. record { kept = h.kept; told = h.told; other = h.other })
+    (commits_over s n moment.sound moment.sized to block aside) (λ g h. record { kept = h.kept; meant = h.meant; other = h.other })
     (λ g h. h) (λ a b r. tt) (omega arith)
 
 -- a frame's page of the pool is none of the committed map's
@@ -281,21 +281,21 @@ body_spares epoch s n x g moment found keeps =
     let q : ℕ = of.0 in
     let goes : target s (x / 64) ≡ Some q = of.1 in
     subst (IsSpared shadow_design s g) (ap (λ (at : Option ℕ). pool_place s.p (pool_page at) (x % 64)) (sym goes))
-    (kept_apart s g keeps.kept (PoolBlock q (x % 64)) keeps.told (target_small s sound (x / 64) q goes, omega arith)
+    (kept_apart s g keeps.kept (PoolBlock q (x % 64)) keeps.meant (target_small s sound (x / 64) q goes, omega arith)
     (λ y lists. target_free s sound (x / 64) q goes y lists) (λ e. omega (arith, e)))
 
 body_past : (epoch : ℕ) (s : State) (n : Device) (from k : ℕ) → IsMoment shadow_design (Making from) epoch s n → next_block from s ≡ Some k
     → Carries shadow_design epoch (Making from) s n (Making k) s n
 body_past epoch s n from k moment found =
     let there = subst (λ (x : ℕ). ArePaged s n x) (next_filled s from k found).0 moment.holds in
-    carried (moment_of moment refl moment.stands there) refl refl refl (λ g h. record { kept = h.kept; told = h.told; other = h.other })
+    carried (moment_of moment refl moment.stands there) refl refl refl (λ g h. record { kept = h.kept; meant = h.meant; other = h.other })
     (λ g h. h) (λ a b r. tt) (omega arith)
 
 body_whole : (epoch : ℕ) (s : State) (n : Device) (from : ℕ) → IsMoment shadow_design (Making from) epoch s n → next_block from s ≡ None
     → Carries shadow_design epoch (Making from) s n Made s n
 body_whole epoch s n from moment none =
     let there = paged_all s n moment.sound moment.sized from (next_free s from none) moment.holds in
-    carried (moment_of moment refl moment.stands there) refl refl refl (λ g h. record { kept = h.kept; told = h.told; other = h.other })
+    carried (moment_of moment refl moment.stands there) refl refl refl (λ g h. record { kept = h.kept; meant = h.meant; other = h.other })
     (λ g no. absurd no) (λ a b r. tt) (omega arith)
 
 -- ---- the commit
@@ -318,9 +318,9 @@ commits_to epoch s n moment = record {
   room = refl;
   loads = works_confirm s n moment.sound moment.holds;
   committed = commits_are_works s n moment.sound moment.holds;
-  keeps = λ g told. record {
+  keeps = λ g meant. record {
     kept = epoch;
-    told = subst (IsToldBy s.p g epoch) (sym (committed_table-committed s moment.sound)) told;
+    meant = subst (HoldsCheckpoint s.p g epoch) (sym (committed_table-committed s moment.sound)) meant;
     other = tt;
   };
   rests = λ a b r. rests_committed a s;
@@ -347,8 +347,8 @@ seals_to before epoch s n moment = record {
   committed = refl;
   keeps = λ g next h. record {
     kept = h.kept;
-    told = h.told;
-    other = λ q. let of = h.told.of_epoch in omega (arith, next, of, q);
+    meant = h.meant;
+    other = λ q. let of = h.meant.of_epoch in omega (arith, next, of, q);
   };
   rests = λ a b r. tt;
   free = omega arith;
@@ -378,7 +378,7 @@ drain_carried phase epoch s n moment = record {
   loads = works_drained s n;
   sealed = works_drained s n;
   committed = refl;
-  keeps = λ g h. record { kept = h.kept; told = h.told; other = h.other };
+  keeps = λ g h. record { kept = h.kept; meant = h.meant; other = h.other };
   makes = λ g. makes_alike shadow_design phase epoch s (after_drain s) g (λ h. h);
   rests = λ a b r. r;
   free = omega arith;

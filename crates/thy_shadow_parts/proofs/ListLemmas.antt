@@ -10,7 +10,7 @@ use Rattle.thy_layout.proofs.AskingLemmas.{map-alike}
 use Rattle.thy_layout.specs.Layout.{slot_in, memory_in}
 use Rattle.thy_block.proofs.BasicLemmas.{Contains-range}
 use Rattle.thy_table.specs.Listing.{lists}
-use Rattle.thy_table.proofs.ListingLaws.{place_of-none}
+use Rattle.thy_table.proofs.ListingLaws.{index_of-none}
 use Rattle.thy_block.proofs.DeviceLemmas.{newest-empty}
 use Rattle.thy_shadow_image.specs.Places.{pool_place, pool_page, place_of}
 use Rattle.thy_shadow_image.specs.Slots.{table_in}
@@ -27,7 +27,7 @@ pub below : (n b : ℕ) → Contains (range_with_len 0 n) b → b < n
 below n b inside = let of = Contains-range 0 n b inside in let l = of.1 in let is = of.2 in omega (arith, l, is)
 
 pub unframed_none : (s : State) (x : ℕ) → IsUnframed s → frame_of s x ≡ None
-unframed_none s x h = place_of-none page_key s.frames x (λ j. ap (lists page_key x) (h.free j))
+unframed_none s x h = index_of-none page_key s.frames x (λ j. ap (lists page_key x) (h.free j))
 
 -- a committed block has its place by the committed map
 pub place_committed : (s : State) (b : ℕ) → b < memory_blocks s.p → committed_place s b ≡ place_of s.p (committed_table s) b

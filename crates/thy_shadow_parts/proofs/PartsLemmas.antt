@@ -17,7 +17,7 @@ use Rattle.thy_checkpoint.specs.Boot.{Booting}
 use Rattle.thy_checkpoint.specs.Filling.{first_slot_of}
 use Rattle.thy_checkpoint.specs.Recovers.{IsRestored}
 use Rattle.thy_checkpoint.specs.Start.{CanStart}
-use Rattle.thy_shadow_image.specs.CheckpointParts.{IsToldBy}
+use Rattle.thy_shadow_image.specs.CheckpointParts.{HoldsCheckpoint}
 use Rattle.thy_shadow_image.specs.Layout.{shadow_layouts}
 use Rattle.thy_shadow_image.specs.Places.{image_blocks, pool_pages}
 use Rattle.thy_shadow_image.specs.Slots.{IsMap, table_in}
@@ -86,10 +86,10 @@ commits_are_works s n h =
     (λ b l. sym (ap (work_by s n b) (unframed_none s (page_of b) h)))
 
 ends : (s : State) (n : Device) (g : List Block) (kept : ℕ) → IsUnframed s → length n.image ≡ image_blocks s.p
-    → IsToldBy s.p g kept (committed_table s) → EndsBoot shadow_design Resting s n g
-ends s n g kept h sized told = record {
+    → HoldsCheckpoint s.p g kept (committed_table s) → EndsBoot shadow_design Resting s n g
+ends s n g kept h sized meant = record {
   moment = λ epoch. record { sound = h.state; sized = sized; stands = h.state; holds = ap (agree_by s n) h.unbegun };
-  keeps = λ epoch. record { kept = kept; told = told; other = tt };
+  keeps = λ epoch. record { kept = kept; meant = meant; other = tt };
   committed = commits_are_works s n h;
   rests = free_count-all s.frames.entries h.free;
   closed = ap opened_by h.unbegun;

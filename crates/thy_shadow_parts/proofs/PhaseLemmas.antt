@@ -13,7 +13,7 @@ use Rattle.thy_block.specs.declared.parameters.Parameters.{Parameters}
 use Rattle.thy_block.proofs.BasicLemmas.{Contains-range}
 use Rattle.thy_table.specs.Listing.{entry_at, lists, mapped}
 use Rattle.thy_table.proofs.IndexLemmas.{lists-inside, one_if}
-use Rattle.thy_table.proofs.ListingLaws.{entry_at-cleared, place_of-none, place_of-lists}
+use Rattle.thy_table.proofs.ListingLaws.{entry_at-cleared, index_of-none, index_of-lists}
 use Rattle.thy_layout.specs.Entries.{Lists}
 use Rattle.thy_parts.proofs.MemoryLemmas.{map_below, map_places}
 use Rattle.thy_shadow_image.specs.Places.{map_blocks, pool_pages, first_pool, image_blocks, pool_place, pool_page, place_of}
@@ -96,7 +96,7 @@ module _ (s : State) (h : IsSoundState s) where
   pub target_small : (j q : ℕ) → target s j ≡ Some q → q < pool_pages s.p
   target_small j q is =
       subst (λ (n : ℕ). q < n) h.pool_size
-      (lists-inside number_key s.pool.entries q (s.p.pages + j) (place_of-lists number_key s.pool (s.p.pages + j) q is))
+      (lists-inside number_key s.pool.entries q (s.p.pages + j) (index_of-lists number_key s.pool (s.p.pages + j) q is))
 
   pub target_inside : (m : Device) (j c : ℕ) → IsSized s m → c < 64 → is_some (entry_at s.frames j) ≡ true
       → target_place s j c < length m.image
@@ -137,7 +137,7 @@ module _ (s : State) (h : IsSoundState s) where
 
 pub frame_of-committed : (s : State) (x : ℕ) → frame_of (committed_state s) x ≡ None
 frame_of-committed s x =
-    place_of-none page_key (mapped freed_frame s.frames) x
+    index_of-none page_key (mapped freed_frame s.frames) x
     (λ j. ap (lists page_key x) (entry_at-cleared freed_frame (λ e. refl) s.frames j))
 
 -- with all frames free every block loads as it was committed
@@ -325,7 +325,7 @@ page_reads : (s : State) (n : Device) (b : ℕ) (o : Option ℕ) → AllPaged s 
     → newest n (pool_place s.p (pool_page (next_page_by s (page_of b) o)) (b % 64)) ≡ work_by s n b o
 page_reads s n b None all found = refl
 page_reads s n b (Some j) all found =
-    let listed = place_of-lists page_key s.frames (page_of b) j found in
+    let listed = index_of-lists page_key s.frames (page_of b) j found in
     all.each j (b % 64) (omega arith) (ap is_some (framed_is (page_of b) (entry_at s.frames j) listed))
 
 place_next : (s : State) (b : ℕ) → b < memory_blocks s.p

@@ -9,9 +9,9 @@ use Rattle.thy_block.specs.Geometry.{IsInRange}
 use Rattle.thy_block.proofs.BasicLemmas.{not_some, some_same}
 use Rattle.thy_block.specs.Places.{dram_blocks}
 use Rattle.thy_dram.specs.Contents.{Contents}
-use Rattle.thy_table.specs.Listing.{Listing, IsListing, listing, entry_at, lists, place_of, free_place, with_entry, added_at, mapped, empty_table, free_count}
+use Rattle.thy_table.specs.Listing.{Listing, IsListing, listing, entry_at, lists, index_of, free_index, with_entry, added_at, mapped, empty_table, free_count}
 use Rattle.thy_table.proofs.IndexLemmas.{lists-some, lists-key, some-counted}
-use Rattle.thy_table.proofs.ListingLaws.{entry_at-with_same, entry_at-with_other, entry_at-empty, free_first, IsListing-put, place_of-put, place_of-put_other, entry_at-cleared, IsListing-free}
+use Rattle.thy_table.proofs.ListingLaws.{entry_at-with_same, entry_at-with_other, entry_at-empty, free_first, IsListing-put, index_of-put, index_of-put_other, entry_at-cleared, IsListing-free}
 use Rattle.thy_layout.specs.Entries.{Lists, entry_at as listed_at}
 use Rattle.thy_shadow_image.specs.Places.{pool_pages, map_blocks}
 use Rattle.thy_shadow_image.specs.Slots.{IsMap}
@@ -34,8 +34,8 @@ use Rattle.thy_shadow_parts.specs.Listed.{HoldsMap}
 pub IsSoundState-idle : (p : Parameters) (pool : Listing Held) (frames : Listing Framed) (dram : Contents) → IsInRange p
     → length pool.entries ≡ pool_pages p → pool.numbers ≡ pool_pages p → length frames.entries ≡ p.ptt → frames.numbers ≡ p.pages
     → length dram.blocks ≡ dram_blocks p → IsListing number_key pool → IsListing page_key frames
-    → ((x : ℕ) → x < p.pages → is_some (place_of number_key x pool) ≡ true)
-    → ((j : ℕ) → place_of number_key (p.pages + j) pool ≡ None) → ((j : ℕ) → entry_at frames j ≡ None)
+    → ((x : ℕ) → x < p.pages → is_some (index_of number_key x pool) ≡ true)
+    → ((j : ℕ) → index_of number_key (p.pages + j) pool ≡ None) → ((j : ℕ) → entry_at frames j ≡ None)
     → IsSoundState (state_in p pool frames None dram)
 IsSoundState-idle p pool frames dram range pool_size pool_numbers frames_size frames_numbers dram_size pool_once frames_once mapped
     unclaimed free =
@@ -84,9 +84,9 @@ pub IsSoundState-new : (p : Parameters) (dram : Contents) → IsInRange p → le
     → IsSoundState (new_state p dram)
 IsSoundState-new p dram range dram_size pool_once frames_once =
     let pool : Listing Held = listing (first_entries p) (pool_pages p) in
-    let found : (x : ℕ) → x < p.pages → place_of number_key x pool ≡ Some x
+    let found : (x : ℕ) → x < p.pages → index_of number_key x pool ≡ Some x
     = λ x l. pool_once.found x x (held_lists x (entry_at pool x) (entry_at-first p (pool_pages p) x ∙ first_page p x l)) in
-    let unclaimed : (j : ℕ) → place_of number_key (p.pages + j) pool ≡ None
+    let unclaimed : (j : ℕ) → index_of number_key (p.pages + j) pool ≡ None
     = λ j. unlisted pool (p.pages + j) (λ q listed.
     let is = first_lists p q (p.pages + j) (nat_lt q p.pages) refl
     (sym (ap (lists number_key (p.pages + j)) (entry_at-first p (pool_pages p) q)) ∙ listed) in
@@ -125,7 +125,7 @@ IsSoundState-sealed s h = IsSoundState-over s None s.dram h refl (λ b is. cc)
 -- ---- a frame is filled
 
 module _ (s : State) (h : IsSoundState s) (x j q : ℕ) (page : x < s.p.pages) (unframed : frame_of s x ≡ None)
-    (frame : free_place s.frames ≡ Some j) (place : free_place s.pool ≡ Some q) where
+    (frame : free_index s.frames ≡ Some j) (place : free_index s.pool ≡ Some q) where
   abbrev frames : Listing Framed
   frames = with_entry j (Some (framed x)) s.frames
 
@@ -149,12 +149,12 @@ module _ (s : State) (h : IsSoundState s) (x j q : ℕ) (page : x < s.p.pages) (
   number : s.p.pages + j < s.pool.numbers
   number = omega (arith, at_frame.0, h.frames_size, h.pool_numbers)
 
-  found : place_of number_key (s.p.pages + j) pool ≡ Some q
-  found = place_of-put number_key s.pool h.pool_once q (held (s.p.pages + j)) at_place.0 unclaimed number
+  found : index_of number_key (s.p.pages + j) pool ≡ Some q
+  found = index_of-put number_key s.pool h.pool_once q (held (s.p.pages + j)) at_place.0 unclaimed number
 
-  found_other : (n : ℕ) → n ≢ s.p.pages + j → place_of number_key n pool ≡ pool_of s n
+  found_other : (n : ℕ) → n ≢ s.p.pages + j → index_of number_key n pool ≡ pool_of s n
   found_other n other =
-      place_of-put_other number_key s.pool h.pool_once q (held (s.p.pages + j)) n at_place.0 at_place.1 unclaimed number other
+      index_of-put_other number_key s.pool h.pool_once q (held (s.p.pages + j)) n at_place.0 at_place.1 unclaimed number other
 
   here : entry_at frames j ≡ Some (framed x)
   here = entry_at-with_same s.frames j (Some (framed x)) at_frame.0
@@ -165,10 +165,10 @@ module _ (s : State) (h : IsSoundState s) (x j q : ℕ) (page : x < s.p.pages) (
   elsewhere : (i : ℕ) → i ≢ j → entry_at frames i ≡ entry_at s.frames i
   elsewhere i other = entry_at-with_other s.frames j i (Some (framed x)) other
 
-  claimed_by : (i : ℕ) → is_some (entry_at frames i) ≡ is_some (place_of number_key (s.p.pages + i) pool)
-  claimed_by i = elim (cases_eq i j) as (λ _. is_some (entry_at frames i) ≡ is_some (place_of number_key (s.p.pages + i) pool)) [
+  claimed_by : (i : ℕ) → is_some (entry_at frames i) ≡ is_some (index_of number_key (s.p.pages + i) pool)
+  claimed_by i = elim (cases_eq i j) as (λ _. is_some (entry_at frames i) ≡ is_some (index_of number_key (s.p.pages + i) pool)) [
     | inl same ↦
-        ap is_some (ap (entry_at frames) same ∙ here) ∙ sym (ap is_some (ap (λ k. place_of number_key (s.p.pages + k) pool) same ∙ found))
+        ap is_some (ap (entry_at frames) same ∙ here) ∙ sym (ap is_some (ap (λ k. index_of number_key (s.p.pages + k) pool) same ∙ found))
     | inr other ↦
         let apart : s.p.pages + i ≢ s.p.pages + j = λ e. other (omega (arith, e)) in
         ap is_some (elsewhere i other) ∙ h.claimed i ∙ sym (ap is_some (found_other (s.p.pages + i) apart))
@@ -214,10 +214,10 @@ module _ (s : State) (h : IsSoundState s) (x j q : ℕ) (page : x < s.p.pages) (
     below = of.below;
   }
 
-  lowest_by : (i r t : ℕ) → place_of number_key (s.p.pages + i) pool ≡ Some r → t < r → ListsBelow pool (s.p.pages + i) t
+  lowest_by : (i r t : ℕ) → index_of number_key (s.p.pages + i) pool ≡ Some r → t < r → ListsBelow pool (s.p.pages + i) t
   lowest_by i r t goes l = elim (cases_eq i j) as (λ _. ListsBelow pool (s.p.pages + i) t) [
     | inl same ↦
-        let at : r ≡ q = (let now = ap (λ k. place_of number_key (s.p.pages + k) pool) same in let found_at = found in cc) in
+        let at : r ≡ q = (let now = ap (λ k. index_of number_key (s.p.pages + k) pool) same in let found_at = found in cc) in
         subst (λ (k : ℕ). ListsBelow pool (s.p.pages + k) t) (sym same)
         (listed_still (s.p.pages + j) t (lowest_new t (omega (arith, at, l))))
     | inr other ↦
@@ -280,7 +280,7 @@ module _ (p : Parameters) (x : ℕ) (t : Listing Held) (h : AreFirst p x t) wher
       let of = lists-some number_key n (Some (held q)) h in let same : held q ≡ of.0 = cc in (b, ap number_key same ∙ of.2)
   listed_low q n before low b l h = cc
 
-  pub first_unlisted : place_of number_key x t ≡ None
+  pub first_unlisted : index_of number_key x t ≡ None
   first_unlisted = unlisted t x (λ q listed.
       let is = listed_low q x (nat_lt q x) (nat_lt q p.pages) refl refl (sym (ap (lists number_key x) (h.each q)) ∙ listed) in
       let before : nat_lt x x ≡ true = sym (ap (λ m. nat_lt m x) is.1) ∙ is.0 in
@@ -298,22 +298,22 @@ module _ (p : Parameters) (x : ℕ) (t : Listing Held) (h : AreFirst p x t) wher
       ∙ sym (entry_at-first p (pool_pages p) q))
 
 -- the lowest free frame is free
-pub free_frame_is : (s : State) → 0 < free_count s.frames → free_place s.frames ≡ Some (free_frame s)
-free_frame_is s more = by_place (free_place s.frames) refl where
-  by_place : (o : Option ℕ) → free_place s.frames ≡ o → o ≡ Some (unwrap_or o 0)
+pub free_frame_is : (s : State) → 0 < free_count s.frames → free_index s.frames ≡ Some (free_frame s)
+free_frame_is s more = by_place (free_index s.frames) refl where
+  by_place : (o : Option ℕ) → free_index s.frames ≡ o → o ≡ Some (unwrap_or o 0)
   by_place None e = let none = (some-counted s.frames.entries None e).1 more in absurd (cc)
   by_place (Some j) e = refl
 
 -- if a frame is free, a page of the pool is free
-pub free_page : (s : State) → IsSoundState s → 0 < free_count s.frames → (q : ℕ) × (free_place s.pool ≡ Some q)
-free_page s h more = by_place (free_place s.pool) refl where
-  by_place : (o : Option ℕ) → free_place s.pool ≡ o → (q : ℕ) × (free_place s.pool ≡ Some q)
+pub free_page : (s : State) → IsSoundState s → 0 < free_count s.frames → (q : ℕ) × (free_index s.pool ≡ Some q)
+free_page s h more = by_place (free_index s.pool) refl where
+  by_place : (o : Option ℕ) → free_index s.pool ≡ o → (q : ℕ) × (free_index s.pool ≡ Some q)
   by_place None e = let none = (some-counted s.pool.entries None e).1 (omega (arith, more, room s h)) in absurd (cc)
   by_place (Some q) e = (q, e)
 
 module _ (s : State) (h : IsSoundState s) (x : ℕ) (page : x < s.p.pages) (unframed : frame_of s x ≡ None)
     (more : 0 < free_count s.frames) where
-  abbrev goes : (q : ℕ) × (free_place s.pool ≡ Some q)
+  abbrev goes : (q : ℕ) × (free_index s.pool ≡ Some q)
   goes = free_page s h more
 
   -- the lowest free frame has no page of the pool yet
@@ -346,7 +346,7 @@ module _ (k : ℕ) (table : List (Option ℕ)) (old t : Listing Held) (h : Holds
 
 module _ (k : ℕ) (table : List (Option ℕ)) (t : Listing Held) (h : HoldsMap k table t t) where
   -- the next page isn't listed yet
-  pub holds_unlisted : place_of number_key k t ≡ None
+  pub holds_unlisted : index_of number_key k t ≡ None
   holds_unlisted = unlisted t k (λ q listed. omega (arith, (h.only k q (held_is k (entry_at t q) listed)).0))
 
   -- the map has none for it
@@ -414,16 +414,16 @@ holds_all k p table old t whole l h = record {
 
 module _ (p : Parameters) (table : List (Option ℕ)) (old t : Listing Held) (whole : IsMap p table) (h : HoldsMap p.pages table old t)
     (once : IsListing number_key t) where
-  page_found : (x : ℕ) → x < p.pages → (q : ℕ) × Lists table x q × (place_of number_key x t ≡ Some q)
+  page_found : (x : ℕ) → x < p.pages → (q : ℕ) × Lists table x q × (index_of number_key x t ≡ Some q)
   page_found x l =
       let page = whole.mapped x l in
       (page.0, page.1, once.found page.0 x (held_lists x (entry_at t page.0) (h.there x page.0 l page.1)))
 
   -- every page of memory is listed, and no frame's page is
-  pub listed_mapped : (x : ℕ) → x < p.pages → is_some (place_of number_key x t) ≡ true
+  pub listed_mapped : (x : ℕ) → x < p.pages → is_some (index_of number_key x t) ≡ true
   listed_mapped x l = ap is_some (page_found x l).2
 
-  pub listed_unclaimed : (j : ℕ) → place_of number_key (p.pages + j) t ≡ None
+  pub listed_unclaimed : (j : ℕ) → index_of number_key (p.pages + j) t ≡ None
   listed_unclaimed j =
       unlisted t (p.pages + j) (λ q listed. omega (arith, (h.only (p.pages + j) q (held_is (p.pages + j) (entry_at t q) listed)).0))
 
@@ -432,9 +432,9 @@ module _ (p : Parameters) (table : List (Option ℕ)) (old t : Listing Held) (wh
   past_empty x (Some q) l e = let low = whole.of_page x q (record { is = e }) in absurd (omega (arith, low, l))
 
   -- the map of the table is the one in the slot
-  pub listed_table : table_by p (λ x. place_of number_key x t) ≡ table
+  pub listed_table : table_by p (λ x. index_of number_key x t) ≡ table
   listed_table =
-      let of : ℕ → Option ℕ = λ x. place_of number_key x t in
+      let of : ℕ → Option ℕ = λ x. index_of number_key x t in
       ext_get_or None (table_by p of) table (length-table_by p of ∙ sym whole.long)
       (λ x below.
       let l : x < 8 * map_blocks p = omega (arith, below, length-table_by p of) in

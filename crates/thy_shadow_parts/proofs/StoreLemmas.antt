@@ -19,12 +19,12 @@ use Rattle.thy_layout.proofs.SparesLemmas.{Spares-no_more}
 use Rattle.thy_dram.specs.Contents.{written}
 use Rattle.thy_layout.specs.Layout.{looked_by}
 use Rattle.thy_layout.proofs.AskingLemmas.{map-alike}
-use Rattle.thy_table.specs.Listing.{Listing, entry_at, free_place, free_count, with_entry}
+use Rattle.thy_table.specs.Listing.{Listing, entry_at, free_index, free_count, with_entry}
 use Rattle.thy_table.proofs.IndexLemmas.{free_one}
-use Rattle.thy_table.proofs.ListingLaws.{free_first, place_of-put, place_of-put_other}
+use Rattle.thy_table.proofs.ListingLaws.{free_first, index_of-put, index_of-put_other}
 use Rattle.thy_view.specs.Action.{IsAccess, after, FailsTo}
 use Rattle.thy_view.specs.Dram.{ActsOnDram, WritesBlock}
-use Rattle.thy_shadow_image.specs.CheckpointParts.{IsToldBy}
+use Rattle.thy_shadow_image.specs.CheckpointParts.{HoldsCheckpoint}
 use Rattle.thy_shadow_image.specs.Layout.{shadow_layouts}
 use Rattle.thy_shadow_image.specs.Places.{image_blocks, pool_place, pool_page}
 use Rattle.thy_checkpoint.specs.Items.{Phase, Resting}
@@ -132,7 +132,7 @@ module _ (b : ℕ) (block : Block) (s : State) (n : Device) (sound : IsSoundStat
     abbrev j : ℕ
     j = free_frame s
 
-    is_lowest : free_place s.frames ≡ Some j
+    is_lowest : free_index s.frames ≡ Some j
     is_lowest = free_frame_is s room
 
     j_inside : j < s.p.ptt
@@ -202,7 +202,7 @@ module _ (b : ℕ) (block : Block) (s : State) (n : Device) (sound : IsSoundStat
 
     -- ---- the frame is whole, and becomes the page's
 
-    module _ (place : ℕ) (is_place : free_place s.pool ≡ Some place) (whole : AreCopied s n x 64) where
+    module _ (place : ℕ) (is_place : free_index s.pool ≡ Some place) (whole : AreCopied s n x 64) where
       abbrev frames : Listing Framed
       frames = with_entry j (Some (framed x)) s.frames
 
@@ -236,15 +236,15 @@ module _ (b : ℕ) (block : Block) (s : State) (n : Device) (sound : IsSoundStat
 
       -- the page has that frame, and every other page what it had
       frame_here : frame_of full x ≡ Some j
-      frame_here = place_of-put page_key s.frames sound.frames_once j (framed x) frame_size unframed page_number
+      frame_here = index_of-put page_key s.frames sound.frames_once j (framed x) frame_size unframed page_number
 
       frame_there : (y : ℕ) → y ≢ x → frame_of full y ≡ frame_of s y
       frame_there y other =
-          place_of-put_other page_key s.frames sound.frames_once j (framed x) y frame_size j_free unframed page_number other
+          index_of-put_other page_key s.frames sound.frames_once j (framed x) y frame_size j_free unframed page_number other
 
       pool_there : (y : ℕ) → y < s.p.pages → pool_of full y ≡ pool_of s y
       pool_there y l =
-          place_of-put_other number_key s.pool sound.pool_once place (held_entry (s.p.pages + j)) y at_place.0 at_place.1 unclaimed pool_number
+          index_of-put_other number_key s.pool sound.pool_once place (held_entry (s.p.pages + j)) y at_place.0 at_place.1 unclaimed pool_number
           (λ e. omega (arith, e, l))
 
       pub table_full : committed_table full ≡ committed_table s
@@ -398,7 +398,7 @@ module _ (b : ℕ) (block : Block) (s : State) (n : Device) (can : CanStore shad
       let j : ℕ = free_frame s in
       let x : ℕ = page_of b in
       let q : ℕ = (free_page s sound room).0 in
-      let at : free_place s.pool ≡ Some q = (free_page s sound room).1 in
+      let at : free_index s.pool ≡ Some q = (free_page s sound room).1 in
       let whole : AreCopied s n x 64 = λ d low. are_copied s n x agree d (omega (arith, low, many)) in
       let u : State = full b block s n sound small unframed room q at whole in
       let t : State = put_into j (b % 64) block u in
@@ -501,10 +501,10 @@ rests_less Resting frames rests = tt
 rests_less phase frames rests = tt
 
 module _ (epoch : ℕ) (s : State) (n : Device) (t : State) (m : Device) (moment : IsMoment shadow_design Resting epoch s n) (stays : StaysPool s n t m) where
-  told_then : (g : List Block) (kept : ℕ) → IsToldBy s.p g kept (committed_table s) → IsToldBy t.p g kept (committed_table t)
-  told_then g kept told =
-      subst (λ (p : Parameters). IsToldBy p g kept (committed_table t)) (sym stays.same_p)
-      (subst (IsToldBy s.p g kept) (sym stays.table) told)
+  meant_then : (g : List Block) (kept : ℕ) → HoldsCheckpoint s.p g kept (committed_table s) → HoldsCheckpoint t.p g kept (committed_table t)
+  meant_then g kept meant =
+      subst (λ (p : Parameters). HoldsCheckpoint p g kept (committed_table t)) (sym stays.same_p)
+      (subst (HoldsCheckpoint s.p g kept) (sym stays.table) meant)
 
   stays_idle : copies_agree t n ≡ true → StaysAt shadow_design Resting epoch s n t n
   stays_idle copies = record {
@@ -516,7 +516,7 @@ module _ (epoch : ℕ) (s : State) (n : Device) (t : State) (m : Device) (moment
     };
     sealed = tt;
     committed = commits_alike s t n stays.same_p stays.table;
-    keeps = λ g h. record { kept = h.kept; told = told_then g h.kept h.told; other = tt };
+    keeps = λ g h. record { kept = h.kept; meant = meant_then g h.kept h.meant; other = tt };
     makes = λ g h. h;
     rests = λ b r. tt;
     slot = tt;

@@ -6,7 +6,7 @@ use Rattle.std.proofs.lemmas.List.FromFn.{length-map-range_with_len, get_or-map-
 use Rattle.thy_block.specs.declared.parameters.Parameters.{Parameters}
 use Rattle.thy_table.specs.Listing.{entry_at}
 use Rattle.thy_table.proofs.IndexLemmas.{lists-inside, lists-key}
-use Rattle.thy_table.proofs.ListingLaws.{place_of-lists}
+use Rattle.thy_table.proofs.ListingLaws.{index_of-lists}
 use Rattle.thy_layout.specs.Entries.{Lists, entry_at as listed_at}
 use Rattle.thy_layout.proofs.EntryLemmas.{Lists-inside}
 use Rattle.thy_shadow_image.specs.Places.{map_blocks, pool_pages}
@@ -75,13 +75,13 @@ table_by-same p f g each =
 module _ (s : State) (h : IsSoundState s) where
   pool_inside : (n q : ℕ) → pool_of s n ≡ Some q → q < pool_pages s.p
   pool_inside n q e =
-      subst (λ (m : ℕ). q < m) h.pool_size (lists-inside number_key s.pool.entries q n (place_of-lists number_key s.pool n q e))
+      subst (λ (m : ℕ). q < m) h.pool_size (lists-inside number_key s.pool.entries q n (index_of-lists number_key s.pool n q e))
 
   -- one page of the pool lists one number
   pub same_number : (n m q : ℕ) → pool_of s n ≡ Some q → pool_of s m ≡ Some q → n ≡ m
   same_number n m q a b =
-      let here : entry_at s.pool q ≡ Some (held n) = held_is n (entry_at s.pool q) (place_of-lists number_key s.pool n q a) in
-      let there : entry_at s.pool q ≡ Some (held m) = held_is m (entry_at s.pool q) (place_of-lists number_key s.pool m q b) in
+      let here : entry_at s.pool q ≡ Some (held n) = held_is n (entry_at s.pool q) (index_of-lists number_key s.pool n q a) in
+      let there : entry_at s.pool q ≡ Some (held m) = held_is m (entry_at s.pool q) (index_of-lists number_key s.pool m q b) in
       held_same n m (sym here ∙ there)
 
   pub IsMap-committed : IsMap s.p (committed_table s)
@@ -93,7 +93,7 @@ module _ (s : State) (h : IsSoundState s) where
 
   -- a page with a frame has the frame's page of the pool
   frame_page : (x j : ℕ) → frame_of s x ≡ Some j → entry_at s.frames j ≡ Some (framed x)
-  frame_page x j e = framed_is x (entry_at s.frames j) (place_of-lists page_key s.frames x j e)
+  frame_page x j e = framed_is x (entry_at s.frames j) (index_of-lists page_key s.frames x j e)
 
   pub next_there : (x : ℕ) (o : Option ℕ) → frame_of s x ≡ o → x < s.p.pages → is_some (next_page_by s x o) ≡ true
   next_there x None e l = h.mapped x l

@@ -2,7 +2,7 @@
 -- What seal and commit make of the pool.
 use Rattle.std.specs.Prelude.{ℕ, ◌-◌, ◌==◌, nat_lt, if◌then◌else◌, Bool, false, map, Option, Some, None}
 use Rattle.thy_block.specs.declared.parameters.Parameters.{Parameters}
-use Rattle.thy_table.specs.Listing.{Listing, entry_at, place_of, mapped}
+use Rattle.thy_table.specs.Listing.{Listing, entry_at, index_of, mapped}
 use Rattle.thy_shadow_parts.specs.declared.entry.Held.{Held}
 use Rattle.thy_shadow_parts.specs.declared.entry.Framed.{Framed}
 use Rattle.thy_shadow_parts.specs.Keys.{page_key, held, freed_frame}
@@ -28,7 +28,7 @@ abbrev pub committed_entry : ℕ → Parameters → Listing Framed → Option He
 committed_entry k p frames None = None
 committed_entry k p frames (Some e) =
     if nat_lt e.number p.pages
-    then (if is_below k (place_of page_key e.number frames) then None else Some e)
+    then (if is_below k (index_of page_key e.number frames) then None else Some e)
     else (if nat_lt (e.number - p.pages) k then Some (held (page_by (entry_at frames (e.number - p.pages)))) else Some e)
 
 abbrev pub committed_pool : ℕ → Parameters → Listing Framed → Listing Held → Listing Held

@@ -11,7 +11,7 @@ use Rattle.thy_layout.specs.declared.engine_step.EngineStep.TheVariants.{PageBlo
 use Rattle.thy_layout.specs.Commit.{slot_of_epoch}
 use Rattle.thy_layout.specs.TableSlots.{table_block_of}
 use Rattle.thy_table.specs.Listing.{Listing, entry_at, free_count}
-use Rattle.thy_shadow_image.specs.CheckpointParts.{IsToldBy}
+use Rattle.thy_shadow_image.specs.CheckpointParts.{HoldsCheckpoint}
 use Rattle.thy_checkpoint.specs.Items.{ItemsOf, Phase, Resting, Making, Made, Applying}
 use Rattle.thy_shadow_parts.specs.declared.entry.Framed.{Framed}
 use Rattle.thy_shadow_parts.specs.Commit.{sealed_state, committed_state}
@@ -88,7 +88,7 @@ IsOther phase epoch kept = Unit {0}
 -- the image that is kept has the checkpoint of an epoch with the committed map
 pub record IsKeptBy (phase : Phase) (epoch : ℕ) (s : State) (g : List Block) : Type 0 where
   pub kept : ℕ
-  pub told : IsToldBy s.p g kept (committed_table s)
+  pub meant : HoldsCheckpoint s.p g kept (committed_table s)
   pub other : IsOther phase epoch kept
 
 -- if nothing was stored since the last seal, and that is committed, every frame is free
@@ -134,7 +134,7 @@ shadow_parts = record {
   sound = IsSoundState;
   holds = holds;
   keeps = IsKeptBy;
-  makes = λ epoch s g. IsToldBy s.p g epoch (next_table s);
+  makes = λ epoch s g. HoldsCheckpoint s.p g epoch (next_table s);
   sealed = works;
   committed = λ phase s n. commits s n;
   seal = sealed_state;

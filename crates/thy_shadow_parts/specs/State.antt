@@ -10,7 +10,7 @@ use Rattle.thy_block.specs.Geometry.{IsInRange}
 use Rattle.thy_block.specs.Places.{dram_blocks, frame_place}
 use Rattle.thy_block.specs.Store.{page_of}
 use Rattle.thy_dram.specs.Contents.{Contents}
-use Rattle.thy_table.specs.Listing.{Listing, IsListing, entry_at, place_of, free_count}
+use Rattle.thy_table.specs.Listing.{Listing, IsListing, entry_at, index_of, free_count}
 use Rattle.thy_shadow_image.specs.Places.{map_blocks, pool_pages, image_blocks, pool_place, pool_page}
 use Rattle.thy_shadow_parts.specs.declared.entry.Held.{Held}
 use Rattle.thy_shadow_parts.specs.declared.entry.Framed.{Framed}
@@ -35,10 +35,10 @@ state_in p pool frames begun dram = record { p = p; pool = pool; frames = frames
 
 -- the frame that has a page, and the page of the pool that a number is listed at
 abbrev pub frame_of : State → ℕ → Option ℕ
-frame_of s x = place_of page_key x s.frames
+frame_of s x = index_of page_key x s.frames
 
 abbrev pub pool_of : State → ℕ → Option ℕ
-pool_of s number = place_of number_key number s.pool
+pool_of s number = index_of number_key number s.pool
 
 -- the page of the pool that frame j goes to
 abbrev pub target : State → ℕ → Option ℕ

@@ -10,7 +10,7 @@ use Rattle.thy_block.specs.Device.{Device, newest}
 use Rattle.thy_block.specs.Places.{frame_place}
 use Rattle.thy_block.specs.Store.{page_of}
 use Rattle.thy_dram.specs.Contents.{Contents, written, drained}
-use Rattle.thy_table.specs.Listing.{listing, free_place, added, empty_table}
+use Rattle.thy_table.specs.Listing.{listing, free_index, added, empty_table}
 use Rattle.thy_view.specs.Action.{Action, Rest, ReadAt}
 use Rattle.thy_shadow_image.specs.Places.{pool_pages}
 use Rattle.thy_shadow_parts.specs.declared.entry.Held.{Held}
@@ -35,7 +35,7 @@ copies_for x s = copies_by x s.begun
 
 -- the lowest frame that is free
 abbrev pub free_frame : State → ℕ
-free_frame s = unwrap_or (free_place s.frames) 0
+free_frame s = unwrap_or (free_index s.frames) 0
 
 abbrev pub case_by : State → ℕ → Option ℕ → StoreCase
 case_by s x (Some j) = Into j

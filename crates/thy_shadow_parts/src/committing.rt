@@ -1,7 +1,7 @@
 //! What a commit makes of the pool's table: the pages of the frames take the place of those that were committed before.
 ghost use Rattle.std.specs.Prelude.{◌≡◌, ℕ, ◌+◌, ◌<◌, length, None, is_some};
 ghost use Rattle.thy_shadow_image.specs.Places.{pool_pages};
-ghost use Rattle.thy_table.specs.Listing.{entry_at, place_of};
+ghost use Rattle.thy_table.specs.Listing.{entry_at, index_of};
 ghost use Rattle.thy_shadow_parts.specs.Commit.{committed_pool, freed, renamed, moved_by};
 ghost use Rattle.thy_shadow_parts.specs.Keys.{number_key};
 
@@ -14,11 +14,11 @@ pub(crate) fn commit_all(geometry: &Geometry, frames: &Table<Framed>, pool: &mut
     requires frames { length frames.now.entries ≡ geometry.now.ptt }
     requires pages { frames.now.numbers ≡ geometry.now.pages }
     requires numbers { pool.old.numbers ≡ pool_pages geometry.now }
-    requires claimed { (j : ℕ) → is_some (entry_at frames.now j) ≡ is_some (place_of number_key (geometry.now.pages + j) pool.old) }
+    requires claimed { (j : ℕ) → is_some (entry_at frames.now j) ≡ is_some (index_of number_key (geometry.now.pages + j) pool.old) }
     ensures { pool.new ≡ committed_pool geometry.now.ptt geometry.now frames.now pool.old }
 {
-    frames.lists_once();
-    pool.lists_once();
+    frames.recall_lists_once();
+    pool.recall_lists_once();
     let size = geometry.numbers().ptt as usize;
     for j in 0..size {
         commit_one(geometry, j, frames, pool);
@@ -33,7 +33,7 @@ fn commit_one(geometry: &Geometry, j: usize, frames: &Table<Framed>, pool: &mut 
     requires numbers { pool.old.numbers ≡ pool_pages geometry.now }
     ensures { pool.new ≡ moved_by (entry_at frames.now j) (geometry.now.pages + j) pool.old }
 {
-    frames.lists_once();
+    frames.recall_lists_once();
     if let Some(frame) = frames.entry(j) {
         free_number(frame.page, pool);
         rename(geometry.numbers().pages + j as u64, frame.page, pool);
@@ -44,7 +44,7 @@ fn commit_one(geometry: &Geometry, j: usize, frames: &Table<Framed>, pool: &mut 
 fn free_number(number: u64, pool: &mut Table<Held>)
     ensures { pool.new ≡ freed number pool.old }
 {
-    pool.lists_once();
+    pool.recall_lists_once();
     match pool.find(number) {
         Some(q) => pool.clear(q),
         None => {}
@@ -53,11 +53,11 @@ fn free_number(number: u64, pool: &mut Table<Held>)
 
 /// Lets the entry that lists a number list page `page`, which no entry does.
 fn rename(number: u64, page: u64, pool: &mut Table<Held>)
-    requires unlisted { place_of number_key page pool.old ≡ None }
+    requires unlisted { index_of number_key page pool.old ≡ None }
     requires inside { page < pool.old.numbers }
     ensures { pool.new ≡ renamed number page pool.old }
 {
-    pool.lists_once();
+    pool.recall_lists_once();
     match pool.find(number) {
         Some(q) => {
             pool.clear(q);

@@ -6,7 +6,7 @@ ghost use Rattle.thy_block.specs.Places.{dram_blocks};
 ghost use Rattle.thy_block.specs.Store.{page_of};
 ghost use Rattle.thy_layout.specs.Files.{blocks_of};
 ghost use Rattle.thy_layout.specs.Entries.{entry_at as listed_at};
-ghost use Rattle.thy_table.specs.Listing.{Listing, listing, free_count, entry_at, place_of};
+ghost use Rattle.thy_table.specs.Listing.{Listing, listing, free_count, entry_at, index_of};
 ghost use Rattle.thy_view.specs.Action.{after, FailsTo};
 ghost use Rattle.thy_shadow_image.specs.Places.{map_blocks, slot_blocks, image_blocks, pool_pages as pages_of_pool, pool_page};
 ghost use Rattle.thy_shadow_image.specs.Slots.{IsMap, table_in};
@@ -81,9 +81,9 @@ impl Pool {
         let size = pool_pages(geometry);
         let mut pool = Table::new(alloc, size, size)?;
         first_pages(geometry, &mut pool);
-        pool.lists_once();
+        pool.recall_lists_once();
         let frames = Table::new(alloc, numbers.ptt, numbers.pages)?;
-        frames.lists_once();
+        frames.recall_lists_once();
         Ok(Pool {
             geometry: *geometry,
             pool,
@@ -94,7 +94,7 @@ impl Pool {
     }
 
     /// Tables and DRAM have their sizes, no page is listed twice, and each filled frame has a page of the pool.
-    pub fn sound(&self)
+    pub fn recall_sound(&self)
         ensures { IsSoundState self.now }
     {
         let _pool = &self.pool;
@@ -113,7 +113,7 @@ impl Pool {
         ensures page { result ≡ pool_page (pool_of self.now x) }
         ensures inside { result < pages_of_pool self.now.p }
     {
-        self.sound();
+        self.recall_sound();
         match self.pool.find(x) {
             Some(q) => q as u64,
             None => 0,
@@ -136,7 +136,7 @@ impl Pool {
         requires block { c < 64 }
         ensures { result ≡ frame_block self.now j c }
     {
-        self.sound();
+        self.recall_sound();
         self.dram.read(self.geometry.frame(j, c))
     }
 
@@ -153,7 +153,7 @@ impl Pool {
         ensures cause { CountsFault result (N.device nvm.old).faults (N.device nvm.new).faults }
         ensures same_writes { N.writes nvm.new ≡ N.writes nvm.old }
     {
-        self.sound();
+        self.recall_sound();
         match self.frames.find(b / 64) {
             Some(j) => Ok(self.frame(j, b % 64)),
             None => self.committed(b, nvm),
@@ -224,7 +224,7 @@ impl Pool {
         ensures frame { result ≡ lowest_frame self.now }
         ensures inside { result < self.now.p.ptt }
     {
-        self.sound();
+        self.recall_sound();
         match self.frames.lowest_free() {
             Some(j) => j,
             None => unreachable!(),
@@ -277,7 +277,7 @@ impl Pool {
         requires block { c < 64 }
         ensures { self.new ≡ put_into j c block.now self.old }
     {
-        self.sound();
+        self.recall_sound();
         let at = self.geometry.frame(j, c);
         self.dram.write(at, block);
     }
@@ -317,7 +317,7 @@ impl Pool {
     pub fn commit(&mut self)
         ensures { self.new ≡ committed_state self.old }
     {
-        self.sound();
+        self.recall_sound();
         commit_all(&self.geometry, &self.frames, &mut self.pool);
         self.frames.map_entries(&FreeFrames);
         self.begun = None;
@@ -328,7 +328,7 @@ impl Pool {
         ensures next { result ≡ next_block from self.now }
         ensures few { IfSome result (λ k. k < 4294967296) }
     {
-        self.sound();
+        self.recall_sound();
         if self.is_filled((from / 64) as usize) {
             Some(from)
         } else {
@@ -341,7 +341,7 @@ impl Pool {
         ensures filled { result ≡ is_some (entry_at self.now.frames j) }
         ensures inside { result ≡ true → j < self.now.p.ptt }
     {
-        self.sound();
+        self.recall_sound();
         if j < self.frames.size() {
             self.frames.entry(j).is_some()
         } else {
@@ -372,7 +372,7 @@ impl Pool {
         ensures page { result ≡ pool_page (target self.now j) }
         ensures inside { result < pages_of_pool self.now.p }
     {
-        self.sound();
+        self.recall_sound();
         match self.pool.find(self.geometry.numbers().pages + j as u64) {
             Some(q) => q as u64,
             None => 0,
@@ -384,7 +384,7 @@ impl Pool {
         requires { k < map_blocks self.now.p }
         ensures { result ≡ table_block_of (next_table self.now) k }
     {
-        self.sound();
+        self.recall_sound();
         table_block(&self.listed_in(k))
     }
 
@@ -393,7 +393,7 @@ impl Pool {
         requires { k < map_blocks self.now.p }
         ensures { result ≡ take 8 (drop (8 * k) (next_table self.now)) }
     {
-        self.sound();
+        self.recall_sound();
         let mut entries = [None; 8];
         for i in 0..8 {
             entries[i] = self.listed_at(8 * k + i as u64);
@@ -419,7 +419,7 @@ impl Pool {
         requires { x < self.now.p.pages }
         ensures { result ≡ next_page self.now x }
     {
-        self.sound();
+        self.recall_sound();
         match self.frames.find(x) {
             Some(j) => as_page(self.pool.find(self.geometry.numbers().pages + j as u64)),
             None => as_page(self.pool.find(x)),
@@ -435,8 +435,8 @@ impl Pool {
         ensures map { committed_table self.new ≡ table_in self.old.p (blocks_of slot.now) }
         ensures same { self.new ≡ record self.old { pool = self.new.pool } }
     {
-        self.sound();
+        self.recall_sound();
         list_all(slot, &self.geometry, &mut self.pool);
-        self.pool.lists_once();
+        self.pool.recall_lists_once();
     }
 }

@@ -13,7 +13,7 @@ use Rattle.thy_block.specs.Device.{Device, Crash, zero_block, block_at, queued_f
 use Rattle.thy_block.proofs.DeviceLemmas.{queued_for-append}
 use Rattle.thy_sweep.specs.declared.choices.Choice.{Choice}
 use Rattle.thy_sweep.specs.Choices.{Place, place, place_in, lists_block, listed, with_write, with_place, places_from, places_of, count_of, chosen, index_of, ArePlaces, AreNumbered, NumberImages}
-use Rattle.thy_sweep.specs.Images.{is_same_block, distinct, choices_at, images_from, count_from, cut_images}
+use Rattle.thy_sweep.specs.Images.{is_same_block, distinct, choices_at, images_from, count_from, crash_images}
 use Rattle.thy_sweep.proofs.ImageLemmas.{same_block, led_by, images-count, lists_crashes}
 
 -- ---- blocks, each once
@@ -226,7 +226,7 @@ images-nth x (b ∷ bs) queue i l =
     ∙ ap (λ g. block_at cs (i / count_from (x + 1) bs queue) ∷ g)
     (images-nth (x + 1) bs queue (i % count_from (x + 1) bs queue) (rest-below (length cs) (count_from (x + 1) bs queue) i l))
 
--- a block that is set behind others
+-- a block that is set after others
 set-behind : (front : List Block) (b c : Block) (bs : List Block) → slice_set (front ++ b ∷ bs) (length front) c ≡ (front ++ c ∷ []) ++ bs
 set-behind [] b c bs = refl
 set-behind (f ∷ front) b c bs = ap (λ xs. f ∷ xs) (set-behind front b c bs)
@@ -290,9 +290,9 @@ numbers_images n = record {
 pub chosen-crash : (n : Device) (i : ℕ) → i < count_of (places_of n) → Crash n (chosen (places_of n) i n.image)
 chosen-crash n i l =
     let numbers : AreNumbered n = numbers_images n in
-    let less : i < length (cut_images n) = subst (λ (k : ℕ). i < k) numbers.count l in
+    let less : i < length (crash_images n) = subst (λ (k : ℕ). i < k) numbers.count l in
     (lists_crashes n (chosen (places_of n) i n.image)).0
-    (subst (Contains (cut_images n)) (numbers.each i l) (Contains-get_or (cut_images n) i [] less))
+    (subst (Contains (crash_images n)) (numbers.each i l) (Contains-get_or (crash_images n) i [] less))
 
 -- ---- products that stop at a last value
 

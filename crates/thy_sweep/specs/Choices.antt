@@ -4,7 +4,7 @@ use Rattle.thy_block.specs.declared.block.Block.{Block}
 use Rattle.thy_block.specs.declared.nvm.Write.{Write}
 use Rattle.thy_block.specs.Device.{Device, block_at, queued_for}
 use Rattle.thy_sweep.specs.declared.choices.Choice.{Choice}
-use Rattle.thy_sweep.specs.Images.{is_same_block, distinct, cut_images}
+use Rattle.thy_sweep.specs.Images.{is_same_block, distinct, crash_images}
 
 -- a place, and the blocks that a cut can leave there, each once
 pub record Place : Type 0 where
@@ -77,8 +77,8 @@ ArePlaces size (p ∷ ps) = (p.at < size) × ArePlaces size ps
 -- By their numbers from 0 on these are the images that are listed for a device, in their order, and no number is left over.
 pub record AreNumbered (n : Device) : Type 0 where
   pub within : ArePlaces (length n.image) (places_of n)
-  pub count : count_of (places_of n) ≡ length (cut_images n)
-  pub each : (i : ℕ) → i < count_of (places_of n) → slice_index_or (cut_images n) i [] ≡ chosen (places_of n) i n.image
+  pub count : count_of (places_of n) ≡ length (crash_images n)
+  pub each : (i : ℕ) → i < count_of (places_of n) → slice_index_or (crash_images n) i [] ≡ chosen (places_of n) i n.image
 
 abbrev pub NumberImages : Type 0
 NumberImages = (n : Device) → AreNumbered n

@@ -30,8 +30,8 @@ count_from x [] queue = 1
 count_from x (b ∷ bs) queue = length (choices_at x b queue) * count_from (x + 1) bs queue
 
 -- the images that a cut can leave of a device whose blocks land whole
-abbrev pub cut_images : Device → List (List Block)
-cut_images n = images_from 0 n.image n.queue
+abbrev pub crash_images : Device → List (List Block)
+crash_images n = images_from 0 n.image n.queue
 
 -- nothing is listed twice
 abbrev pub AreDistinct : {X : Type 0} → List X → Type 0
@@ -40,13 +40,13 @@ AreDistinct (x ∷ xs) = (Contains xs x → ⊥) × AreDistinct xs
 
 -- a cut can leave each image that is listed; of a device whose blocks land whole it leaves no other
 abbrev pub ListCrashes : Type 0
-ListCrashes = (n : Device) (g : List Block) → (Contains (cut_images n) g → Crash n g)
-    × (n.whole ≡ true → Crash n g → Contains (cut_images n) g)
+ListCrashes = (n : Device) (g : List Block) → (Contains (crash_images n) g → Crash n g)
+    × (n.whole ≡ true → Crash n g → Contains (crash_images n) g)
 
 -- no image is listed twice
 abbrev pub ListEachOnce : Type 0
-ListEachOnce = (n : Device) → AreDistinct (cut_images n)
+ListEachOnce = (n : Device) → AreDistinct (crash_images n)
 
 -- the number of images is the product of the choices at all places
 abbrev pub CountImages : Type 0
-CountImages = (n : Device) → length (cut_images n) ≡ count_from 0 n.image n.queue
+CountImages = (n : Device) → length (crash_images n) ≡ count_from 0 n.image n.queue

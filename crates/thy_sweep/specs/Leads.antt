@@ -60,7 +60,7 @@ abbrev pub counted_in : Booted → List Lead → List Lead
 counted_in b [] = []
 counted_in b (l ∷ ls) = if is_same l.mark b.mark then with_boot b l ∷ ls else l ∷ counted_in b ls
 
--- the leads with one more boot: counted where its checkpoint is listed, or else listed
+-- the leads with one more boot: counted if its checkpoint is listed, or else listed
 abbrev pub noted : Booted → List Lead → List Lead
 noted b leads = if lists b.mark leads then counted_in b leads else leads ++ first_lead b ∷ []
 

@@ -233,7 +233,7 @@ impl Choices {
     }
 }
 
-/// By their numbers from 0 on, the images that the choices of a device give are those that are listed for it (`cut_images`): all of
+/// By their numbers from 0 on, the images that the choices of a device give are those that are listed for it (`crash_images`): all of
 /// them, no other, and each once, in the order in which they are listed.
 pub fn the_images_of_a_cut_are_numbered()
     ensures { NumberImages }

@@ -49,7 +49,7 @@ fn with_boot(lead: Lead, boot: Booted) -> Lead
     }
 }
 
-/// Counts a boot where its checkpoint is listed, and returns whether it is.
+/// Counts a boot if its checkpoint is listed, and returns whether it is.
 fn count_in(leads: &mut [Lead], boot: Booted) -> bool
     ensures counted { leads.new ≡ counted_in boot leads.old }
     ensures listed { result ≡ lists boot.mark leads.old }
@@ -77,7 +77,7 @@ fn list(leads: &mut Vec<Lead>, boot: Booted) -> Result<(), AllocError>
     Ok(())
 }
 
-/// Notes a boot. It is counted where its checkpoint is listed; if it is not listed yet, it is now.
+/// Notes a boot. It is counted if its checkpoint is listed; else the checkpoint is listed now.
 ///
 /// # Errors
 /// Memory ran out. Nothing has changed.

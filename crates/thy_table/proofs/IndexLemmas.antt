@@ -38,7 +38,7 @@ count-none es e =
     omega (arith, ap one_if is) in
     omega (arith, sum_by-le free_one 0 es none)
 
--- a place is free exactly where the count is above 0
+-- an index is free exactly if the count is above 0
 pub some-counted : {X : Type 0} (es : List (Option X)) (o : Option ℕ) → position is_none es ≡ o → IsSome o ↔ (0 < count_by is_none es)
 some-counted es None e = (λ h. (cc), λ l. absurd (omega (arith, l, count-none es e)))
 some-counted es (Some i) e =

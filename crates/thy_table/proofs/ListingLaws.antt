@@ -6,7 +6,7 @@ use Rattle.std.proofs.lemmas.List.{length-map, get_or-set_same, get_or-set_other
 use Rattle.std.proofs.lemmas.List.Sums.{sum_by-cons}
 use Rattle.std.proofs.lemmas.List.Quantifiers.{position-Some}
 use Rattle.thy_block.proofs.BasicLemmas.{get_or-replicate_any}
-use Rattle.thy_table.specs.Listing.{Listing, entry_at, lists, place_of, free_place, free_count, with_entry, mapped, empty_table, IsListing}
+use Rattle.thy_table.specs.Listing.{Listing, entry_at, lists, index_of, free_index, free_count, with_entry, mapped, empty_table, IsListing}
 use Rattle.thy_table.proofs.FirstLemmas.{position-first, position-none, none-position}
 use Rattle.thy_table.proofs.IndexLemmas.{is_some-not_none, None-is_none, free_one, some-counted, lists-some, lists-key, lists-key_of, lists-inside}
 
@@ -59,33 +59,33 @@ pub free_count-mapped : {E : Type 0} (rule : E → Option E) (t : Listing E) →
 free_count-mapped rule t = free-map rule t.entries
 
 -- the free place that is found is the lowest
-pub free_first : {E : Type 0} (t : Listing E) (i : ℕ) → free_place t ≡ Some i
+pub free_first : {E : Type 0} (t : Listing E) (i : ℕ) → free_index t ≡ Some i
     → (i < length t.entries) × (entry_at t i ≡ None) × ((k : ℕ) → k < i → is_some (entry_at t k) ≡ true)
 free_first t i e =
     let first = position-Some is_none t.entries i None e in
     (first.0, None-is_none (entry_at t i) first.1, λ k l. is_some-not_none (entry_at t k) (first.2 k l))
 
 -- a free place is found if one is free
-pub free_found : {E : Type 0} (t : Listing E) → 0 < free_count t → (i : ℕ) × (free_place t ≡ Some i)
-free_found t room = by_place (free_place t) refl where
-  by_place : (o : Option ℕ) → free_place t ≡ o → (i : ℕ) × (free_place t ≡ Some i)
+pub free_found : {E : Type 0} (t : Listing E) → 0 < free_count t → (i : ℕ) × (free_index t ≡ Some i)
+free_found t room = by_place (free_index t) refl where
+  by_place : (o : Option ℕ) → free_index t ≡ o → (i : ℕ) × (free_index t ≡ Some i)
   by_place None found = let none = (some-counted t.entries None found).1 room in absurd cc
   by_place (Some i) found = (i, found)
 
 module _ {E : Type 0} (key : E → ℕ) where
   -- a number that is found is listed there
-  pub place_of-lists : (t : Listing E) (n i : ℕ) → place_of key n t ≡ Some i → lists key n (entry_at t i) ≡ true
-  place_of-lists t n i e = (position-Some (lists key n) t.entries i None e).1
+  pub index_of-lists : (t : Listing E) (n i : ℕ) → index_of key n t ≡ Some i → lists key n (entry_at t i) ≡ true
+  index_of-lists t n i e = (position-Some (lists key n) t.entries i None e).1
 
   -- a number that is not found is listed nowhere
-  pub none-lists : (t : Listing E) (n : ℕ) → place_of key n t ≡ None → (i : ℕ) → lists key n (entry_at t i) ≡ false
+  pub none-lists : (t : Listing E) (n : ℕ) → index_of key n t ≡ None → (i : ℕ) → lists key n (entry_at t i) ≡ false
   none-lists t n e i = elim (cases_lt i (length t.entries)) as (λ _. lists key n (entry_at t i) ≡ false) [
     | inl l ↦ none-position (lists key n) None t.entries e i l
     | inr l ↦ ap (lists key n) (get_or_past t.entries i None l)
   ]
 
-  pub place_of-none : (t : Listing E) (n : ℕ) → ((i : ℕ) → lists key n (entry_at t i) ≡ false) → place_of key n t ≡ None
-  place_of-none t n none = position-none (lists key n) None t.entries (λ k _. none k)
+  pub index_of-none : (t : Listing E) (n : ℕ) → ((i : ℕ) → lists key n (entry_at t i) ≡ false) → index_of key n t ≡ None
+  index_of-none t n none = position-none (lists key n) None t.entries (λ k _. none k)
 
   -- a table with no entry live lists nothing
   pub IsListing-free : (t : Listing E) → ((i : ℕ) → entry_at t i ≡ None) → IsListing key t
@@ -111,11 +111,11 @@ module _ {E : Type 0} (key : E → ℕ) where
   }
 
   -- a number that is listed as before is found as before
-  pub place_of-as : (t u : Listing E) (n : ℕ) → IsListing key u → ((i : ℕ) → lists key n (entry_at u i) ≡ lists key n (entry_at t i)) → place_of key n u ≡ place_of key n t
-  place_of-as t u n listing same = by_place (place_of key n t) refl where
-    by_place : (o : Option ℕ) → place_of key n t ≡ o → place_of key n u ≡ place_of key n t
-    by_place (Some i) e = listing.found i n (same i ∙ place_of-lists t n i e) ∙ sym e
-    by_place None e = place_of-none u n (λ i. same i ∙ none-lists t n e i) ∙ sym e
+  pub index_of-as : (t u : Listing E) (n : ℕ) → IsListing key u → ((i : ℕ) → lists key n (entry_at u i) ≡ lists key n (entry_at t i)) → index_of key n u ≡ index_of key n t
+  index_of-as t u n listing same = by_place (index_of key n t) refl where
+    by_place : (o : Option ℕ) → index_of key n t ≡ o → index_of key n u ≡ index_of key n t
+    by_place (Some i) e = listing.found i n (same i ∙ index_of-lists t n i e) ∙ sym e
+    by_place None e = index_of-none u n (λ i. same i ∙ none-lists t n e i) ∙ sym e
 
   -- one entry was written, and what it lists is listed nowhere else
   pub IsListing-with : (t : Listing E) (i : ℕ) (o : Option E) → IsListing key t → i < length t.entries
@@ -160,19 +160,19 @@ module _ {E : Type 0} (key : E → ℕ) where
         ))
 
     -- one entry more, of a number that was not listed
-    pub IsListing-put : (i : ℕ) (e : E) → i < length t.entries → place_of key (key e) t ≡ None → key e < t.numbers → IsListing key (with_entry i (Some e) t)
+    pub IsListing-put : (i : ℕ) (e : E) → i < length t.entries → index_of key (key e) t ≡ None → key e < t.numbers → IsListing key (with_entry i (Some e) t)
     IsListing-put i e inside unlisted room = IsListing-with t i (Some e) listing inside
         (λ n h.
         let is : key e ≡ n = lists-key_of key n (Some e) e h refl in
         (omega arith, λ j _. ap (λ m. lists key m (entry_at t j)) (sym is) ∙ none-lists t (key e) unlisted j))
 
-    pub place_of-put : (i : ℕ) (e : E) → i < length t.entries → place_of key (key e) t ≡ None → key e < t.numbers → place_of key (key e) (with_entry i (Some e) t) ≡ Some i
-    place_of-put i e inside unlisted room =
+    pub index_of-put : (i : ℕ) (e : E) → i < length t.entries → index_of key (key e) t ≡ None → key e < t.numbers → index_of key (key e) (with_entry i (Some e) t) ≡ Some i
+    index_of-put i e inside unlisted room =
         (IsListing-put i e inside unlisted room).found i (key e) (lists-key key (key e) (entry_at (with_entry i (Some e) t) i) e (entry_at-with_same t i (Some e) inside) refl)
 
-    pub place_of-put_other : (i : ℕ) (e : E) (n : ℕ) → i < length t.entries → entry_at t i ≡ None → place_of key (key e) t ≡ None → key e < t.numbers → n ≢ key e
-        → place_of key n (with_entry i (Some e) t) ≡ place_of key n t
-    place_of-put_other i e n inside was unlisted room other = place_of-as t (with_entry i (Some e) t) n (IsListing-put i e inside unlisted room)
+    pub index_of-put_other : (i : ℕ) (e : E) (n : ℕ) → i < length t.entries → entry_at t i ≡ None → index_of key (key e) t ≡ None → key e < t.numbers → n ≢ key e
+        → index_of key n (with_entry i (Some e) t) ≡ index_of key n t
+    index_of-put_other i e n inside was unlisted room other = index_of-as t (with_entry i (Some e) t) n (IsListing-put i e inside unlisted room)
         (λ j. elim (cases_eq j i) as (λ _. lists key n (entry_at (with_entry i (Some e) t) j) ≡ lists key n (entry_at t j)) [
           | inl s ↦
               ap (λ m. lists key n (entry_at (with_entry i (Some e) t) m)) s ∙ ap (lists key n) (entry_at-with_same t i (Some e) inside)
@@ -184,10 +184,10 @@ module _ {E : Type 0} (key : E → ℕ) where
     pub IsListing-cleared : (i : ℕ) → i < length t.entries → IsListing key (with_entry i None t)
     IsListing-cleared i inside = IsListing-with t i None listing inside (λ n h. (cc))
 
-    pub place_of-cleared : (i : ℕ) (e : E) → entry_at t i ≡ Some e → place_of key (key e) (with_entry i None t) ≡ None
-    place_of-cleared i e was =
+    pub index_of-cleared : (i : ℕ) (e : E) → entry_at t i ≡ Some e → index_of key (key e) (with_entry i None t) ≡ None
+    index_of-cleared i e was =
         let here : lists key (key e) (entry_at t i) ≡ true = lists-key key (key e) (entry_at t i) e was refl in
-        place_of-none (with_entry i None t) (key e)
+        index_of-none (with_entry i None t) (key e)
         (λ j. elim (cases_eq j i) as (λ _. lists key (key e) (entry_at (with_entry i None t) j) ≡ false) [
           | inl s ↦ ap (λ m. lists key (key e) (entry_at (with_entry i None t) m)) s
               ∙ ap (lists key (key e)) (entry_at-with_same t i None (lists-inside key t.entries i (key e) here))
@@ -198,10 +198,10 @@ module _ {E : Type 0} (key : E → ℕ) where
               ]
         ])
 
-    pub place_of-cleared_other : (i : ℕ) (e : E) (n : ℕ) → entry_at t i ≡ Some e → n ≢ key e → place_of key n (with_entry i None t) ≡ place_of key n t
-    place_of-cleared_other i e n was other =
+    pub index_of-cleared_other : (i : ℕ) (e : E) (n : ℕ) → entry_at t i ≡ Some e → n ≢ key e → index_of key n (with_entry i None t) ≡ index_of key n t
+    index_of-cleared_other i e n was other =
         let inside : i < length t.entries = lists-inside key t.entries i (key e) (lists-key key (key e) (entry_at t i) e was refl) in
-        place_of-as t (with_entry i None t) n (IsListing-cleared i inside)
+        index_of-as t (with_entry i None t) n (IsListing-cleared i inside)
         (λ j. elim (cases_eq j i) as (λ _. lists key n (entry_at (with_entry i None t) j) ≡ lists key n (entry_at t j)) [
           | inl s ↦ ap (λ m. lists key n (entry_at (with_entry i None t) m)) s ∙ ap (lists key n) (entry_at-with_same t i None inside)
               ∙ sym (ap (λ m. lists key n (entry_at t m)) s ∙ ap (lists key n) was ∙ ne_eqb (key e) n (λ is. other (sym is)))
@@ -222,13 +222,13 @@ module _ {E : Type 0} (key : E → ℕ) where
           IsListing-once (mapped rule t) (λ i j n h g. found-once t listing i j n (old i n h) (old j n g)) (λ i n h. listing.inside i n (old i n h))
 
       -- a number whose entry stays is found where it was
-      pub place_of-mapped : (i : ℕ) (e f : E) → entry_at t i ≡ Some e → rule e ≡ Some f → place_of key (key e) (mapped rule t) ≡ Some i
-      place_of-mapped i e f was stays = IsListing-mapped.found i (key e)
+      pub index_of-mapped : (i : ℕ) (e f : E) → entry_at t i ≡ Some e → rule e ≡ Some f → index_of key (key e) (mapped rule t) ≡ Some i
+      index_of-mapped i e f was stays = IsListing-mapped.found i (key e)
           (lists-key key (key e) (entry_at (mapped rule t) i) f (entry_at-mapped rule t i ∙ ap (option_and_then rule) was ∙ stays) (keeps e f stays))
 
       -- a number whose entry is cleared is listed no more
-      pub place_of-mapped_cleared : (i : ℕ) (e : E) → entry_at t i ≡ Some e → rule e ≡ None → place_of key (key e) (mapped rule t) ≡ None
-      place_of-mapped_cleared i e was goes = place_of-none (mapped rule t) (key e)
+      pub index_of-mapped_cleared : (i : ℕ) (e : E) → entry_at t i ≡ Some e → rule e ≡ None → index_of key (key e) (mapped rule t) ≡ None
+      index_of-mapped_cleared i e was goes = index_of-none (mapped rule t) (key e)
           (λ j. elim (cases_Bool (lists key (key e) (entry_at (mapped rule t) j))) as (λ _. lists key (key e) (entry_at (mapped rule t) j) ≡ false) [
             | inl s ↦
                 let old : lists key (key e) (entry_at t j) ≡ true = lists-mapped (entry_at t j) (key e) (sym (ap (lists key (key e)) (entry_at-mapped rule t j)) ∙ s) in
@@ -239,8 +239,8 @@ module _ {E : Type 0} (key : E → ℕ) where
           ])
 
       -- a number that was not listed is not listed after a rule was applied
-      pub place_of-mapped_none : (n : ℕ) → place_of key n t ≡ None → place_of key n (mapped rule t) ≡ None
-      place_of-mapped_none n unlisted = place_of-none (mapped rule t) n
+      pub index_of-mapped_none : (n : ℕ) → index_of key n t ≡ None → index_of key n (mapped rule t) ≡ None
+      index_of-mapped_none n unlisted = index_of-none (mapped rule t) n
           (λ j. elim (cases_Bool (lists key n (entry_at (mapped rule t) j))) as (λ _. lists key n (entry_at (mapped rule t) j) ≡ false) [
             | inl s ↦
                 let old : lists key n (entry_at t j) ≡ true = lists-mapped (entry_at t j) n (sym (ap (lists key n) (entry_at-mapped rule t j)) ∙ s) in

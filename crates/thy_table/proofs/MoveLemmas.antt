@@ -7,16 +7,16 @@ use Rattle.thy_table.specs.declared.place.Place.{Place}
 use Rattle.thy_table.specs.declared.place.Place.TheVariants.{Home, AlternateBlock, AlternatePage, Buffer, Frame}
 use Rattle.thy_block.specs.Device.{Device, HasFailedToWrite, zero_block, block_at, newest, drained, settled, written_to}
 use Rattle.thy_table.specs.Places.{in_dram, number_of, IsPlace, image_blocks}
-use Rattle.thy_table.proofs.PlaceLemmas.{numbers_tell}
+use Rattle.thy_table.proofs.PlaceLemmas.{numbers_name}
 use Rattle.thy_block.specs.Places.{dram_blocks}
-use Rattle.thy_block.proofs.DeviceLemmas.{newest-drained, newest-settled, newest-written_to, newest-written_to_other, no_more-written_to_other, MayLeave-elsewhere, length-drained, length-settled, length-written_to}
+use Rattle.thy_block.proofs.DeviceLemmas.{newest-drained, newest-settled, newest-written_to, newest-written_to_other, no_more-written_to_other, CrashAt-elsewhere, length-drained, length-settled, length-written_to}
 use Rattle.thy_dram.specs.Contents.{written, drained as dram_drained}
 use Rattle.thy_table.specs.Devices.{Devices, AreSized, NoMoreAt, read_at, written_at}
 use Rattle.thy_table.specs.DeviceLaws.{ReadsTheSame}
 
 -- two places of one device have two numbers
 pub numbers_apart : (p : Parameters) (x y : Place) → IsPlace p x → IsPlace p y → in_dram x ≡ in_dram y → y ≢ x → number_of p y ≢ number_of p x
-numbers_apart p x y px py same other e = other (sym (numbers_tell p x y px py same (sym e)))
+numbers_apart p x y px py same other e = other (sym (numbers_name p x y px py same (sym e)))
 
 -- a place of the NVM is within its image
 pub within_image : (p : Parameters) (x : Place) → IsPlace p x → in_dram x ≡ false → number_of p x < image_blocks p
@@ -89,7 +89,7 @@ pub no_more-failed_other : (p : Parameters) (old new : Device) (place other : Pl
     → HasFailedToWrite (number_of p place) block old new → NoMoreAt (number_of p other) old new
 no_more-failed_other p old new place other block here there side elsewhere ne failed = record {
   no_more = λ b h.
-      MayLeave-elsewhere old (number_of p place) block (number_of p other) b (numbers_apart p place other here there (side ∙ sym elsewhere) ne)
+      CrashAt-elsewhere old (number_of p place) block (number_of p other) b (numbers_apart p place other here there (side ∙ sym elsewhere) ne)
       (failed.no_more (number_of p other) b h);
 }
 

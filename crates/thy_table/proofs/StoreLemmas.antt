@@ -15,14 +15,14 @@ use Rattle.thy_table.specs.Cells.{agree}
 use Rattle.thy_table.specs.Sound.{IsSoundPage, IsSoundCell, IsWhole}
 use Rattle.thy_table.specs.Rules.{into_buffer, rule_of, store_rule, after_store}
 
--- two versions agree exactly where they are one
+-- two versions agree exactly if they are one
 agree_same : (v w : Version) → agree v w ≡ true → v ≡ w
 agree_same Out Out e = refl
 agree_same Alt Alt e = refl
 agree_same Out Alt e = cc
 agree_same Alt Out e = cc
 
--- what is known where a rule applies
+-- what is known if a rule applies
 abbrev Facts : StoreRule → Bool → Bool → Working → Bool → Pending → Type 0
 Facts ToFrame framed busy w agrees pend = (framed ≡ true) × (busy ≡ false) × (w ≡ NoWork)
 Facts ToBuffer framed busy w agrees pend = (pend ≢ FromBuffer) × (framed ≡ true → busy ≡ false → w ≢ NoWork)

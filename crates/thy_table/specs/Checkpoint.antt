@@ -18,8 +18,8 @@ use Rattle.thy_table.specs.PageEntry.{page_blocks, other_site, no_page, promoted
 use Rattle.thy_table.specs.Cells.{penult, last, work}
 use Rattle.thy_table.specs.Sound.{IsSoundCell, IsWhole, Holds}
 
--- A seal, of an entry of the block table: by whether its page is framed, its work, whether few entries are free, and
--- the place at which the checkpoint before has the block
+-- Step 1 of a seal in docs/CONTROLLER.md, of an entry of the block table: by whether its page is framed, its work, whether
+-- few entries are free, and the place at which the checkpoint before has the block
 abbrev pub sealed_by : Bool → Working → Bool → Version → BttEntry → BttEntry
 sealed_by true work few v1 e = record e { v1 = Out }
 sealed_by false InNvm few v1 e = record e { v1 = other_version v1; pend = Settled; work = NoWork }
@@ -31,7 +31,7 @@ sealed_by false NoWork false v1 e = e
 abbrev pub sealed_entry : Bool → Bool → BttEntry → BttEntry
 sealed_entry framed few e = sealed_by framed e.work few e.v1 e
 
--- of a framed page: by whether it had few stores, whether it was written since it was last, and its place
+-- step 2, of a framed page: by whether it had few stores, whether it was written since it was last, and its place
 abbrev pub page_sealed_by : Bool → Bool → Site → PttEntry → Option PttEntry
 page_sealed_by true false AtHome page = None
 page_sealed_by true written AtAlternate page =

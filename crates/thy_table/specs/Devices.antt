@@ -4,7 +4,7 @@ use Rattle.std.specs.Prelude.{◌≡◌, ℕ, if◌then◌else◌, length}
 use Rattle.thy_block.specs.declared.block.Block.{Block}
 use Rattle.thy_block.specs.declared.parameters.Parameters.{Parameters}
 use Rattle.thy_table.specs.declared.place.Place.{Place}
-use Rattle.thy_block.specs.Device.{Device, MayLeave, block_at, newest, written_to}
+use Rattle.thy_block.specs.Device.{Device, CrashAt, block_at, newest, written_to}
 use Rattle.thy_table.specs.Places.{in_dram, number_of, image_blocks}
 use Rattle.thy_block.specs.Places.{dram_blocks}
 use Rattle.thy_dram.specs.Contents.{Contents, written}
@@ -36,4 +36,4 @@ written_at p place block d =
 
 -- a place of the NVM, by its number, may hold after a cut nothing that it could not hold before
 pub record NoMoreAt (x : ℕ) (old new : Device) : Type 0 where
-  pub no_more : (b : Block) → MayLeave new x b → MayLeave old x b
+  pub no_more : (b : Block) → CrashAt new x b → CrashAt old x b

@@ -47,12 +47,12 @@ module _ {E : Type 0} where
   leads key g = passes (λ e. key e / 16 == g)
 
   -- the place of the entry that lists a number
-  abbrev pub place_of : (E → ℕ) → ℕ → Listing E → Option ℕ
-  place_of key n t = position (lists key n) t.entries
+  abbrev pub index_of : (E → ℕ) → ℕ → Listing E → Option ℕ
+  index_of key n t = position (lists key n) t.entries
 
   -- the lowest free entry
-  abbrev pub free_place : Listing E → Option ℕ
-  free_place t = position is_none t.entries
+  abbrev pub free_index : Listing E → Option ℕ
+  free_index t = position is_none t.entries
 
   -- how many entries are free
   abbrev pub free_count : Listing E → ℕ
@@ -69,7 +69,7 @@ module _ {E : Type 0} where
 
   -- a table with one more entry, in the lowest free place
   abbrev pub added : E → Listing E → Listing E
-  added e t = record t { entries = added_at (free_place t) e t.entries }
+  added e t = record t { entries = added_at (free_index t) e t.entries }
 
   -- every live entry after a rule, which clears those for which it gives None
   abbrev pub mapped : (E → Option E) → Listing E → Listing E
@@ -82,7 +82,7 @@ module _ {E : Type 0} where
   -- no number is listed twice
   pub record IsListing (key : E → ℕ) (t : Listing E) : Type 0 where
     -- a number that an entry lists is found there, and so at no other
-    pub found : (i n : ℕ) → lists key n (entry_at t i) ≡ true → place_of key n t ≡ Some i
+    pub found : (i n : ℕ) → lists key n (entry_at t i) ≡ true → index_of key n t ≡ Some i
     pub inside : (i n : ℕ) → lists key n (entry_at t i) ≡ true → n < t.numbers
 
   -- the entry at a place leads a group, and by its places no other entry lists a number of the group

@@ -80,8 +80,8 @@ IsPlace p (Buffer entry) = entry < p.btt
 IsPlace p (Frame entry block) = (entry < p.ptt) × (block < 64)
 
 -- places of one device that have the same number are the same place
-abbrev pub NumbersTellPlaces : Type 0
-NumbersTellPlaces =
+abbrev pub NumbersNamePlaces : Type 0
+NumbersNamePlaces =
     (p : Parameters) (x y : Place) → IsPlace p x → IsPlace p y
     → in_dram x ≡ in_dram y → number_of p x ≡ number_of p y → x ≡ y
 

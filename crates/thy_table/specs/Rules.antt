@@ -23,10 +23,15 @@ into_buffer Settled = ToBuffer
 -- by whether the page is framed, and busy; the block's work; whether both checkpoints have the block at one place; and
 -- what has to be copied
 abbrev pub rule_of : Bool → Bool → Working → Bool → Pending → StoreRule
+-- rule 1 of a store
 rule_of true false NoWork agrees pend = ToFrame
+-- rule 2
 rule_of true busy work agrees pend = into_buffer pend
+-- rule 3
 rule_of false busy InBuffer agrees pend = into_buffer pend
+-- rule 4
 rule_of false busy work true pend = ToNvm
+-- rule 5
 rule_of false busy work false pend = into_buffer pend
 
 abbrev pub store_rule : Cell → StoreRule

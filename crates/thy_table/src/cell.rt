@@ -128,20 +128,23 @@ impl Cell {
         }
     }
 
-    /// Where the block is to be stored.
+    /// Where the block is to be stored, by the rules of a store in docs/CONTROLLER.md.
     pub fn store_rule(&self) -> StoreRule
         ensures { result ≡ store_rule self.now }
     {
         let framed = self.page.is_framed();
+        // rule 1
         if framed && !self.page.busy && matches!(self.entry.work, Working::NoWork) {
             return StoreRule::ToFrame;
         }
+        // rule 4
         if !framed
             && !matches!(self.entry.work, Working::InBuffer)
             && agree(self.entry.v0, self.entry.v1)
         {
             return StoreRule::ToNvm;
         }
+        // rules 2, 3 and 5
         match self.entry.pend {
             Pending::FromBuffer => StoreRule::PendingFirst,
             _ => StoreRule::ToBuffer,

@@ -4,7 +4,8 @@ ghost use Rattle.thy_table.specs.Checkpoint.{sealed_entry, sealed_frame, sealed_
 
 use crate::{BttEntry, Pending, PttEntry, Site, Version, Working};
 
-/// A block's entry after a seal: by whether its page is framed, and whether few entries are free. What was stored
+/// Step 1 of a seal in docs/CONTROLLER.md, of a block's entry: by whether its page is framed, and whether few entries are
+/// free. What was stored
 /// becomes the version of the next checkpoint. If few entries are free, an entry that nothing was stored to gives its
 /// block back to its page.
 pub fn sealed_entry(entry: &BttEntry, framed: bool, few: bool) -> BttEntry
@@ -40,7 +41,7 @@ pub fn sealed_entry(entry: &BttEntry, framed: bool, few: bool) -> BttEntry
     }
 }
 
-/// A page's entry after a seal, None if it is cleared: by whether it had few stores. A framed page that was written
+/// Step 2 of a seal, of a page's entry, None if it is cleared: by whether it had few stores. A framed page that was written
 /// since it was last belongs to the checkpoint, and one that has few stores leaves.
 pub fn sealed_page(page: &PttEntry, low: bool) -> Option<PttEntry>
     ensures { result ≡ sealed_page low page.now }

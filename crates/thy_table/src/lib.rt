@@ -1,4 +1,4 @@
-//! Tables of blocks and pages, and the rules of the scheme of both tables. `Table` is one generic table whose entries
+//! Tables of blocks and pages, and the rules of the scheme thynvm. `Table` is one generic table whose entries
 //! each list a number, none twice; the block table (BTT) and the page table (PTT) are two of it. `Counts` has the store
 //! counts of pages, of this epoch and of the last one, up to 63. A `Place` of the NVM or the DRAM has a number in its
 //! device (`number`), and no two have the same; a written place reads as its block, and every other as before
@@ -51,7 +51,7 @@ pub use moves::{read_place, write_place};
 pub use page_entry::{PttEntry, Site, WHOLE_PAGE};
 pub use place::Place;
 pub use place_laws::{
-    numbers_tell_places, places_are_between_slots, places_are_in_dram, slots_are_apart,
+    numbers_name_places, places_are_between_slots, places_are_in_dram, slots_are_apart,
 };
 pub use places::{
     blocks, blocks_one, count_blocks, home, number, slot, slot_blocks, slot_blocks_one, slot_one,

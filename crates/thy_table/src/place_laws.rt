@@ -1,9 +1,9 @@
 //! Laws of the places, each the contract of a function that does nothing.
-ghost use Rattle.thy_table.specs.Places.{NumbersTellPlaces, PlacesAreBetweenSlots, PlacesAreInDram, SlotsAreApart};
+ghost use Rattle.thy_table.specs.Places.{NumbersNamePlaces, PlacesAreBetweenSlots, PlacesAreInDram, SlotsAreApart};
 
 /// Places of one device that have the same number are the same place.
-pub fn numbers_tell_places()
-    ensures { NumbersTellPlaces }
+pub fn numbers_name_places()
+    ensures { NumbersNamePlaces }
 {}
 
 /// A place of the NVM lies after the header, the commit block and the slots of version 1, and before the slots of

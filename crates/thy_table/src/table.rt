@@ -1,6 +1,6 @@
 //! The table.
 ghost use Rattle.std.specs.Prelude.{ℕ, ◌≡◌, ◌≢◌, ◌<◌, ◌≤◌, ◌^◌, ◌++◌, [], ◌∷◌, Some, None, true, length, replicate, slice_index_or, is_none, is_some, position, option_and_then, IfOk, IsSome, IfSome, ◌↔◌, if◌then◌else◌};
-ghost use Rattle.thy_table.specs.Listing.{empty_table, entry_at, passes, lists, leads, IsLastOf, place_of, free_place, free_count, with_entry, added, mapped, first_from, next_from, indexed_at, IsListing};
+ghost use Rattle.thy_table.specs.Listing.{empty_table, entry_at, passes, lists, leads, IsLastOf, index_of, free_index, free_count, with_entry, added, mapped, first_from, next_from, indexed_at, IsListing};
 
 use crate::keyed::Keyed;
 use crate::rules::{Rule, Test};
@@ -178,7 +178,7 @@ impl<E: Keyed> Table<E> {
 
     /// The place of the entry that lists a number.
     pub fn find(&self, number: u64) -> Option<usize>
-        ensures place { result ≡ place_of E.key number self.now }
+        ensures place { result ≡ index_of E.key number self.now }
         ensures inside { IfSome result (λ i. i < length self.now.entries) }
         ensures lists { IfSome result (λ i. lists E.key number (entry_at self.now i) ≡ true) }
     {
@@ -201,9 +201,9 @@ impl<E: Keyed> Table<E> {
     /// Adds an entry in the lowest free place, and returns that place. If none is free, returns None and changes
     /// nothing; otherwise it succeeds. Its number must not be listed.
     pub fn add(&mut self, entry: E) -> Option<usize>
-        requires unlisted { place_of E.key (E.key entry) self.old ≡ None }
+        requires unlisted { index_of E.key (E.key entry) self.old ≡ None }
         requires number { E.key entry < self.old.numbers }
-        ensures place { result ≡ free_place self.old }
+        ensures place { result ≡ free_index self.old }
         ensures room { IsSome result ↔ (0 < free_count self.old) }
         ensures table { self.new ≡ added entry self.old }
     {
@@ -220,7 +220,7 @@ impl<E: Keyed> Table<E> {
 
     /// The lowest free place, which the next entry that is added takes.
     pub fn lowest_free(&self) -> Option<usize>
-        ensures place { result ≡ free_place self.now }
+        ensures place { result ≡ free_index self.now }
         ensures room { IsSome result ↔ (0 < free_count self.now) }
     {
         if self.free == 0 {
@@ -233,7 +233,7 @@ impl<E: Keyed> Table<E> {
     pub fn put(&mut self, place: usize, entry: E)
         requires inside { place < length self.old.entries }
         requires free { entry_at self.old place ≡ None }
-        requires unlisted { place_of E.key (E.key entry) self.old ≡ None }
+        requires unlisted { index_of E.key (E.key entry) self.old ≡ None }
         requires number { E.key entry < self.old.numbers }
         ensures { self.new ≡ with_entry place (Some entry) self.old }
     {
@@ -316,7 +316,7 @@ impl<E: Keyed> Table<E> {
     }
 
     /// No number is listed twice, and none that cannot be.
-    pub fn lists_once(&self)
+    pub fn recall_lists_once(&self)
         ensures { IsListing E.key self.now }
     {
         let _entries = &self.entries;

@@ -285,7 +285,7 @@ static WITHOUT_ROOM: [(bool, Option<HartStep>); 7] = [
     (true, Some(HartStep::Waiting)),
 ];
 
-/// With room it is reserved, the block filled in and written, and the store retires. The next fetch misses: two copies go
+/// With room it is secured, the block filled in and written, and the store retires. The next fetch misses: two copies go
 /// first, the dirty line is stored, the block filled in and fetched, and the hart traps.
 static WITH_ROOM: [(bool, Option<HartStep>); 13] = [
     (true, Some(HartStep::Moved)),
@@ -312,7 +312,7 @@ fn a_compiled_program_runs_as_on_the_plain_machine(rt: HostRuntime) {
 
 #[test]
 fn calls_move_bytes_across_blocks(rt: HostRuntime) {
-    // Each of 13 instructions has a fetch and a retirement. In addition, the first call reserves room and writes two
+    // Each of 13 instructions has a fetch and a retirement. In addition, the first call secures room and writes two
     // blocks, the second reads two and writes one, the third reads two and writes two. Five lines are filled in.
     expect(
         &rt,

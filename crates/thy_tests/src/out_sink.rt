@@ -71,7 +71,7 @@ fn a_slow_stream_takes_the_whole_piece(rt: HostRuntime) {
 }
 
 #[test]
-fn a_stream_that_fails_is_told_of(rt: HostRuntime) {
+fn a_stream_that_fails_is_reported(rt: HostRuntime) {
     let mut failing = slow_stream(&rt, 4, false);
     let mut sink = StdSink::over(&mut failing);
     assert!(rt; sink.write(b"seven b").is_err());

@@ -1,7 +1,7 @@
 -- Events that come after others.
 use Rattle.std.proofs.Common.{◌≡◌, ℕ, List, [], ◌∷◌, ◌++◌, refl, sym, ap, ◌∙◌, append_assoc, append-nil}
 use Rattle.thy_text.specs.Event.{Event}
-use Rattle.thy_text.specs.declared.telling.Telling.{Telling}
+use Rattle.thy_text.specs.declared.reporting.Reporting.{Reporting}
 use Rattle.thy_text.specs.Lines.{line_of, report_of}
 use Rattle.thy_text.specs.Marks.{Marks, marks_after, marks_from, Course, AllLawful}
 
@@ -16,13 +16,13 @@ AllLawful-append c m [] ws before more = more
 AllLawful-append c m (v ∷ vs) ws before more = (before.0, AllLawful-append c (marks_after c.start m v) vs ws before.1 more)
 
 -- the lines of more events
-pub report_of-append : (telling : Telling) (vs ws : List Event) → report_of telling (vs ++ ws) ≡ report_of telling vs ++ report_of telling ws
-report_of-append telling [] ws = refl
-report_of-append telling (v ∷ vs) ws =
-    ap (λ l. line_of telling v ++ l) (report_of-append telling vs ws)
-    ∙ sym (append_assoc (line_of telling v) (report_of telling vs) (report_of telling ws))
+pub report_of-append : (reporting : Reporting) (vs ws : List Event) → report_of reporting (vs ++ ws) ≡ report_of reporting vs ++ report_of reporting ws
+report_of-append reporting [] ws = refl
+report_of-append reporting (v ∷ vs) ws =
+    ap (λ l. line_of reporting v ++ l) (report_of-append reporting vs ws)
+    ∙ sym (append_assoc (line_of reporting v) (report_of reporting vs) (report_of reporting ws))
 
 -- the line of one more event
-pub report_of-more : (telling : Telling) (vs : List Event) (v : Event) → report_of telling (vs ++ v ∷ []) ≡ report_of telling vs ++ line_of telling v
-report_of-more telling vs v =
-    report_of-append telling vs (v ∷ []) ∙ ap (λ l. report_of telling vs ++ l) (append-nil (line_of telling v))
+pub report_of-more : (reporting : Reporting) (vs : List Event) (v : Event) → report_of reporting (vs ++ v ∷ []) ≡ report_of reporting vs ++ line_of reporting v
+report_of-more reporting vs v =
+    report_of-append reporting vs (v ∷ []) ∙ ap (λ l. report_of reporting vs ++ l) (append-nil (line_of reporting v))

@@ -41,7 +41,7 @@ number_parts (n ∷ ns) = codes " " ∷ decimal n ∷ number_parts ns
 
 -- a refusal of something, in parts: its number, its name, and the numbers of what is at fault
 abbrev pub refusal_parts : List ℕ → (number : ℕ) (name : List ℕ) → List ℕ → List (List ℕ)
-refusal_parts what number name told = what ∷ decimal number ∷ codes " " ∷ name ∷ number_parts told
+refusal_parts what number name reported = what ∷ decimal number ∷ codes " " ∷ name ∷ number_parts reported
 
 -- the refusal of an image
 abbrev pub image_parts : BadImage → List (List ℕ)

@@ -8,7 +8,7 @@ use Rattle.thy_block.specs.declared.cause.EndCause.{EndCause}
 use Rattle.thy_block.specs.declared.cause.EndCause.TheVariants.{Length, Exhausted, Ended as EndedCause}
 use Rattle.thy_isa.specs.declared.state.Status.{Status}
 use Rattle.thy_isa.specs.declared.state.Status.TheVariants.{Running, Exited, Trapped}
-use Rattle.thy_text.specs.declared.telling.Telling.{Telling}
+use Rattle.thy_text.specs.declared.reporting.Reporting.{Reporting}
 use Rattle.thy_text.specs.Event.{Event, Scheme, EpochEnd, Commit, Cut, Restart, Reload, Ended}
 
 -- texts one after another
@@ -63,21 +63,21 @@ epoch_end_parts harts epoch count cause turns =
     codes "epoch " ∷ decimal epoch ∷ codes " ends at " ∷ decimal count ∷ codes " by " ∷ cause_parts harts cause turns
 
 -- the line of what happened, and after a restart and an end memory's digest, if digests are reported
-abbrev pub line_of : Telling → Event → List ℕ
-line_of telling (EpochEnd epoch count cause turns) = joined (epoch_end_parts telling.harts epoch count cause turns)
-line_of telling (Commit epoch cycle overlapped) =
+abbrev pub line_of : Reporting → Event → List ℕ
+line_of reporting (EpochEnd epoch count cause turns) = joined (epoch_end_parts reporting.harts epoch count cause turns)
+line_of reporting (Commit epoch cycle overlapped) =
     joined (codes "commit " ∷ decimal epoch ∷ codes " overlapped " ∷ decimal overlapped ∷ line_feed ∷ [])
-line_of telling (Cut index cycle) =
+line_of reporting (Cut index cycle) =
     joined (codes "cut " ∷ decimal index ∷ codes " at cycle " ∷ decimal cycle ∷ line_feed ∷ [])
-line_of telling (Restart epoch count state) = state_lines telling.digest (codes "restart ") epoch count state.memory
-line_of telling (Scheme number) = []
-line_of telling Reload = joined (codes "reload" ∷ line_feed ∷ [])
-line_of telling (Ended status count cycle state) = ended_lines telling.digest status count state.memory
+line_of reporting (Restart epoch count state) = state_lines reporting.digest (codes "restart ") epoch count state.memory
+line_of reporting (Scheme number) = []
+line_of reporting Reload = joined (codes "reload" ∷ line_feed ∷ [])
+line_of reporting (Ended status count cycle state) = ended_lines reporting.digest status count state.memory
 
 -- the lines of all that happened
-abbrev pub report_of : Telling → List Event → List ℕ
-report_of telling [] = []
-report_of telling (v ∷ vs) = line_of telling v ++ report_of telling vs
+abbrev pub report_of : Reporting → List Event → List ℕ
+report_of reporting [] = []
+report_of reporting (v ∷ vs) = line_of reporting v ++ report_of reporting vs
 
 -- the line of a made program: its number and its length
 abbrev pub made_of : ℕ → ℕ → List ℕ

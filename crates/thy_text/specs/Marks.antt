@@ -55,8 +55,8 @@ pub record Course : Type 0 where
   pub harts : ℕ
 
 -- how many turns an event lists for this many instructions: with one hart none
-abbrev pub turns_told : ℕ → ℕ → ℕ
-turns_told harts instructions = if harts == 1 then 0 else instructions
+abbrev pub turns_listed : ℕ → ℕ → ℕ
+turns_listed harts instructions = if harts == 1 then 0 else instructions
 
 -- the cause of an epoch's end at a count to which these turns lead, if the epoch began after `last` instructions
 abbrev pub FitsCause : Course → ℕ → ℕ → List ℕ → EndCause → Type 0
@@ -74,7 +74,7 @@ pub record EndsEpoch (c : Course) (m : Marks) (epoch count : ℕ) (cause : EndCa
   pub alone : m.sealed ≡ None
   pub from : last ≤ count
   pub to : count ≤ last + c.epoch
-  pub each : length turns ≡ turns_told c.harts (count - last)
+  pub each : length turns ≡ turns_listed c.harts (count - last)
   pub fits : FitsCause c last count (m.kept_turns ++ turns) cause
 
 -- a run goes on from one of the two checkpoints, with the plain machine's state

@@ -30,7 +30,7 @@ pub record EndsAt (c : Counts) (m : Marks) (epoch count : ℕ) (cause : EndCause
   pub alone : m.sealed ≡ None
   pub from : last ≤ count
   pub to : count ≤ last + c.epoch
-  pub untold : turns ≡ []
+  pub unlisted : turns ≡ []
   pub fits : FitsCount c last count cause
 
 -- a run goes on from one of the two checkpoints, with the plain machine's state
@@ -61,7 +61,7 @@ AllLawfulAt c m [] = Unit {0}
 AllLawfulAt c m (v ∷ vs) = LawfulAt c m v × AllLawfulAt c (marks_after c.start m v) vs
 
 -- no turn is listed for either checkpoint
-pub record IsUntold (m : Marks) : Type 0 where
+pub record HasNoTurns (m : Marks) : Type 0 where
   pub kept : m.kept_turns ≡ []
   pub sealed : m.sealed_turns ≡ []
 
@@ -72,5 +72,5 @@ counts_of c = record { at = λ k. c.at k []; start = c.start; epoch = c.epoch }
 -- with one hart events are lawful exactly if they are by counts alone
 abbrev pub OneHartGoesByCounts : Type 0
 OneHartGoesByCounts =
-    (c : Course) (m : Marks) (events : List Event) → c.harts ≡ 1 → IsUntold m
+    (c : Course) (m : Marks) (events : List Event) → c.harts ≡ 1 → HasNoTurns m
     → (AllLawful c m events ↔ AllLawfulAt (counts_of c) m events)

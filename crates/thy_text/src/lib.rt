@@ -16,8 +16,8 @@ mod laws;
 mod line;
 mod memory_digest;
 mod piece;
+mod reporting;
 mod summary;
-mod telling;
 
 pub use closing::{Closing, FetchFault, write_closing};
 pub use event::Event;
@@ -26,5 +26,5 @@ pub use history::History;
 pub use laws::with_one_hart_events_go_by_counts;
 pub use line::{write_ended, write_event, write_made};
 pub use memory_digest::digest;
+pub use reporting::Reporting;
 pub use summary::{write_scheme, write_summary};
-pub use telling::Telling;

@@ -9,7 +9,7 @@ ghost use Rattle.thy_text.specs.Writing.{Wrote};
 
 use crate::memory_digest::write_digest;
 use crate::piece::{Piece, write_pieces};
-use crate::{Event, Telling};
+use crate::{Event, Reporting};
 use thy_base::{EndCause, Sink, SinkError};
 use thy_isa::{MachState, Status};
 
@@ -18,12 +18,12 @@ use thy_isa::{MachState, Status};
 /// given to the sink at once (which is tested, and in no contract). Allocates nothing.
 pub fn write_event<R: Sink>(
     event: &Event,
-    telling: Telling,
+    reporting: Reporting,
     report: &mut R,
 ) -> Result<(), SinkError>
     ensures wrote { Wrote result (R.stream report.old) (R.stream report.new)
-        (line_of telling (event_of event.now)) }
-    ensures due { OnErr result (line_of telling (event_of event.now) ≢ []) }
+        (line_of reporting (event_of event.now)) }
+    ensures due { OnErr result (line_of reporting (event_of event.now) ≢ []) }
 {
     match event {
         Event::Scheme { .. } => Ok(()),
@@ -36,7 +36,7 @@ pub fn write_event<R: Sink>(
             *epoch,
             *count,
             *cause,
-            telling.harts,
+            reporting.harts,
             turns.as_slice(),
             report,
         ),
@@ -50,14 +50,14 @@ pub fn write_event<R: Sink>(
             epoch,
             count,
             state,
-        } => write_state("restart ", *epoch, *count, state, telling.digest, report),
+        } => write_state("restart ", *epoch, *count, state, reporting.digest, report),
         Event::Reload => write_pieces(&[Piece::Text("reload"), Piece::Text("\n")], report),
         Event::Ended {
             status,
             count,
             state,
             ..
-        } => write_end(*status, *count, state, telling.digest, report),
+        } => write_end(*status, *count, state, reporting.digest, report),
     }
 }
 

@@ -46,13 +46,13 @@ fn write_memory<R: Sink>(state: &MachState, report: &mut R) -> Result<(), SinkEr
 /// Writes the line of memory's digest, if digests are reported.
 pub(crate) fn write_digest<R: Sink>(
     state: &MachState,
-    told: bool,
+    reported: bool,
     report: &mut R,
 ) -> Result<(), SinkError>
     ensures { Wrote result (R.stream report.old) (R.stream report.new)
-        (digest_line told (bytes_of state.now.memory)) }
+        (digest_line reported (bytes_of state.now.memory)) }
 {
-    if told {
+    if reported {
         write_memory(state, report)
     } else {
         Ok(())

@@ -21,7 +21,7 @@ use Rattle.thy_view.specs.Booting.{view_of_image}
 use Rattle.thy_view.specs.CoreStep.{CoreStep}
 use Rattle.thy_view.specs.Kind.{KindOf, IsStep, CanStep}
 use Rattle.thy_view.specs.Origin.{Begins, Origin}
-use Rattle.thy_view.specs.Told.{IsThere, HasTurn}
+use Rattle.thy_view.specs.WithTurns.{IsThere, HasTurn}
 use Rattle.thy_view.specs.Views.{is_halt}
 
 -- ---- what only a fit and a cut change
@@ -63,10 +63,10 @@ turn_in_boot : (o : Origin) (v : View) (did : Did) → v.phase ≡ BootPhase →
 turn_in_boot o v (Retired hart) boots there = not_run v.phase boots there.runs
 turn_in_boot o v did boots there = tt
 
-untold_in_boot : (o : Origin) (v next : View) (did : Did) (harts : ℕ) (turns : List ℕ) → v.phase ≡ BootPhase → CoreStep o v did next
+no_turns_in_boot : (o : Origin) (v next : View) (did : Did) (harts : ℕ) (turns : List ℕ) → v.phase ≡ BootPhase → CoreStep o v did next
     → turns_after harts turns did ≡ turns
-untold_in_boot o v next (Retired hart) harts turns boots s = not_run v.phase boots s.phase
-untold_in_boot o v next did harts turns boots s = refl
+no_turns_in_boot o v next (Retired hart) harts turns boots s = not_run v.phase boots s.phase
+no_turns_in_boot o v next did harts turns boots s = refl
 
 -- it goes on, unless this cycle was its last
 stays_boot : (o : Origin) (v next : View) (did : Did) → v.phase ≡ BootPhase → CoreStep o v did next → goes_on did ≡ true → next.phase ≡ BootPhase
@@ -180,7 +180,7 @@ module _ {M : Type 0} (K : KindOf M) (plan : Plan) (pick : ℕ) (w copy : World 
         step = record {
           r = r;
           going = ap is_halt b.phase;
-          turns_are = sym (untold_in_boot p v (K.view p next new) r.did plan.geometry.harts b.last.turns b.phase stepped.step);
+          turns_are = sym (no_turns_in_boot p v (K.view p next new) r.did plan.geometry.harts b.last.turns b.phase stepped.step);
           agree = λ j l. refl;
           alike = refl;
           is_step = subst (λ (x : Pick). IsStep K p b.last.cycles x b.last.machine next b.last.device new r) picked stepped;

@@ -6,14 +6,14 @@ use Rattle.thy_dram.specs.Contents.{Contents, lost}
 use Rattle.thy_dram.proofs.DrawLemmas.{length-over}
 use Rattle.thy_layout.specs.Decoded.{Decoded}
 use Rattle.thy_run.specs.World.{World, line, turns_kept}
-use Rattle.thy_run.proofs.TellLaws.{kept_agrees}
+use Rattle.thy_run.proofs.TurnListLaws.{kept_agrees}
 use Rattle.thy_trial.specs.Trials.{CanCopy, GoesOnOverCopy}
 use Rattle.thy_view.specs.declared.view.View.{View}
 use Rattle.thy_view.specs.Booting.{view_of_image}
-use Rattle.thy_view.specs.Kind.{KindOf, IsLawful, IsLeft, IsDramOf}
+use Rattle.thy_view.specs.Kind.{KindOf, IsLawful, IsCrashOfView, IsDramOf}
 use Rattle.thy_view.specs.Origin.{Origin}
 use Rattle.thy_view.specs.Safe.{ceiling}
-use Rattle.thy_view.specs.Told.{AgreeBelow, reach}
+use Rattle.thy_view.specs.WithTurns.{AgreeBelow, reach}
 use Rattle.thy_view.proofs.AgainLaws.{sealed_in}
 
 pub goes_on_over_copy : {M : Type 0} (K : KindOf M) → IsLawful K → GoesOnOverCopy K
@@ -22,7 +22,7 @@ goes_on_over_copy K laws o pick w m n can powered dram =
     let v : View = K.view p w.machine w.device in
     let d : Decoded = K.decode o.geometry ceiling n.image in
     let turns : List ℕ = turns_kept o w.turns d in
-    let left : IsLeft K p v n = record {
+    let left : IsCrashOfView K p v n = record {
       up = can.up;
       settled = can.empty;
       blocks = can.crash.same_length ∙ laws.sized p w.cycles w.machine w.device can.at_moment;

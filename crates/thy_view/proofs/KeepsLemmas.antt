@@ -5,7 +5,7 @@ use Rattle.thy_block.specs.declared.mark.Mark.{Mark}
 use Rattle.thy_block.specs.Device.{Device, Crash, IsOneWordApart, IsCut, IsFramed, block_at, settled, written_to, drained}
 use Rattle.thy_block.proofs.DeviceLemmas.{length-settled, length-written_to}
 use Rattle.thy_layout.specs.Decoded.{Decoded, At}
-use Rattle.thy_layout.specs.Saved.{Saved, Kept, Ready, InDoubt, IsCopy, IsLeft, IsIssued, guarded}
+use Rattle.thy_layout.specs.Saved.{Saved, Kept, Ready, InDoubt, IsCopy, IsCrashOfSaved, IsIssued, guarded}
 use Rattle.thy_layout.specs.Fixed.{Reads}
 use Rattle.thy_layout.specs.Spares.{Spares}
 use Rattle.thy_layout.proofs.SavedLemmas.{left_of_saved, IsKept-cut, IsKept-empty, IsSaved-spared, IsReady-settled, IsInDoubt-written, IsInDoubt-failed, IsKept-settled}
@@ -18,7 +18,7 @@ use Rattle.thy_view.specs.Origin.{Origin, IsOrigin, StartsFrom, at}
 use Rattle.thy_view.specs.Safe.{ceiling, Safe, IsOneOf}
 use Rattle.thy_block.specs.Marks.{mark}
 use Rattle.thy_layout.specs.Layout.{Layout, Layouts, decode_by, reading, looked_by}
-use Rattle.thy_view.specs.Keeps.{IsOf, Tells, TellsNext, TellsAll, Keeps, doubt_in, finding_view}
+use Rattle.thy_view.specs.Keeps.{IsOf, HasKept, HasSealed, HasMarks, Keeps, doubt_in, finding_view}
 use Rattle.thy_view.specs.Moves.{Standing, IsKeeping, CommitsTo, Move, Goes, Seals, Readies, Commits, Confirms, Moves, Rests, Then, LeavesAlone}
 use Rattle.thy_layout.proofs.LayoutLemmas.{decode_by-copy}
 
@@ -28,31 +28,31 @@ use Rattle.thy_layout.proofs.LayoutLemmas.{decode_by-copy}
 IsOf-copy : (o : Origin) (l : Layout) (h g : List Block) (m : Mark) → IsCopy (looked_by l) h g → IsOf o l h m → IsOf o l g m
 IsOf-copy o l h g m c is = record { decodes = decode_by-copy l ceiling h g c ∙ is.decodes; counted = is.counted }
 
-Tells-copy : (o : Origin) (l : Layout) (h g : List Block) (kept : Option Mark) → IsCopy (looked_by l) h g → Tells o l h kept → Tells o l g kept
-Tells-copy o l h g None c t = (decode_by-copy l ceiling h g c ∙ t.0, t.1)
-Tells-copy o l h g (Some m) c is = IsOf-copy o l h g m c is
+HasKept-copy : (o : Origin) (l : Layout) (h g : List Block) (kept : Option Mark) → IsCopy (looked_by l) h g → HasKept o l h kept → HasKept o l g kept
+HasKept-copy o l h g None c t = (decode_by-copy l ceiling h g c ∙ t.0, t.1)
+HasKept-copy o l h g (Some m) c is = IsOf-copy o l h g m c is
 
-TellsNext-copy : (o : Origin) (l : Layout) (h g : List Block) (sealed : Option Mark)
-    → IsCopy (looked_by l) h g → TellsNext o l h sealed → (m : Mark) × (sealed ≡ Some m) × IsOf o l g m
-TellsNext-copy o l h g None c t = absurd t
-TellsNext-copy o l h g (Some m) c is = (m, refl, IsOf-copy o l h g m c is)
+HasSealed-copy : (o : Origin) (l : Layout) (h g : List Block) (sealed : Option Mark)
+    → IsCopy (looked_by l) h g → HasSealed o l h sealed → (m : Mark) × (sealed ≡ Some m) × IsOf o l g m
+HasSealed-copy o l h g None c t = absurd t
+HasSealed-copy o l h g (Some m) c is = (m, refl, IsOf-copy o l h g m c is)
 
 -- an image that a cut may leave has the checkpoint of the mark kept, or of the one in doubt
 abbrev IsFound : Origin → Layout → Option Mark → Option Mark → List Block → Type 0
-IsFound o l kept doubt g = Tells o l g kept ⊎ ((m : Mark) × (doubt ≡ Some m) × IsOf o l g m)
+IsFound o l kept doubt g = HasKept o l g kept ⊎ ((m : Mark) × (doubt ≡ Some m) × IsOf o l g m)
 
 found_after : (o : Origin) (l : Layout) (s : Saved) (kept sealed : Option Mark) (g : List Block)
-    → IsLeft (looked_by l) s g → TellsAll o l s kept sealed → IsFound o l kept (doubt_in s sealed) g
-found_after o l (Kept before) kept sealed g c t = inl (Tells-copy o l before g kept c t)
-found_after o l (Ready before next) kept sealed g c t = inl (Tells-copy o l before g kept c t.0)
+    → IsCrashOfSaved (looked_by l) s g → HasMarks o l s kept sealed → IsFound o l kept (doubt_in s sealed) g
+found_after o l (Kept before) kept sealed g c t = inl (HasKept-copy o l before g kept c t)
+found_after o l (Ready before next) kept sealed g c t = inl (HasKept-copy o l before g kept c t.0)
 found_after o l (InDoubt before next) kept sealed g c t = elim c as (λ _. IsFound o l kept sealed g) [
-  | inl old ↦ inl (Tells-copy o l before g kept old t.0)
-  | inr new ↦ inr (TellsNext-copy o l next g sealed new t.1)
+  | inl old ↦ inl (HasKept-copy o l before g kept old t.0)
+  | inr new ↦ inr (HasSealed-copy o l next g sealed new t.1)
 ]
 
 found : (o : Origin) (l : Layout) (n : Device) (s : Saved) (kept sealed : Option Mark) (g : List Block)
     → Keeps o l n s kept sealed → Crash n g → IsFound o l kept (doubt_in s sealed) g
-found o l n s kept sealed g k c = found_after o l s kept sealed g (left_of_saved (looked_by l) n s g k.saved c) k.told
+found o l n s kept sealed g k c = found_after o l s kept sealed g (left_of_saved (looked_by l) n s g k.saved c) k.meant
 
 -- a mark's checkpoint is one of two
 one_of_mark : (o : Origin) (kept doubt : Option Mark) (m : Mark) (d : Decoded)
@@ -61,7 +61,7 @@ one_of_mark o kept doubt m d decodes counted which =
     subst (IsOneOf o kept doubt) (sym decodes)
     (subst (λ (k : ℕ). (kept ≡ Some (mark m.epoch k)) ⊎ (doubt ≡ Some (mark m.epoch k))) (sym counted) which, ap (at o) (sym counted))
 
-one_of_kept : (o : Origin) (l : Layout) (g : List Block) (kept doubt : Option Mark) → Tells o l g kept → IsOneOf o kept doubt (decode_by l ceiling g)
+one_of_kept : (o : Origin) (l : Layout) (g : List Block) (kept doubt : Option Mark) → HasKept o l g kept → IsOneOf o kept doubt (decode_by l ceiling g)
 one_of_kept o l g None doubt t = subst (IsOneOf o None doubt) (sym t.0) refl
 one_of_kept o l g (Some m) doubt is = one_of_mark o (Some m) doubt m (decode_by l ceiling g) is.decodes is.counted (inl refl)
 
@@ -95,23 +95,23 @@ IsOf-first o l g m same decodes =
     let start : at o m.count ≡ o.start = ap (at o) same ∙ at-start o in
     record { decodes = decodes ∙ ap (At m.epoch) (sym start); counted = ap (λ s. s.count) start ∙ sym same }
 
-first_told : (o : Origin) (l : Layout) (g : List Block) (kept : Option Mark)
-    → o.kept ≡ kept → StartsFrom kept o.start → decode_by l ceiling g ≡ found_first o kept → Tells o l g kept
-first_told o l g None is starts found = (found, is)
-first_told o l g (Some m) is starts found = IsOf-first o l g m starts.0 found
+first_kept : (o : Origin) (l : Layout) (g : List Block) (kept : Option Mark)
+    → o.kept ≡ kept → StartsFrom kept o.start → decode_by l ceiling g ≡ found_first o kept → HasKept o l g kept
+first_kept o l g None is starts found = (found, is)
+first_kept o l g (Some m) is starts found = IsOf-first o l g m starts.0 found
 
-pub Tells-first : (o : Origin) (l : Layout) (g : List Block) → IsOrigin o → decode_by l ceiling g ≡ found_first o o.kept → Tells o l g o.kept
-Tells-first o l g origin found = first_told o l g o.kept refl origin.starts found
+pub HasKept-first : (o : Origin) (l : Layout) (g : List Block) → IsOrigin o → decode_by l ceiling g ≡ found_first o o.kept → HasKept o l g o.kept
+HasKept-first o l g origin found = first_kept o l g o.kept refl origin.starts found
 
-pub finding_view-told : (o : Origin) (l : Layout) (g : List Block) (kept : Option Mark) (count : ℕ)
-    → Tells o l g kept → view_of_image count (decode_by l ceiling g) ≡ finding_view count kept
-finding_view-told o l g None count t = ap (view_of_image count) t.0
-finding_view-told o l g (Some m) count is =
+pub finding_view-meant : (o : Origin) (l : Layout) (g : List Block) (kept : Option Mark) (count : ℕ)
+    → HasKept o l g kept → view_of_image count (decode_by l ceiling g) ≡ finding_view count kept
+finding_view-meant o l g None count t = ap (view_of_image count) t.0
+finding_view-meant o l g (Some m) count is =
     ap (view_of_image count) is.decodes ∙ ap (λ k. boot_view (Some (mark m.epoch k)) None) is.counted
 
 pub Keeps-empty : (o : Origin) (l : Layout) (n : Device) (kept sealed : Option Mark)
-    → length n.image ≡ l.image_blocks → n.queue ≡ [] → Tells o l n.image kept → Keeps o l n (Kept n.image) kept sealed
-Keeps-empty o l n kept sealed sized empty t = record { sized = sized; saved = IsKept-empty (looked_by l) n empty; told = t }
+    → length n.image ≡ l.image_blocks → n.queue ≡ [] → HasKept o l n.image kept → Keeps o l n (Kept n.image) kept sealed
+Keeps-empty o l n kept sealed sized empty t = record { sized = sized; saved = IsKept-empty (looked_by l) n empty; meant = t }
 
 pub Keeps-cut : (o : Origin) (l : Layout) (s : Saved) (kept sealed : Option Mark) (pick : ℕ) (old new : Device)
     → Keeps o l old s kept sealed → IsCut pick old new
@@ -122,8 +122,8 @@ Keeps-cut o l s kept sealed pick old new k c =
     let saved = IsKept-cut (looked_by l) pick old new c in
     elim (found o l old s kept sealed new.image k c.crash) as (λ _. Keeps o l new (Kept new.image) kept None
     ⊎ ((m : Mark) × (doubt_in s sealed ≡ Some m) × Keeps o l new (Kept new.image) (Some m) None)) [
-      | inl before ↦ inl (record { sized = sized; saved = saved; told = before })
-      | inr next ↦ inr (next.0, next.1, record { sized = sized; saved = saved; told = next.2 })
+      | inl before ↦ inl (record { sized = sized; saved = saved; meant = before })
+      | inr next ↦ inr (next.0, next.1, record { sized = sized; saved = saved; meant = next.2 })
     ]
 
 -- ---- the moves
@@ -133,7 +133,7 @@ Keeps-goes : (o : Origin) (l : Layout) (s : Saved) (kept sealed : Option Mark) (
 Keeps-goes o l s kept sealed old new spares k = record {
   sized = spares.as_long ∙ k.sized;
   saved = IsSaved-spared (looked_by l) s old new k.saved spares;
-  told = k.told;
+  meant = k.meant;
 }
 
 Keeps-readies : (o : Origin) (l : Layout) (before next : List Block) (kept : Option Mark) (m : Mark) (old new : Device)
@@ -142,7 +142,7 @@ Keeps-readies : (o : Origin) (l : Layout) (before next : List Block) (kept : Opt
 Keeps-readies o l before next kept m old new issued is e k = record {
   sized = ap (λ n. length n.image) e ∙ length-settled old ∙ k.sized;
   saved = IsReady-settled (looked_by l) before next old new k.saved issued e;
-  told = (k.told, is);
+  meant = (k.meant, is);
 }
 
 Keeps-commits : (o : Origin) (l : Layout) (before next : List Block) (kept : Option Mark) (m : Mark) (old new : Device)
@@ -152,12 +152,12 @@ Keeps-commits o l before next kept m old new apart how k = elim how as (λ _. Ke
   | inl written ↦ record {
     sized = ap (λ n. length n.image) written ∙ length-written_to old 1 (block_at next 1) ∙ k.sized;
     saved = IsInDoubt-written (looked_by l) before next old new apart k.saved written;
-    told = k.told;
+    meant = k.meant;
   }
   | inr failed ↦ record {
     sized = failed.1.blocks ∙ k.sized;
     saved = IsInDoubt-failed (looked_by l) before next old new apart k.saved failed.0 failed.1;
-    told = k.told;
+    meant = k.meant;
   }
 ]
 
@@ -167,12 +167,12 @@ Keeps-confirms : (o : Origin) (l : Layout) (before next : List Block) (kept : Op
 Keeps-confirms o l before next kept m old new read e k = record {
   sized = ap (λ n. length n.image) e ∙ length-settled old ∙ k.sized;
   saved = IsKept-settled (looked_by l) before next old new k.saved read e;
-  told = k.told.1;
+  meant = k.meant.1;
 }
 
 pub IsKeeping-move : (o : Origin) (l : Layout) (a b : Standing) → Move o l a b → IsKeeping o l a → IsKeeping o l b
 IsKeeping-move o l a b (Goes s kept sealed old new spares) k = Keeps-goes o l s kept sealed old new spares k
-IsKeeping-move o l a b (Seals n before kept m) k = record { sized = k.sized; saved = k.saved; told = k.told }
+IsKeeping-move o l a b (Seals n before kept m) k = record { sized = k.sized; saved = k.saved; meant = k.meant }
 IsKeeping-move o l a b (Readies before next kept m old new issued is e) k = Keeps-readies o l before next kept m old new issued is e k
 IsKeeping-move o l a b (Commits before next kept m old new apart how) k = Keeps-commits o l before next kept m old new apart how k
 IsKeeping-move o l a b (Confirms before next kept m old new read e) k = Keeps-confirms o l before next kept m old new read e k

@@ -5,12 +5,12 @@ use Rattle.thy_isa.proofs.HartLaws.{step-alone, crossed-alone, step_of-alone}
 use Rattle.thy_view.specs.declared.did.Did.TheVariants.{Boot, Loaded, Restarted, Refused, Moved, Retired, Flushed, Merged, Sealed, Promoted, Engine, Committed, NvmDrained, DramDrained, Nothing}
 use Rattle.thy_view.specs.OneHart.{EachHasItsTurn, TurnsDontMatter}
 use Rattle.thy_view.specs.Origin.{setting_of, by_turns, at}
-use Rattle.thy_view.proofs.TurnLaws.{IsKept, untold, by_turns-keeps}
+use Rattle.thy_view.proofs.TurnLaws.{IsKept, without_turns, by_turns-keeps}
 
 pub has-turn : EachHasItsTurn
 has-turn o v (Retired hart) one h =
     let there : hart < o.geometry.harts = h.there in
-    untold o v.count ∙ (let e : 0 ≡ hart = omega (arith, there, one) in e)
+    without_turns o v.count ∙ (let e : 0 ≡ hart = omega (arith, there, one) in e)
 has-turn o v Boot one h = tt
 has-turn o v Loaded one h = tt
 has-turn o v (Restarted epoch count) one h = tt

@@ -11,7 +11,7 @@ use Rattle.thy_view.specs.CoreStep.{phase_at, busier, BootsTo, MovesTo, EngineTo
 use Rattle.thy_view.specs.Laws.{StepsReach, RetiresReach, StaysThere, FindsTurns}
 use Rattle.thy_view.specs.Origin.{Origin, runs_at}
 use Rattle.thy_view.specs.Pace.{retires}
-use Rattle.thy_view.specs.Told.{told, AgreeBelow, count_of, reach_in, reach, HasTurn}
+use Rattle.thy_view.specs.WithTurns.{with_turns, AgreeBelow, count_of, reach_in, reach, HasTurn}
 use Rattle.thy_view.proofs.TurnLaws.{AgreeBelow-same, with_turn, with_turn-agrees, with_turn-gives}
 
 -- ---- phases
@@ -171,7 +171,7 @@ finds-turns o v Nothing h = (o.turns, AgreeBelow-same o (reach v), tt)
 
 -- what a step did has its turn with all turns that agree as far as the step reaches
 pub HasTurn-agrees : (o : Origin) (turns : List ℕ) (v next : View) (did : Did)
-    → CoreStep o v did next → AgreeBelow o turns (reach next) → HasTurn o v did → HasTurn (told o turns) v did
+    → CoreStep o v did next → AgreeBelow o turns (reach next) → HasTurn o v did → HasTurn (with_turns o turns) v did
 HasTurn-agrees o turns v next (Retired hart) s agree mine = agree v.count (retires-reach o v next hart s) ∙ mine
 HasTurn-agrees o turns v next Boot s agree mine = tt
 HasTurn-agrees o turns v next Loaded s agree mine = tt

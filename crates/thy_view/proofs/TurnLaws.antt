@@ -5,11 +5,11 @@ use Rattle.std.proofs.lemmas.List.{length-append, length-replicate, length-take-
 use Rattle.thy_block.specs.declared.mark.Mark.{Mark}
 use Rattle.thy_isa.specs.Step.{State, Setting, crossed, step, step_of, steps}
 use Rattle.thy_layout.specs.Decoded.{Decoded, Nothing as NothingFound, Refused as RefusedImage, At}
-use Rattle.thy_view.specs.Laws.{TurnsLeadTo, StaysSafe, HartZeroSteps, UntoldSteps, LastTold}
+use Rattle.thy_view.specs.Laws.{TurnsLeadTo, StaysSafe, HartZeroSteps, StepsWithoutTurns, LastHasItsTurn}
 use Rattle.thy_layout.specs.declared.start.Start.{Start}
 use Rattle.thy_view.specs.Origin.{Origin, IsOrigin, Begins, setting_of, turn_at, by_turns, at}
 use Rattle.thy_view.specs.Safe.{ceiling, IsOneOf}
-use Rattle.thy_view.specs.Told.{told, AgreeBelow, count_of}
+use Rattle.thy_view.specs.WithTurns.{with_turns, AgreeBelow, count_of}
 
 -- ---- turns
 
@@ -31,13 +31,13 @@ both_zero true n = refl
 both_zero false n = refl
 
 -- with no turns reported each turn is hart 0's
-pub untold : (o : Origin) (j : ℕ) → turn_at (told o []) j ≡ 0
-untold o j = both_zero (nat_lt j o.start.count) 0
+pub without_turns : (o : Origin) (j : ℕ) → turn_at (with_turns o []) j ≡ 0
+without_turns o j = both_zero (nat_lt j o.start.count) 0
 
 pub AgreeBelow-same : (o : Origin) (k : ℕ) → AgreeBelow o o.turns k
 AgreeBelow-same o k = λ j less. refl
 
-pub AgreeBelow-on : (o : Origin) (a b : List ℕ) (k : ℕ) → AgreeBelow o a k → AgreeBelow (told o a) b k → AgreeBelow o b k
+pub AgreeBelow-on : (o : Origin) (a b : List ℕ) (k : ℕ) → AgreeBelow o a k → AgreeBelow (with_turns o a) b k → AgreeBelow o b k
 AgreeBelow-on o a b k one two = λ j less. two j less ∙ one j less
 
 pub AgreeBelow-less : (o : Origin) (turns : List ℕ) (j k : ℕ) → j ≤ k → AgreeBelow o turns k → AgreeBelow o turns j
@@ -45,8 +45,8 @@ AgreeBelow-less o turns j k le agree = λ i less. agree i (omega (arith, less, l
 
 -- ---- a run with other turns starts as it did
 
-pub IsOrigin-told : (o : Origin) (turns : List ℕ) → IsOrigin o → IsOrigin (told o turns)
-IsOrigin-told o turns h = record {
+pub IsOrigin-with_turns : (o : Origin) (turns : List ℕ) → IsOrigin o → IsOrigin (with_turns o turns)
+IsOrigin-with_turns o turns h = record {
   geometry = h.geometry;
   recordable = h.recordable;
   memory = h.memory;
@@ -55,8 +55,8 @@ IsOrigin-told o turns h = record {
   starts = h.starts;
 }
 
-pub Begins-told : (o : Origin) (turns : List ℕ) (start : Start) → Begins o start → Begins (told o turns) start
-Begins-told o turns start h = record { state = h.state; input = h.input; kept = h.kept }
+pub Begins-with_turns : (o : Origin) (turns : List ℕ) (start : Start) → Begins o start → Begins (with_turns o turns) start
+Begins-with_turns o turns start h = record { state = h.state; input = h.input; kept = h.kept }
 
 -- ---- turns with a hart at a place
 
@@ -93,57 +93,57 @@ with_turn o k hart = turned (k - o.start.count) hart o.turns
 
 pub with_turn-agrees : (o : Origin) (k hart i : ℕ) → i ≤ k → AgreeBelow o (with_turn o k hart) i
 unfolding with_turn
-with_turn-agrees o k hart i le = λ j less. elim (cases_lt j o.start.count) as (λ _. turn_at (told o (with_turn o k hart)) j ≡ turn_at o j) [
-  | inl early ↦ turn_early (told o (with_turn o k hart)) j early ∙ sym (turn_early o j early)
+with_turn-agrees o k hart i le = λ j less. elim (cases_lt j o.start.count) as (λ _. turn_at (with_turns o (with_turn o k hart)) j ≡ turn_at o j) [
+  | inl early ↦ turn_early (with_turns o (with_turn o k hart)) j early ∙ sym (turn_early o j early)
   | inr late ↦
-      turn_late (told o (with_turn o k hart)) j late
+      turn_late (with_turns o (with_turn o k hart)) j late
       ∙ turned-below (k - o.start.count) hart o.turns (j - o.start.count) (omega (arith, less, le, late))
       ∙ sym (turn_late o j late)
 ]
 
-pub with_turn-gives : (o : Origin) (k hart : ℕ) → o.start.count ≤ k → turn_at (told o (with_turn o k hart)) k ≡ hart
+pub with_turn-gives : (o : Origin) (k hart : ℕ) → o.start.count ≤ k → turn_at (with_turns o (with_turn o k hart)) k ≡ hart
 unfolding with_turn
 with_turn-gives o k hart late =
-    turn_late (told o (with_turn o k hart)) k late ∙ turned-there (k - o.start.count) hart o.turns
+    turn_late (with_turns o (with_turn o k hart)) k late ∙ turned-there (k - o.start.count) hart o.turns
 
 -- a turn that is listed last is the next count's
-pub last-told : LastTold
-last-told o turns hart k late many = (
-  turn_late (told o (turns ++ hart ∷ [])) k late ∙ get_or_at turns hart [] 0 (k - o.start.count) many,
-  λ j less. elim (cases_lt j o.start.count) as (λ _. turn_at (told o (turns ++ hart ∷ [])) j ≡ turn_at (told o turns) j) [
-    | inl early ↦ turn_early (told o (turns ++ hart ∷ [])) j early ∙ sym (turn_early (told o turns) j early)
+pub last-with_turns : LastHasItsTurn
+last-with_turns o turns hart k late many = (
+  turn_late (with_turns o (turns ++ hart ∷ [])) k late ∙ get_or_at turns hart [] 0 (k - o.start.count) many,
+  λ j less. elim (cases_lt j o.start.count) as (λ _. turn_at (with_turns o (turns ++ hart ∷ [])) j ≡ turn_at (with_turns o turns) j) [
+    | inl early ↦ turn_early (with_turns o (turns ++ hart ∷ [])) j early ∙ sym (turn_early (with_turns o turns) j early)
     | inr after ↦
-        turn_late (told o (turns ++ hart ∷ [])) j after
+        turn_late (with_turns o (turns ++ hart ∷ [])) j after
         ∙ get_or_append_left turns (hart ∷ []) 0 (j - o.start.count) (omega (arith, less, after, many))
-        ∙ sym (turn_late (told o turns) j after)
+        ∙ sym (turn_late (with_turns o turns) j after)
   ],
 )
 
 -- ---- parts of lists
 
 -- the turns reported as far as a count agree below it
-pub taken-agrees : (o : Origin) (turns : List ℕ) (k : ℕ) → AgreeBelow (told o turns) (take (k - o.start.count) turns) k
-taken-agrees o turns k = λ j less. elim (cases_lt j o.start.count) as (λ _. turn_at (told o (take (k - o.start.count) turns)) j ≡ turn_at (told o turns) j) [
-  | inl early ↦ turn_early (told o (take (k - o.start.count) turns)) j early ∙ sym (turn_early (told o turns) j early)
+pub taken-agrees : (o : Origin) (turns : List ℕ) (k : ℕ) → AgreeBelow (with_turns o turns) (take (k - o.start.count) turns) k
+taken-agrees o turns k = λ j less. elim (cases_lt j o.start.count) as (λ _. turn_at (with_turns o (take (k - o.start.count) turns)) j ≡ turn_at (with_turns o turns) j) [
+  | inl early ↦ turn_early (with_turns o (take (k - o.start.count) turns)) j early ∙ sym (turn_early (with_turns o turns) j early)
   | inr late ↦
-      turn_late (told o (take (k - o.start.count) turns)) j late
+      turn_late (with_turns o (take (k - o.start.count) turns)) j late
       ∙ get_or-take (k - o.start.count) turns (j - o.start.count) 0 (omega (arith, less, late))
-      ∙ sym (turn_late (told o turns) j late)
+      ∙ sym (turn_late (with_turns o turns) j late)
 ]
 
 -- turns that agree as far as they go, with the run's own turns from there on, agree everywhere
 pub joined-agrees : (o : Origin) (turns : List ℕ) (i k : ℕ) → length turns ≡ i - o.start.count → AgreeBelow o turns i
     → AgreeBelow o (turns ++ drop (i - o.start.count) o.turns) k
-joined-agrees o turns i k many agree = λ j less. elim (cases_lt j o.start.count) as (λ _. turn_at (told o (turns ++ drop (i - o.start.count) o.turns)) j ≡ turn_at o j) [
-  | inl early ↦ turn_early (told o (turns ++ drop (i - o.start.count) o.turns)) j early ∙ sym (turn_early o j early)
-  | inr late ↦ turn_late (told o (turns ++ drop (i - o.start.count) o.turns)) j late ∙ joined_at j late
+joined-agrees o turns i k many agree = λ j less. elim (cases_lt j o.start.count) as (λ _. turn_at (with_turns o (turns ++ drop (i - o.start.count) o.turns)) j ≡ turn_at o j) [
+  | inl early ↦ turn_early (with_turns o (turns ++ drop (i - o.start.count) o.turns)) j early ∙ sym (turn_early o j early)
+  | inr late ↦ turn_late (with_turns o (turns ++ drop (i - o.start.count) o.turns)) j late ∙ joined_at j late
 ]
   where
     joined_at : (j : ℕ) → o.start.count ≤ j → get_or (turns ++ drop (i - o.start.count) o.turns) (j - o.start.count) 0 ≡ turn_at o j
     joined_at j late = elim (cases_lt (j - o.start.count) (length turns)) as (λ _. get_or (turns ++ drop (i - o.start.count) o.turns) (j - o.start.count) 0 ≡ turn_at o j) [
       | inl low ↦
           get_or_append_left turns (drop (i - o.start.count) o.turns) 0 (j - o.start.count) low
-          ∙ sym (turn_late (told o turns) j late)
+          ∙ sym (turn_late (with_turns o turns) j late)
           ∙ agree j (omega (arith, low, many, late))
       | inr high ↦
           get_or-append_right turns (drop (i - o.start.count) o.turns) (length turns) (j - o.start.count) 0 refl high
@@ -194,15 +194,15 @@ by_turns-keeps P g keeps turns j (suc k) s le p = elim (cases_eq j (suc k)) as (
 pub at-agrees : TurnsLeadTo
 unfolding at
 at-agrees o turns k agree = by_turns-agree (setting_of o) turns o.turns (k - o.start.count) o.start
-    (λ j less. sym (turn_from (told o turns) j) ∙ agree (o.start.count + j) (omega (arith, less)) ∙ turn_from o j)
+    (λ j less. sym (turn_from (with_turns o turns) j) ∙ agree (o.start.count + j) (omega (arith, less)) ∙ turn_from o j)
 
 pub at-steps : HartZeroSteps
 unfolding at
 at-steps o k none = by_turns-steps (setting_of o) o.turns (k - o.start.count) o.start
     (λ j less. sym (turn_from o j) ∙ none (o.start.count + j) (omega (arith, less)))
 
-pub at-untold : UntoldSteps
-at-untold o k = at-steps (told o []) k (λ j less. untold o j)
+pub at-without_turns : StepsWithoutTurns
+at-without_turns o k = at-steps (with_turns o []) k (λ j less. without_turns o j)
 
 -- one instruction on
 pub at-next : (o : Origin) (k : ℕ) → o.start.count ≤ k → at o (k + 1) ≡ step_of (setting_of o) (turn_at o k) (at o k)
@@ -234,7 +234,7 @@ at-holds P o keeps p k = at-keeps P o keeps 0 k (omega arith) (subst P (sym (at-
 -- ---- what is safe
 
 one_of : (o : Origin) (turns : List ℕ) (k : ℕ) (kept sealed : Option Mark) → count_of kept ≤ k → count_of sealed ≤ k → AgreeBelow o turns k
-    → (d : Decoded) → IsOneOf o kept sealed d → IsOneOf (told o turns) kept sealed d
+    → (d : Decoded) → IsOneOf o kept sealed d → IsOneOf (with_turns o turns) kept sealed d
 one_of o turns k kept sealed low high agree NothingFound h = h
 one_of o turns k kept sealed low high agree (RefusedImage bad) h = h
 one_of o turns k kept sealed low high agree (At epoch state) h =

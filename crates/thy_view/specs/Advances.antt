@@ -1,4 +1,4 @@
--- Cycles in which a hart advances its instruction, and those of other actors.
+-- Cycles in which a hart advances its instruction, and cycles of other actors.
 use Rattle.std.specs.Prelude.{◌≡◌, ℕ, false, List, [], ◌∷◌, ◌++◌, replicate, length, Option, Some, None, Result, Ok, Err}
 use Rattle.thy_block.specs.declared.mix.Pick.{Pick}
 use Rattle.thy_block.specs.declared.nvm.NvmError.{NvmError}
@@ -12,7 +12,7 @@ use Rattle.thy_view.specs.declared.did.Stepped.{Stepped}
 use Rattle.thy_layout.specs.declared.start.Start.{Start}
 use Rattle.thy_view.specs.Kind.{KindOf, Simulates}
 use Rattle.thy_view.specs.Origin.{Origin}
-use Rattle.thy_view.specs.Turn.{Advances, turn_of}
+use Rattle.thy_view.specs.NextActor.{Advances, actor_of}
 
 -- what a cycle did in which a hart advances its instruction
 abbrev pub did_of : Advance → Did
@@ -30,10 +30,10 @@ IfAdvanced (Ok (Some a)) P = P (Ok (stepped_of a))
 IfAdvanced (Err e) P = P (Err e)
 
 -- at any moment of a run, no hart advances its instruction in the pick's cycle
-abbrev pub IsOthersTurn : {M : Type 0} → KindOf M → Pick → M → Device → Type 0
-IsOthersTurn K pick m n =
+abbrev pub IsOthersCycle : {M : Type 0} → KindOf M → Pick → M → Device → Type 0
+IsOthersCycle K pick m n =
     (o : Origin) (k : ℕ) (hart : ℕ) → K.is_at o k m n
-    → turn_of o pick (length n.queue) (K.view o m n) (K.pressure m) ≡ Advances hart → ⊥
+    → actor_of o pick (length n.queue) (K.view o m n) (K.pressure m) ≡ Advances hart → ⊥
 
 -- ---- cycles in a row
 

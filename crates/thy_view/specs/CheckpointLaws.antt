@@ -10,7 +10,7 @@ use Rattle.thy_view.specs.Booting.{found_first, view_of_image}
 use Rattle.thy_view.specs.Origin.{Origin, IsOrigin}
 use Rattle.thy_view.specs.Safe.{ceiling, Safe}
 use Rattle.thy_layout.specs.Layout.{Layout, Layouts, decode_by, reading}
-use Rattle.thy_view.specs.Keeps.{Keeps, Tells, doubt_in, finding_view}
+use Rattle.thy_view.specs.Keeps.{Keeps, HasKept, doubt_in, finding_view}
 use Rattle.thy_view.specs.Moves.{Standing, IsKeeping, Moves, LeavesAlone}
 
 -- ---- layouts
@@ -48,20 +48,20 @@ CutKeeps =
 abbrev pub EmptyKeeps : Type 0
 EmptyKeeps =
     (o : Origin) (l : Layout) (n : Device) (kept sealed : Option Mark)
-    → length n.image ≡ l.image_blocks → n.queue ≡ [] → Tells o l n.image kept
+    → length n.image ≡ l.image_blocks → n.queue ≡ [] → HasKept o l n.image kept
     → Keeps o l n (Kept n.image) kept sealed
 
 -- what a run begins with, an image means: nothing, or the checkpoint of its start
-abbrev pub FirstIsTold : Type 0
-FirstIsTold =
+abbrev pub FirstHasKept : Type 0
+FirstHasKept =
     (o : Origin) (l : Layout) (g : List Block)
-    → IsOrigin o → decode_by l ceiling g ≡ found_first o o.kept → Tells o l g o.kept
+    → IsOrigin o → decode_by l ceiling g ≡ found_first o o.kept → HasKept o l g o.kept
 
 -- the view of a boot is the view of the mark whose checkpoint it finds
 abbrev pub BootShows : Type 0
 BootShows =
     (o : Origin) (l : Layout) (g : List Block) (kept : Option Mark) (count : ℕ)
-    → Tells o l g kept → view_of_image count (decode_by l ceiling g) ≡ finding_view count kept
+    → HasKept o l g kept → view_of_image count (decode_by l ceiling g) ≡ finding_view count kept
 
 -- ---- what a cycle's action spares
 

@@ -17,25 +17,25 @@ pub record IsOf (o : Origin) (l : Layout) (h : List Block) (m : Mark) : Type 0 w
   pub counted : (at o m.count).count ≡ m.count
 
 -- an image is the checkpoint of the mark that is kept; if none is, it has none, and the run began without
-abbrev pub Tells : Origin → Layout → List Block → Option Mark → Type 0
-Tells o l h None = (decode_by l ceiling h ≡ Nothing) × (o.kept ≡ None)
-Tells o l h (Some m) = IsOf o l h m
+abbrev pub HasKept : Origin → Layout → List Block → Option Mark → Type 0
+HasKept o l h None = (decode_by l ceiling h ≡ Nothing) × (o.kept ≡ None)
+HasKept o l h (Some m) = IsOf o l h m
 
 -- the next image is the checkpoint of the mark that is sealed
-abbrev pub TellsNext : Origin → Layout → List Block → Option Mark → Type 0
-TellsNext o l h None = ⊥
-TellsNext o l h (Some m) = IsOf o l h m
+abbrev pub HasSealed : Origin → Layout → List Block → Option Mark → Type 0
+HasSealed o l h None = ⊥
+HasSealed o l h (Some m) = IsOf o l h m
 
-abbrev pub TellsAll : Origin → Layout → Saved → Option Mark → Option Mark → Type 0
-TellsAll o l (Kept before) kept sealed = Tells o l before kept
-TellsAll o l (Ready before next) kept sealed = Tells o l before kept × TellsNext o l next sealed
-TellsAll o l (InDoubt before next) kept sealed = Tells o l before kept × TellsNext o l next sealed
+abbrev pub HasMarks : Origin → Layout → Saved → Option Mark → Option Mark → Type 0
+HasMarks o l (Kept before) kept sealed = HasKept o l before kept
+HasMarks o l (Ready before next) kept sealed = HasKept o l before kept × HasSealed o l next sealed
+HasMarks o l (InDoubt before next) kept sealed = HasKept o l before kept × HasSealed o l next sealed
 
 -- a device has the checkpoints of these marks: of the one kept, and of the one sealed as far as it is made
 pub record Keeps (o : Origin) (l : Layout) (n : Device) (s : Saved) (kept sealed : Option Mark) : Type 0 where
   pub sized : length n.image ≡ l.image_blocks
   pub saved : IsSaved (looked_by l) n s
-  pub told : TellsAll o l s kept sealed
+  pub meant : HasMarks o l s kept sealed
 
 -- the mark that a cut may leave in place of the one kept
 abbrev pub doubt_in : Saved → Option Mark → Option Mark

@@ -34,8 +34,8 @@ use Rattle.thy_view.specs.Action.{ActsBy, ActionFailedBy, doubt_after_fault}
 use Rattle.thy_view.specs.Dram.{LeavesDram}
 use Rattle.thy_view.specs.Pace.{Gauge, retires, KeepsPace}
 use Rattle.thy_view.specs.Stores.{needs_at, CountsLines, Dirties}
-use Rattle.thy_view.specs.Told.{told, AgreeBelow, reach, IsThere, HasTurn}
-use Rattle.thy_view.specs.Turn.{Actor, Turn, Shortage, Pressure, HandsOn, turn_of, over_by}
+use Rattle.thy_view.specs.WithTurns.{with_turns, AgreeBelow, reach, IsThere, HasTurn}
+use Rattle.thy_view.specs.NextActor.{Actor, NextActor, Shortage, Pressure, HandsOn, actor_of, over_by}
 use Rattle.thy_view.specs.Views.{IsRestarting, is_boot, is_between, is_halt, halts, loads, doubt_of}
 use Rattle.thy_view.specs.Work.{Works, IsWithin}
 
@@ -117,7 +117,7 @@ pub record IsUnderWay (sealed : Option Mark) (p : Pressure) : Type 0 where
   pub way : p.under_way ≡ (is_some sealed || p.applies)
   pub apart : p.applies ≡ true → sealed ≡ None
 
--- A shortage is real: it is of an instruction which is begun and has not reserved its entries yet. Fewer entries are
+-- A shortage is real: it is of an instruction which is begun and has not secured its entries yet. Fewer entries are
 -- free than are needed by the lines that are dirty and by the blocks of memory and console that it stores to. Only by
 -- such a shortage does an epoch end early, or the hart wait for entries.
 pub record IsShortage (o : Origin) (v : View) (begun : Option ℕ) (g : Gauge) (s : Shortage) : Type 0 where
@@ -125,7 +125,7 @@ pub record IsShortage (o : Origin) (v : View) (begun : Option ℕ) (g : Gauge) (
   pub is_begun : begun ≡ Some hart
   pub free : s.free ≡ g.free
   pub dirty : s.dirty ≡ g.dirty
-  pub had_not : g.has_reserved ≡ false
+  pub had_not : g.has_secured ≡ false
   pub need : s.need ≡ needs_at o hart v.count
   pub short : s.free < s.dirty + s.need
 
@@ -137,7 +137,7 @@ pub record IsPressed {M : Type 0} (K : KindOf M) (o : Origin) (m : M) (n : Devic
   pub barred : (K.pressure m).barred ≡ ((K.pressure m).under_way && not K.overlaps)
   -- a shortage is a real one
   pub short : (s : Shortage) → (K.pressure m).short ≡ Some s → IsShortage o (K.view o m n) (K.pressure m).begun (K.gauge m n) s
-  -- the dirty lines are counted, and what is reserved
+  -- the dirty lines are counted, and what is secured
   pub counts : CountsLines (K.pressure m) (K.gauge m n)
   -- what is left of an instruction, to be copied and to be promoted is bounded
   pub few : IsWithin (K.most_owed o.geometry) (K.most_promotions o.geometry) (K.gauge m n)
@@ -147,7 +147,7 @@ pub record IsPressed {M : Type 0} (K : KindOf M) (o : Origin) (m : M) (n : Devic
 -- as the boot's first does, reads the commit block if that is still to be read. It acts on the device once, or reads
 -- it and writes one block of the DRAM, keeps within the bounds, decreases the measure `ahead` unless the machine has
 -- halted or an instruction retires, and completes what it reports. No more lines of the cache become dirty than entries
--- are used that the instruction in hand has reserved. The pressure on the machine before it, which decides its turn, is as
+-- are used that the instruction in hand has secured. The pressure on the machine before it, which decides its turn, is as
 -- reported. In a boot that found a checkpoint it leaves the device as it was, unless the machine migrates; and whatever a
 -- cut then leaves is that checkpoint. The last field is for whoever counts cycles, writes and events: machine, device and
 -- what is reported are those that the machine's rules make.
@@ -155,8 +155,8 @@ pub record IsStep {M : Type 0} (K : KindOf M) (o : Origin) (k : ℕ) (pick : Pic
   pub at_next : K.is_at o (k + 1) next new
   pub step : CoreStep o (K.view o m n) r.did (K.view o next new)
   pub pressed : IsPressed K o m n
-  pub turn : Turn o pick (length n.queue) (K.view o m n) (K.pressure m) r.did r.stall
-  pub hands : HandsOn (turn_of o pick (length n.queue) (K.view o m n) (K.pressure m)) r.did (K.pressure m) (K.pressure next)
+  pub turn : NextActor o pick (length n.queue) (K.view o m n) (K.pressure m) r.did r.stall
+  pub hands : HandsOn (actor_of o pick (length n.queue) (K.view o m n) (K.pressure m)) r.did (K.pressure m) (K.pressure next)
   pub acts : ActsBy (K.migrates m) r.did n new
   pub dram : LeavesDram r.did n new (K.dram m) (K.dram next)
   pub pace : KeepsPace (K.most_spent o.geometry) (K.view o m n) (K.view o next new) r.did (K.gauge m n) (K.gauge next new)
@@ -169,7 +169,7 @@ pub record IsStep {M : Type 0} (K : KindOf M) (o : Origin) (k : ℕ) (pick : Pic
   pub read : n.queue ≡ [] → K.has_read next ≡ true
   pub still : (found : Mark) → IsRestarting (K.view o m n) found → K.migrates m ≡ false → new ≡ n
   pub spares : (found : Mark) → IsRestarting (K.view o m n) found → Safe K.decode o (Some found) None new
-  pub exact : K.makes o (turn_of o pick (length n.queue) (K.view o m n) (K.pressure m)) m n r.did next new
+  pub exact : K.makes o (actor_of o pick (length n.queue) (K.view o m n) (K.pressure m)) m n r.did next new
 
 -- a cycle failed in its action, which fits what the actor whose turn it was may do; in a boot that found a checkpoint
 -- it wrote nothing, unless the machine migrates
@@ -178,7 +178,7 @@ pub record CycleFailed {M : Type 0} (K : KindOf M) (o : Origin) (pick : Pick) (m
   pub did : Did
   pub stall : Option Stall
   pub pressed : IsPressed K o m n
-  pub turn : Turn o pick (length n.queue) (K.view o m n) (K.pressure m) did stall
+  pub turn : NextActor o pick (length n.queue) (K.view o m n) (K.pressure m) did stall
   pub failed : ActionFailedBy (K.migrates m) did n new
   pub still : (found : Mark) → IsRestarting (K.view o m n) found → K.migrates m ≡ false → HasFailed n new
 
@@ -246,8 +246,8 @@ LeavesAlonePast K from m n new result =
     → (K.view o m n).done ≡ Some done → length (at o done.count).console ≤ from → ReadsNothing n new result
 
 -- at a moment, whether the boot goes on and has found no checkpoint
-abbrev pub TellsLoading : {M : Type 0} → KindOf M → M → Bool → Type 0
-TellsLoading K m loading =
+abbrev pub ShowsLoading : {M : Type 0} → KindOf M → M → Bool → Type 0
+ShowsLoading K m loading =
     (o : Origin) (k : ℕ) (n : Device) → K.is_at o k m n → loading ≡ (K.has_read m && loads (K.view o m n))
 
 -- after a call that was to read the device: it failed, or memory ran out and the device is as it was
@@ -266,7 +266,7 @@ pub record IsFittedFor {M : Type 0} (K : KindOf M) (o : Origin) (shape : Shape) 
 
 -- a device over which power may come on after a moment with this view: it is up, nothing is queued, it has its size, and its
 -- image means the kept mark or the sealed one
-pub record IsLeft {M : Type 0} (K : KindOf M) (o : Origin) (v : View) (n : Device) : Type 0 where
+pub record IsCrashOfView {M : Type 0} (K : KindOf M) (o : Origin) (v : View) (n : Device) : Type 0 where
   pub up : n.down ≡ false
   pub settled : n.queue ≡ []
   pub blocks : length n.image ≡ K.blocks o.geometry
@@ -281,8 +281,8 @@ pub record IsPoweredOn {M : Type 0} (K : KindOf M) (o : Origin) (m : M) (n : Dev
 
 -- what a machine shows is the same with other turns
 pub record IsSeenAlike {M : Type 0} (K : KindOf M) (o : Origin) (turns : List ℕ) (m : M) (n : Device) : Type 0 where
-  pub view : K.view (told o turns) m n ≡ K.view o m n
-  pub ahead : K.ahead (told o turns) m n ≡ K.ahead o m n
+  pub view : K.view (with_turns o turns) m n ≡ K.view o m n
+  pub ahead : K.ahead (with_turns o turns) m n ≡ K.ahead o m n
 
 -- what holds of every machine of a type
 pub record IsLawful {M : Type 0} (K : KindOf M) : Type 0 where
@@ -298,7 +298,7 @@ pub record IsLawful {M : Type 0} (K : KindOf M) : Type 0 where
   -- power that comes on over a device which a cut may have left, also after a step that failed, leads to a moment of the
   -- same run, whose view is what the image means
   pub finds : (o : Origin) (k : ℕ) (m next : M) (n left : Device)
-      → K.is_at o k m n → K.powered o.geometry next → IsLeft K o (K.view o m n) left
+      → K.is_at o k m n → K.powered o.geometry next → IsCrashOfView K o (K.view o m n) left
       → K.is_at o k next left × (K.view o next left ≡ view_of_image o.start.count (K.decode o.geometry ceiling left.image))
   -- the device has its size at every moment
   pub sized : (o : Origin) (k : ℕ) (m : M) (n : Device) → K.is_at o k m n → length n.image ≡ K.blocks o.geometry
@@ -308,7 +308,7 @@ pub record IsLawful {M : Type 0} (K : KindOf M) : Type 0 where
   -- at a moment no step has failed
   pub unfailed : (o : Origin) (k : ℕ) (m : M) (n : Device) → K.is_at o k m n → K.failed m ≡ false
   -- a machine after a step that failed says that one has failed
-  pub tells_failure : (o : Origin) (before : View) (m : M) → K.has_failed o before m → K.failed m ≡ true
+  pub shows_failure : (o : Origin) (before : View) (m : M) → K.has_failed o before m → K.failed m ≡ true
   -- something lies ahead at every moment
   pub some_ahead : (o : Origin) (k : ℕ) (m : M) (n : Device) → K.is_at o k m n → 1 ≤ K.ahead o m n
   -- the gauge counts what is queued in the NVM and in the DRAM
@@ -321,6 +321,6 @@ pub record IsLawful {M : Type 0} (K : KindOf M) : Type 0 where
       → K.is_at o k m n → Safe K.decode o (K.view o m n).done (doubt_of (K.view o m n)) n
   -- a moment is one with all turns that agree so far, and is seen alike
   pub agrees : (o : Origin) (turns : List ℕ) (k : ℕ) (m : M) (n : Device)
-      → K.is_at o k m n → AgreeBelow o turns (reach (K.view o m n)) → K.is_at (told o turns) k m n
+      → K.is_at o k m n → AgreeBelow o turns (reach (K.view o m n)) → K.is_at (with_turns o turns) k m n
   pub seen_alike : (o : Origin) (turns : List ℕ) (k : ℕ) (m : M) (n : Device)
       → K.is_at o k m n → AgreeBelow o turns (reach (K.view o m n)) → IsSeenAlike K o turns m n

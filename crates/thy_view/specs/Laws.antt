@@ -13,18 +13,18 @@ use Rattle.thy_view.specs.CoreStep.{Retires, CoreStep}
 use Rattle.thy_view.specs.Pace.{retires}
 use Rattle.thy_view.specs.Origin.{Origin, setting_of, turn_at, at}
 use Rattle.thy_view.specs.Safe.{Safe}
-use Rattle.thy_view.specs.Told.{told, AgreeBelow, count_of, reach, IsThere, HasTurn}
-use Rattle.thy_view.specs.Turn.{Pressure, Turn}
+use Rattle.thy_view.specs.WithTurns.{with_turns, AgreeBelow, count_of, reach, IsThere, HasTurn}
+use Rattle.thy_view.specs.NextActor.{Pressure, NextActor}
 
 -- turns that agree below a count lead to one state at it
 abbrev pub TurnsLeadTo : Type 0
-TurnsLeadTo = (o : Origin) (turns : List ℕ) (k : ℕ) → AgreeBelow o turns k → at (told o turns) k ≡ at o k
+TurnsLeadTo = (o : Origin) (turns : List ℕ) (k : ℕ) → AgreeBelow o turns k → at (with_turns o turns) k ≡ at o k
 
 -- with turns that agree below both marks' counts what is safe is safe
 abbrev pub StaysSafe : Type 0
 StaysSafe =
     (read : Reading) (o : Origin) (turns : List ℕ) (k : ℕ) (kept sealed : Option Mark) (n : Device)
-    → count_of kept ≤ k → count_of sealed ≤ k → AgreeBelow o turns k → Safe read o kept sealed n → Safe read (told o turns) kept sealed n
+    → count_of kept ≤ k → count_of sealed ≤ k → AgreeBelow o turns k → Safe read o kept sealed n → Safe read (with_turns o turns) kept sealed n
 
 -- while each turn is hart 0's, the plain machine takes one step after another
 abbrev pub HartZeroSteps : Type 0
@@ -32,8 +32,8 @@ HartZeroSteps =
     (o : Origin) (k : ℕ) → ((j : ℕ) → j < k → turn_at o j ≡ 0) → at o k ≡ steps (setting_of o) (k - o.start.count) o.start
 
 -- while each turn is hart 0's, the plain machine takes one step after another, also if no turns are listed
-abbrev pub UntoldSteps : Type 0
-UntoldSteps = (o : Origin) (k : ℕ) → at (told o []) k ≡ steps (setting_of o) (k - o.start.count) o.start
+abbrev pub StepsWithoutTurns : Type 0
+StepsWithoutTurns = (o : Origin) (k : ℕ) → at (with_turns o []) k ≡ steps (setting_of o) (k - o.start.count) o.start
 
 -- the view after a step reaches at least as far as the view before it
 abbrev pub StepsReach : Type 0
@@ -51,20 +51,20 @@ StaysThere =
 
 -- Turns that list those up to a count, and one more, give this one at the count, and agree below it with those listed
 -- before.
-abbrev pub LastTold : Type 0
-LastTold =
+abbrev pub LastHasItsTurn : Type 0
+LastHasItsTurn =
     (o : Origin) (turns : List ℕ) (hart k : ℕ) → o.start.count ≤ k → length turns ≡ k - o.start.count
-    → (turn_at (told o (turns ++ hart ∷ [])) k ≡ hart) × AgreeBelow (told o turns) (turns ++ hart ∷ []) k
+    → (turn_at (with_turns o (turns ++ hart ∷ [])) k ≡ hart) × AgreeBelow (with_turns o turns) (turns ++ hart ∷ []) k
 
 -- whatever a cycle did, some turns that agree so far give it its hart
 abbrev pub FindsTurns : Type 0
 FindsTurns =
     (o : Origin) (v : View) (did : Did) → IsThere o v did
-    → (turns : List ℕ) × AgreeBelow o turns (reach v) × HasTurn (told o turns) v did
+    → (turns : List ℕ) × AgreeBelow o turns (reach v) × HasTurn (with_turns o turns) v did
 
 -- With two harts an instruction is retired by the hart that began it. Until then it stays begun (HandsOn). So all moves
 -- since the last retirement, the last seal, or since power came on, are made by the hart that retires the next one.
 abbrev pub BegunIsRetired : Type 0
 BegunIsRetired =
     (o : Origin) (pick : Pick) (nvm : ℕ) (v : View) (p : Pressure) (begun hart : ℕ) (stall : Option Stall)
-    → o.geometry.harts ≡ 2 → p.begun ≡ Some begun → Turn o pick nvm v p (Retired hart) stall → hart ≡ begun
+    → o.geometry.harts ≡ 2 → p.begun ≡ Some begun → NextActor o pick nvm v p (Retired hart) stall → hart ≡ begun

@@ -1,7 +1,7 @@
 pub mod Origin
 pub mod Views
 pub mod CoreStep
-pub mod Turn
+pub mod NextActor
 pub mod Safe
 pub mod Action
 pub mod Dram
@@ -9,7 +9,7 @@ pub mod Pace
 pub mod Work
 pub mod Stores
 pub mod Booting
-pub mod Told
+pub mod WithTurns
 pub mod OneHart
 pub mod Kind
 pub mod Advances

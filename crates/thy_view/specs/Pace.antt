@@ -15,10 +15,10 @@ pub record Gauge : Type 0 where
   pub queued : ℕ
   -- table entries that are free
   pub free : ℕ
-  -- lines of the cache that are dirty, and entries that the instruction in hand has reserved and not used yet
+  -- lines of the cache that are dirty, and entries that the instruction in hand has secured and not used yet
   pub dirty : ℕ
-  -- the instruction that is begun has reserved an entry for each block that it stores to
-  pub has_reserved : Bool
+  -- the instruction that is begun has secured an entry for each block that it stores to
+  pub has_secured : Bool
   -- moves that the instruction in hand, or else the next one, has left in the epoch that executes
   pub moves : ℕ
   -- copies that may have to come before stores, those that the next commit may add, and blocks that are to be promoted

@@ -12,7 +12,7 @@ use Rattle.thy_view.specs.declared.did.Did.TheVariants.{Moved}
 use Rattle.thy_view.specs.declared.view.View.{View}
 use Rattle.thy_view.specs.Origin.{Origin, setting_of, at}
 use Rattle.thy_view.specs.Pace.{Gauge}
-use Rattle.thy_view.specs.Turn.{Pressure}
+use Rattle.thy_view.specs.NextActor.{Pressure}
 use Rattle.thy_view.specs.Views.{is_boot}
 
 -- how many blocks a span lies in, which has at most 64 bytes
@@ -29,39 +29,39 @@ needs_at o hart k = blocks_in (stored_by o (fronted hart (at o k)))
 
 -- ---- the lines of the cache that are dirty
 
--- entries that the instruction in hand has reserved and not used yet, which a gauge counts with the dirty lines
-abbrev pub reserved_by : Pressure → Gauge → ℕ
-reserved_by p g = g.dirty - p.dirty
+-- entries that the instruction in hand has secured and not used yet, which a gauge counts with the dirty lines
+abbrev pub secured_by : Pressure → Gauge → ℕ
+secured_by p g = g.dirty - p.dirty
 
--- A gauge counts the dirty lines, and with them what is reserved. While no instruction is begun nothing is, and none has
--- reserved its entries.
+-- A gauge counts the dirty lines, and with them what is secured. While no instruction is begun nothing is, and none has
+-- secured its entries.
 pub record CountsLines (p : Pressure) (g : Gauge) : Type 0 where
   pub lines : p.dirty ≤ g.dirty
-  pub unreserved : p.begun ≡ None → g.dirty ≡ p.dirty
-  pub unmarked : p.begun ≡ None → g.has_reserved ≡ false
+  pub unsecured : p.begun ≡ None → g.dirty ≡ p.dirty
+  pub unmarked : p.begun ≡ None → g.has_secured ≡ false
 
--- No entry is reserved, and no more lines become dirty than reserved entries are used. After the boot no more entries are
--- taken than dirty lines and reserved entries together become fewer. An instruction that has reserved its entries has done so
+-- No entry is secured, and no more lines become dirty than secured entries are used. After the boot no more entries are
+-- taken than dirty lines and secured entries together become fewer. An instruction that has secured its entries has done so
 -- until it ends.
 pub record UsesEntries (v : View) (old new : Pressure) (before after : Gauge) : Type 0 where
-  pub entries : reserved_by new after ≤ reserved_by old before
+  pub entries : secured_by new after ≤ secured_by old before
   pub lines : after.dirty ≤ before.dirty
   pub room : is_boot v.phase ≡ false → after.dirty + before.free ≤ before.dirty + after.free
-  pub once : new.begun ≢ None → after.has_reserved ≡ before.has_reserved
+  pub once : new.begun ≢ None → after.has_secured ≡ before.has_secured
 
--- The instruction that is begun reserves an entry for each block that it stores to, which it had not done before. No more
+-- The instruction that is begun secures an entry for each block that it stores to, which it had not done before. No more
 -- lines are dirty than before, and no entry is taken.
-pub record ReservesEntries (o : Origin) (v : View) (old new : Pressure) (before after : Gauge) : Type 0 where
+pub record SecuresEntries (o : Origin) (v : View) (old new : Pressure) (before after : Gauge) : Type 0 where
   pub hart : ℕ
   pub is_begun : old.begun ≡ Some hart
   pub none : before.dirty ≡ old.dirty
   pub entries : after.dirty ≡ new.dirty + needs_at o hart v.count
   pub lines : new.dirty ≤ old.dirty
   pub free : before.free ≤ after.free
-  pub had_not : before.has_reserved ≡ false
-  pub has : after.has_reserved ≡ true
+  pub had_not : before.has_secured ≡ false
+  pub has : after.has_secured ≡ true
 
--- what a cycle that did this makes of the dirty lines: only a hart that moved reserves entries
+-- what a cycle that did this makes of the dirty lines: only a hart that moved secures entries
 abbrev pub Dirties : Origin → View → Did → Pressure → Pressure → Gauge → Gauge → Type 0
 Dirties o v did old new before after =
-    UsesEntries v old new before after ⊎ ((did ≡ Moved) × ReservesEntries o v old new before after)
+    UsesEntries v old new before after ⊎ ((did ≡ Moved) × SecuresEntries o v old new before after)

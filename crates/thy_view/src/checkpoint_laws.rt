@@ -1,6 +1,6 @@
 //! The laws, each the contract of a function that does nothing.
 ghost use Rattle.thy_view.specs.Issuing.{IssuingBegins, SlotGoesOn, ElsewhereKeepsIssued, DrainKeepsIssued, IssuedIsCheckpoint};
-ghost use Rattle.thy_view.specs.CheckpointLaws.{KeptIsSafe, KeptIsSafeForBoth, FirstIsTold, BootShows, MovesAreSafe, CutKeeps, EmptyKeeps, ActionSpares, FailedActionSpares};
+ghost use Rattle.thy_view.specs.CheckpointLaws.{KeptIsSafe, KeptIsSafeForBoth, FirstHasKept, BootShows, MovesAreSafe, CutKeeps, EmptyKeeps, ActionSpares, FailedActionSpares};
 ghost use Rattle.thy_view.specs.Rounds.{RoundsMove, FailedRoundsMove};
 
 /// Whatever a cut leaves is the checkpoint that is kept, whole, or the one in doubt. That is the one kept or the one
@@ -13,7 +13,7 @@ pub fn what_is_kept_is_safe()
 /// A boot shows the mark whose checkpoint it finds; at the beginning of a run it shows the start's mark, if the start
 /// has one.
 pub fn a_boot_finds_its_mark()
-    ensures first { FirstIsTold }
+    ensures first { FirstHasKept }
     ensures shows { BootShows }
 {}
 

@@ -2,8 +2,8 @@
 ghost use Rattle.std.specs.Prelude.{◌≡◌, ◌<◌, ◌≤◌, ℕ, Ok, None, IfOk, IfErr, OnOk};
 ghost use Rattle.thy_block.specs.Device.{Device, IsFramed, CountsFault};
 ghost use Rattle.thy_dram.specs.Contents.{lost};
-ghost use Rattle.thy_view.specs.Advances.{IfAdvanced, IsOthersTurn, SimulatesRow, row_of};
-ghost use Rattle.thy_view.specs.Kind.{KindOf, IsLawful, CanStep, CanRead, CanSnapshot, IsDramOf, Simulates, FailsSafe, Snapshots, SnapshotsStopped, ShowsConsole, LeavesAlonePast, TellsLoading, HasFailedToRead};
+ghost use Rattle.thy_view.specs.Advances.{IfAdvanced, IsOthersCycle, SimulatesRow, row_of};
+ghost use Rattle.thy_view.specs.Kind.{KindOf, IsLawful, CanStep, CanRead, CanSnapshot, IsDramOf, Simulates, FailsSafe, Snapshots, SnapshotsStopped, ShowsConsole, LeavesAlonePast, ShowsLoading, HasFailedToRead};
 ghost use Rattle.thy_view.specs.Origin.{Origin};
 ghost use Rattle.thy_view.specs.Restart.{RestartsUnwritten};
 ghost use Rattle.thy_view.specs.declared.view.View.{View};
@@ -53,7 +53,7 @@ pub trait Computer: Drop {
         ensures cause { CountsFault result (N.device nvm.old).faults (N.device nvm.new).faults }
         ensures no_writes { RestartsUnwritten kind self.old (N.device nvm.old) (N.writes nvm.old) (N.writes nvm.new) }
         ensures left { result ≡ Ok None → (self.new ≡ self.old) × (nvm.new ≡ nvm.old) }
-        ensures others { result ≡ Ok None → IsOthersTurn kind pick self.old (N.device nvm.old) };
+        ensures others { result ≡ Ok None → IsOthersCycle kind pick self.old (N.device nvm.old) };
 
     /// Takes cycles in a row in which a hart advances its instruction; the first is this pick's. It goes on within one
     /// instruction while no other actor has the turn, whatever the later picks are, and the hart needs nothing of the device.
@@ -73,7 +73,7 @@ pub trait Computer: Drop {
         nvm: &mut N,
     ) -> Result<Stepped, NvmError>
         requires can { CanStep kind start.now self.old (N.device nvm.old) }
-        requires others { IsOthersTurn kind pick self.old (N.device nvm.old) }
+        requires others { IsOthersCycle kind pick self.old (N.device nvm.old) }
         ensures steps { Simulates kind start.now pick self.old self.new (N.device nvm.old) (N.device nvm.new) result }
         ensures safe { FailsSafe kind start.now pick self.old self.new (N.device nvm.old) (N.device nvm.new) result }
         ensures frame { IsFramed (N.device nvm.old) (N.device nvm.new) }
@@ -124,7 +124,7 @@ pub trait Computer: Drop {
 
     /// Whether the boot goes on and has found no checkpoint.
     fn loading(&self) -> bool
-        ensures { TellsLoading kind self.now result };
+        ensures { ShowsLoading kind self.now result };
 
     /// Loses power: all is gone but the DRAM, whose bytes are those that the pick draws. Power can come on over it
     /// again, after a step that failed too.

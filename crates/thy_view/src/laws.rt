@@ -1,7 +1,7 @@
 //! Laws of what a power cut may leave, of the plain machine by turns, of who retires an instruction, and of what follows a
 //! cut or a fault, each the contract of a function that does nothing.
 ghost use Rattle.thy_view.specs.OneHart.{EachHasItsTurn, TurnsDontMatter};
-ghost use Rattle.thy_view.specs.Laws.{TurnsLeadTo, StaysSafe, HartZeroSteps, UntoldSteps, StepsReach, RetiresReach, StaysThere, LastTold, FindsTurns, BegunIsRetired};
+ghost use Rattle.thy_view.specs.Laws.{TurnsLeadTo, StaysSafe, HartZeroSteps, StepsWithoutTurns, StepsReach, RetiresReach, StaysThere, LastHasItsTurn, FindsTurns, BegunIsRetired};
 ghost use Rattle.thy_view.specs.Safe.{SameIsNoDoubt};
 ghost use Rattle.thy_view.specs.Again.{GoesOnAfterCut, GoesOnAfterFault};
 
@@ -30,7 +30,7 @@ pub fn hart_zero_takes_one_step_after_another()
 
 /// The plain machine takes one step after another also if no turns are listed.
 pub fn a_run_without_turns_is_hart_zeros()
-    ensures { UntoldSteps }
+    ensures { StepsWithoutTurns }
 {}
 
 /// With one hart, whatever a cycle did has its turn if no turns are listed.
@@ -59,8 +59,8 @@ pub fn what_retires_nothing_stays_there()
 {}
 
 /// A turn that is listed last is the turn of the next count, and changes none before it.
-pub fn a_turn_is_told_at_the_end()
-    ensures { LastTold }
+pub fn a_turn_is_listed_at_the_end()
+    ensures { LastHasItsTurn }
 {}
 
 /// Whatever a cycle did, some turns that agree so far give it its hart.

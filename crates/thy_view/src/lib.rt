@@ -30,7 +30,7 @@ pub use did::{Advance, Did, Row, Stall, Stepped};
 pub use error::CoreError;
 pub use laws::{
     a_kept_mark_is_never_in_doubt, a_run_goes_on_after_a_cut, a_run_goes_on_after_a_fault,
-    a_run_without_turns_is_hart_zeros, a_step_reaches_no_less, a_turn_is_told_at_the_end,
+    a_run_without_turns_is_hart_zeros, a_step_reaches_no_less, a_turn_is_listed_at_the_end,
     an_instruction_is_retired_by_the_hart_that_began_it, an_instruction_reaches_beyond_its_count,
     hart_zero_takes_one_step_after_another, turns_are_found_for_each_cycle,
     turns_that_agree_lead_to_one_state, what_is_safe_stays_safe_with_turns_that_agree,

@@ -2,7 +2,7 @@
 ghost use Rattle.std.specs.Prelude.{◌≡◌};
 ghost use Rattle.thy_view.specs.Round.{IsInRound, next_round};
 
-/// What a round does next.
+/// What a round does next. In docs/CONTROLLER.md the writes are actions 3 and 4 of a checkpoint, the others 5, 6 and 7.
 #[derive(Clone, Copy, Debug, PartialEq, Eq)]
 pub enum Round {
     /// The write of this block of the checkpoint.

@@ -21,7 +21,7 @@ impl Control {
         ensures booting { IsBooting self.new }
         ensures tables { HaveTables self.new (with_block i b (tables0 self.old)) }
     {
-        self.tables();
+        self.recall_tables();
         self.put_block(i, b);
     }
 
@@ -32,9 +32,9 @@ impl Control {
         ensures { self.new ≡ with_listed_block i b self.old }
     {
         listed_cells_are_sound();
-        self.tables();
+        self.recall_tables();
         self.btt.put(i, BttEntry::listed(b));
-        self.btt.lists_once();
+        self.btt.recall_lists_once();
     }
 
     /// Lists page `page` at entry `j` of the page table, as the committed checkpoint has it there. The entry must be free,
@@ -47,7 +47,7 @@ impl Control {
         ensures booting { IsBooting self.new }
         ensures tables { HaveTables self.new (with_page j page (tables0 self.old)) }
     {
-        self.tables();
+        self.recall_tables();
         self.put_page(j, page);
     }
 
@@ -58,9 +58,9 @@ impl Control {
         ensures { self.new ≡ with_listed_page j page self.old }
     {
         listed_cells_are_sound();
-        self.tables();
+        self.recall_tables();
         self.ptt.put(j, PttEntry::listed(page));
-        self.ptt.lists_once();
+        self.ptt.recall_lists_once();
     }
 
     /// Sets how many stores a page had in the epoch before, at most 63, as the committed checkpoint has it. Touches
@@ -91,7 +91,7 @@ impl Control {
         ensures loads { OnOk result (LoadsFrame j k self.old (N.device nvm.old) self.new (N.device nvm.new)) }
     {
         a_frame_is_loaded();
-        self.tables();
+        self.recall_tables();
         self.load_frame(j, k, nvm)
     }
 
@@ -104,7 +104,7 @@ impl Control {
         ensures copies { CopiesFrame j k self.old (N.device nvm.old) result self.new (N.device nvm.new) }
         ensures same_writes { N.writes nvm.new ≡ N.writes nvm.old }
     {
-        self.tables();
+        self.recall_tables();
         let from = Place::AlternatePage { entry: j, block: k };
         let to = Place::Frame { entry: j, block: k };
         let block = self.read(from, nvm)?;

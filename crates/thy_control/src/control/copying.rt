@@ -62,7 +62,7 @@ impl Control {
         ensures stays { Stays self.old (N.device nvm.old) self.new (N.device nvm.new) }
     {
         a_copy_keeps_versions();
-        self.tables();
+        self.recall_tables();
         self.copy_lowest(nvm)
     }
 
@@ -93,7 +93,7 @@ impl Control {
         ensures more { IfOk result (λ more. more ≡ is_some (next_copy self.old)) }
         ensures copies { CopiesNext self.old (N.device nvm.old) result self.new (N.device nvm.new) }
     {
-        self.tables();
+        self.recall_tables();
         match self.seek_copy() {
             Some(i) => {
                 let b = self.block_at(i);
@@ -112,7 +112,7 @@ impl Control {
         requires up { (N.device nvm.old).down ≡ false }
         ensures { CopiesBlock b self.old (N.device nvm.old) result self.new (N.device nvm.new) }
     {
-        self.tables();
+        self.recall_tables();
         let cell = self.cell(b);
         move_block(
             cell.last(),
@@ -123,7 +123,7 @@ impl Control {
         )?;
         let copied = cell.with_copy();
         self.btt.set(cell.i, copied.entry);
-        self.btt.lists_once();
+        self.btt.recall_lists_once();
         Ok(())
     }
 }

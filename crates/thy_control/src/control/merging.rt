@@ -68,7 +68,7 @@ impl Control {
     {
         a_merge_keeps_versions();
         a_dirty_page_keeps_others();
-        self.tables();
+        self.recall_tables();
         self.merge_lowest();
     }
 
@@ -78,7 +78,7 @@ impl Control {
         requires idle { self.old.under_way ≡ false }
         ensures { self.new ≡ after_merge (next_merge self.old) self.old }
     {
-        self.tables();
+        self.recall_tables();
         if let Some(i) = self.seek_overlay() {
             let b = self.block_at(i);
             self.merge_block(b);
@@ -95,7 +95,7 @@ impl Control {
     {
         a_merge_keeps_versions();
         a_dirty_page_keeps_others();
-        self.tables();
+        self.recall_tables();
         let cell = self.cell(b);
         let block = self.dram.read(number(&self.geometry, cell.buffer()));
         self.dram
@@ -108,8 +108,8 @@ impl Control {
                 ..cell.page
             },
         );
-        self.btt.lists_once();
-        self.ptt.lists_once();
+        self.btt.recall_lists_once();
+        self.ptt.recall_lists_once();
         self.marks.overlaid -= 1;
     }
 }

@@ -17,7 +17,7 @@ impl Control {
         ensures position { result ≡ next_position self.old }
         ensures few { IfSome result (λ k. k < 4294967296) }
     {
-        self.tables();
+        self.recall_tables();
         match self.seek_copy() {
             Some(i) => Some(i as u64),
             None => self.page_position(),
@@ -30,7 +30,7 @@ impl Control {
         ensures position { result ≡ position_by self.old NoCopy (next_page self.old) }
         ensures few { IfSome result (λ k. k < 4294967296) }
     {
-        self.tables();
+        self.recall_tables();
         match self.seek_page() {
             Some(j) => Some(self.position_in(j)),
             None => None,
@@ -43,7 +43,7 @@ impl Control {
         ensures position { result ≡ self.now.p.btt + (64 * j + issued_of (entry_at self.now.ptt j)) }
         ensures few { result < 4294967296 }
     {
-        self.tables();
+        self.recall_tables();
         let numbers = self.geometry.numbers();
         numbers.btt + (PAGE_BLOCKS * j as u64 + self.issued(j))
     }

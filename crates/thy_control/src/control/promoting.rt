@@ -85,7 +85,7 @@ impl Control {
     {
         a_promotion_keeps_versions();
         a_promotion_keeps_others();
-        self.tables();
+        self.recall_tables();
         self.fill_lowest(nvm)
     }
 
@@ -106,7 +106,7 @@ impl Control {
         requires { j < length self.now.ptt.entries }
         ensures { result ≡ block_filled_next j self.now }
     {
-        self.tables();
+        self.recall_tables();
         block_to_fill(self.ptt.entry(j))
     }
 
@@ -119,7 +119,7 @@ impl Control {
         ensures side { OnErr result (ReadsNvm (next_promotion self.old) self.old) }
         ensures same_writes { N.writes nvm.new ≡ N.writes nvm.old }
     {
-        self.tables();
+        self.recall_tables();
         match self.seek_promotion() {
             Some(j) => {
                 let b = self.block_unfilled(j);
@@ -143,7 +143,7 @@ impl Control {
     {
         a_promotion_keeps_versions();
         a_promotion_keeps_others();
-        self.tables();
+        self.recall_tables();
         let cell = self.cell(b);
         move_to_dram(
             cell.work(),
@@ -154,7 +154,7 @@ impl Control {
         )?;
         let filled = cell.with_filled();
         self.ptt.set(cell.j, filled.page);
-        self.ptt.lists_once();
+        self.ptt.recall_lists_once();
         self.marks = marks_after(self.marks, &filled.page);
         Ok(())
     }

@@ -83,7 +83,7 @@ impl Control {
         requires { k < table_blocks self.now.p }
         ensures { result ≡ table_block_of (tables1 self.now) k }
     {
-        self.tables();
+        self.recall_tables();
         table_block(&self.listed_in(k))
     }
 
@@ -92,7 +92,7 @@ impl Control {
         requires { k < table_blocks self.now.p }
         ensures { result ≡ entries_of (tables1 self.now) k }
     {
-        self.tables();
+        self.recall_tables();
         let mut entries = [None; 8];
         for i in 0..8 {
             entries[i] = listed_by(&self.btt, &self.ptt, 8 * k as usize + i);

@@ -66,7 +66,7 @@ impl Control {
     {
         a_page_write_keeps_versions();
         a_page_write_keeps_others();
-        self.tables();
+        self.recall_tables();
         self.write_lowest(nvm)
     }
 
@@ -87,7 +87,7 @@ impl Control {
         requires { j < length self.now.ptt.entries }
         ensures { result ≡ block_written_next j self.now }
     {
-        self.tables();
+        self.recall_tables();
         block_to_write(self.ptt.entry(j))
     }
 
@@ -98,7 +98,7 @@ impl Control {
         ensures more { IfOk result (λ more. more ≡ is_some (next_page self.old)) }
         ensures writes { WritesNext self.old (N.device nvm.old) result self.new (N.device nvm.new) }
     {
-        self.tables();
+        self.recall_tables();
         match self.seek_page() {
             Some(j) => {
                 let b = self.block_due(j);
@@ -120,7 +120,7 @@ impl Control {
     {
         a_page_write_keeps_versions();
         a_page_write_keeps_others();
-        self.tables();
+        self.recall_tables();
         let cell = self.cell(b);
         move_block(
             cell.frame(),
@@ -131,7 +131,7 @@ impl Control {
         )?;
         let written = cell.with_issued();
         self.ptt.set(cell.j, written.page);
-        self.ptt.lists_once();
+        self.ptt.recall_lists_once();
         Ok(())
     }
 }

@@ -2,7 +2,7 @@
 //! the test if that does not hold.
 ghost use Rattle.std.specs.Prelude.{◌≡◌, ◌<◌, length, true, false};
 ghost use Rattle.thy_table.specs.Places.{image_blocks};
-ghost use Rattle.thy_dual_parts.specs.Design.{is_promoting};
+ghost use Rattle.thy_thynvm_parts.specs.Design.{is_promoting};
 ghost use Rattle.thy_control_tests.specs.Driven.{Drives};
 ghost use Rattle.thy_control_tests.specs.Memory.{HasRoom};
 
@@ -15,13 +15,13 @@ use thy_base::{Block, Geometry, Nvm, Parameters, Shape, Stored};
 use thy_checkpoint::Engine;
 use thy_control::Control;
 use thy_dram::Dram;
-use thy_dual::DualTables;
-use thy_dual_parts::engine_and_controller_fit;
 use thy_isa::{CpuState, Regs, Status};
 use thy_layout::{EngineStep, Found};
 use thy_nvm::MemNvm;
 use thy_record::{check, header_block, state};
 use thy_table::blocks;
+use thy_thynvm::ThynvmTables;
+use thy_thynvm_parts::engine_and_controller_fit;
 
 /// The controller, its engine and the NVM.
 #[derive(Drop)]
@@ -123,7 +123,7 @@ impl Memory {
         requires room { HasRoom nvm.device cuts }
     {
         let engine = Engine::new(&geometry);
-        control.tables();
+        control.recall_tables();
         is_whole(rt, &control);
         engine_and_controller_fit();
         Memory {
@@ -165,7 +165,7 @@ impl Memory {
             .store(b, block, &mut self.nvm)
             .expect(rt, "a store");
         engine_and_controller_fit();
-        self.control.tables();
+        self.control.recall_tables();
         is_whole(rt, &self.control);
         stored
     }
@@ -181,7 +181,7 @@ impl Memory {
         self.control.seal();
         self.engine.begin(&cpu_at(count), epoch);
         engine_and_controller_fit();
-        self.control.tables();
+        self.control.recall_tables();
     }
 
     pub(crate) fn merge_one(&mut self, rt: &impl Abort) {
@@ -191,7 +191,7 @@ impl Memory {
         assert!(rt; overlay);
         self.control.merge_one();
         engine_and_controller_fit();
-        self.control.tables();
+        self.control.recall_tables();
         is_whole(rt, &self.control);
     }
 
@@ -201,7 +201,7 @@ impl Memory {
             .promote_one(&mut self.nvm)
             .expect(rt, "a promotion");
         engine_and_controller_fit();
-        self.control.tables();
+        self.control.recall_tables();
     }
 
     /// Lets the oldest write that is queued in the NVM land, if there is one.
@@ -215,14 +215,14 @@ impl Memory {
     pub(crate) fn drain_dram(&mut self) {
         if self.control.queued() > 0 {
             self.control.drain();
-            self.control.tables();
+            self.control.recall_tables();
         }
     }
 
     /// Cuts the power of both devices with one pick.
     pub(crate) fn cut(self, rt: &impl Abort, pick: u64) -> Off {
         assert!(rt; self.cuts > 0);
-        self.control.tables();
+        self.control.recall_tables();
         let mut nvm = self.nvm;
         nvm.cut(pick);
         Off {
@@ -236,7 +236,7 @@ impl Memory {
     /// One action of the engine.
     pub(crate) fn step(&mut self, rt: &impl Abort) -> EngineStep {
         self.engine
-            .step::<DualTables, MemNvm>(&mut self.control, &mut self.nvm)
+            .step::<ThynvmTables, MemNvm>(&mut self.control, &mut self.nvm)
             .expect(rt, "a step")
     }
 }

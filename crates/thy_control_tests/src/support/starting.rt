@@ -6,7 +6,7 @@ ghost use Rattle.thy_block.specs.Places.{dram_blocks};
 ghost use Rattle.thy_checkpoint.specs.Boot.{new_boot};
 ghost use Rattle.thy_control.specs.State.{new_state};
 ghost use Rattle.thy_isa.specs.Step.{state_of};
-ghost use Rattle.thy_dual_parts.specs.Filling.{filling_dual};
+ghost use Rattle.thy_thynvm_parts.specs.Filling.{filling_thynvm};
 ghost use Rattle.thy_control_tests.specs.Boots.{Boots, IsLeastStart, goes_on};
 ghost use Rattle.thy_control_tests.specs.Starting.{is_refused};
 
@@ -18,10 +18,10 @@ use thy_base::{Geometry, Nvm, Shape};
 use thy_checkpoint::{Boot, Stage, a_boot_may_go_on};
 use thy_control::Control;
 use thy_dram::Dram;
-use thy_dual::DualTables;
 use thy_layout::Start;
 use thy_nvm::MemNvm;
 use thy_table::blocks;
+use thy_thynvm::ThynvmTables;
 use thy_view::{BootStep, Round};
 
 /// A machine whose power is off: both devices, and how many cuts are to come at most.
@@ -57,9 +57,9 @@ pub(crate) fn has_least_memory(rt: &impl Abort, geometry: &Geometry)
 }
 
 pub(crate) fn new_boot(rt: &impl Abort, alloc: Global, geometry: &Geometry) -> Boot
-    ensures { result ≡ new_boot filling_dual geometry.now }
+    ensures { result ≡ new_boot filling_thynvm geometry.now }
 {
-    Boot::new::<DualTables>(alloc, geometry).expect(rt, "memory")
+    Boot::new::<ThynvmTables>(alloc, geometry).expect(rt, "memory")
 }
 
 fn new_controller(rt: &impl Abort, alloc: Global, geometry: &Geometry, dram: Dram) -> Control
@@ -102,7 +102,7 @@ impl Off {
         has_least_memory(rt, &geometry);
         let boot = new_boot(rt, alloc, &geometry);
         let control = new_controller(rt, alloc, &geometry, dram);
-        control.tables();
+        control.recall_tables();
         Starting {
             geometry,
             start,
@@ -161,8 +161,8 @@ fn step<N: Nvm>(
     ensures up { (N.device nvm.new).down ≡ false }
     ensures frame { IsFramed (N.device nvm.old) (N.device nvm.new) }
 {
-    a_boot_may_go_on::<DualTables>();
-    boot.step::<DualTables, N>(control, start, nvm)
+    a_boot_may_go_on::<ThynvmTables>();
+    boot.step::<ThynvmTables, N>(control, start, nvm)
         .expect(rt, "a step")
 }
 
@@ -182,8 +182,8 @@ impl Starting {
             mut nvm,
             cuts,
         } = self;
-        let told = step(rt, &mut boot, &mut control, &start, &mut nvm);
-        match told {
+        let reported = step(rt, &mut boot, &mut control, &start, &mut nvm);
+        match reported {
             BootStep::GoesOn => Taken::Going(Starting {
                 geometry,
                 start,
@@ -193,7 +193,7 @@ impl Starting {
                 cuts,
             }),
             BootStep::Loaded | BootStep::Restarted(_, _) => {
-                Taken::Over(Memory::booted(rt, geometry, control, nvm, cuts), told)
+                Taken::Over(Memory::booted(rt, geometry, control, nvm, cuts), reported)
             }
             BootStep::Refused(_) => panic!(rt; "refused"),
         }
@@ -202,7 +202,7 @@ impl Starting {
     /// Cuts the power of both devices with one pick.
     pub(crate) fn cut(self, rt: &impl Abort, pick: u64) -> Off {
         assert!(rt; self.cuts > 0);
-        self.control.tables();
+        self.control.recall_tables();
         let mut nvm = self.nvm;
         nvm.cut(pick);
         Off {

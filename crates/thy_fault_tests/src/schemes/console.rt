@@ -58,7 +58,7 @@ fn expect_unseen(rt: &impl Abort, alloc: Global, scheme: &str) {
 }
 
 #[test]
-fn a_terminal_that_fails_is_told(rt: HostRuntime) {
+fn a_terminal_that_fails_is_reported(rt: HostRuntime) {
     for scheme in &SCHEMES {
         expect_unseen(&rt, rt.alloc(), scheme);
     }

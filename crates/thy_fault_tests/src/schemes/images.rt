@@ -7,7 +7,7 @@ use std::process::Abort;
 use thy_base::Shelf;
 use thy_out::MemShelf;
 
-/// Nine stores that are run and saved: by this scheme under W, by the scheme of both tables under U.
+/// Nine stores that are run and saved: by this scheme under W, by the scheme thynvm under U.
 static SAVES: Row = (
     "thynvm run N --pages 8 --btt 8 --ptt 8 --scheme",
     " --save W",
@@ -20,16 +20,16 @@ static SAVES: Row = (
      exit 0 at 11\n",
 );
 
-const SAVES_BY_BOTH: &str = "thynvm run N --pages 8 --btt 16 --ptt 8 --save U";
+const SAVES_BY_THYNVM: &str = "thynvm run N --pages 8 --btt 16 --ptt 8 --save U";
 
-const SAVED_BY_BOTH: &str =
+const SAVED_BY_THYNVM: &str =
     "commit 0 overlapped 0\nepoch 1 ends at 11 by end\ncommit 1 overlapped 0\nexit 0 at 11\n";
 
 /// A shelf on which they were run and saved.
 pub(crate) fn saved(rt: &impl Abort, alloc: Global, scheme: &str) -> MemShelf {
     let mut shelf = shelf(rt, alloc, &[]);
     expect_row(rt, alloc, &mut shelf, scheme, &SAVES);
-    expect_on(rt, alloc, SAVES_BY_BOTH, &mut shelf, 0, SAVED_BY_BOTH);
+    expect_on(rt, alloc, SAVES_BY_THYNVM, &mut shelf, 0, SAVED_BY_THYNVM);
     shelf
 }
 
@@ -72,8 +72,8 @@ static RESUMES: [Row; 5] = [
     ),
 ];
 
-/// Images that are resumed by the scheme of both tables.
-static RESUMES_OF_BOTH: [(&str, u8, &str); 2] = [
+/// Images that are resumed by the scheme thynvm.
+static RESUMES_OF_THYNVM: [(&str, u8, &str); 2] = [
     (
         "thynvm resume W --pages 8 --btt 8 --ptt 8",
         5,
@@ -100,7 +100,7 @@ fn resume_all(rt: &impl Abort, alloc: Global, scheme: &str, another: &str) {
     for row in &RESUMES {
         expect_row(rt, alloc, &mut shelf, scheme, row);
     }
-    for (line, status, report) in &RESUMES_OF_BOTH {
+    for (line, status, report) in &RESUMES_OF_THYNVM {
         expect_on(rt, alloc, line, &mut shelf, *status, report);
     }
     expect_row(rt, alloc, &mut shelf, another, &RESUMES_BY_ANOTHER);

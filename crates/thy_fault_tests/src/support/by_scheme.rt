@@ -26,7 +26,7 @@ pub(crate) fn line_of(
     format!(in alloc; "{before} {scheme}{after}").expect(rt, "memory")
 }
 
-/// A call and what comes of it: what stands before the scheme's word and after it, the status, and the report. Nothing is
+/// A call and its outcome: the text before the scheme's word and after it, the status, and the report. Nothing is
 /// printed.
 pub(crate) type Row = (&'static str, &'static str, u8, &'static str);
 

@@ -100,8 +100,8 @@ pub(crate) fn compare(
     report: &str,
 ) {
     let is_shown = given.printed.as_slice() == printed.as_bytes();
-    let is_told = given.report.as_slice() == report.as_bytes();
-    check(rt, given.status == status && is_shown && is_told, at);
+    let is_reported = given.report.as_slice() == report.as_bytes();
+    check(rt, given.status == status && is_shown && is_reported, at);
 }
 
 /// Calls over this shelf and compares status and report; nothing is printed.

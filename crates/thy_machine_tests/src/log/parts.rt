@@ -65,7 +65,7 @@ impl Model for Parts {
     ghost invariant = { λ m. AreParts (parts m.geometry m.log m.engine m.nvm.device m.cuts) };
 }
 
-/// What comes of a boot.
+/// The outcome of a boot.
 #[derive(Drop)]
 pub(crate) enum Booted {
     /// The boot is over, with what was returned.
@@ -115,7 +115,7 @@ fn step<N: Nvm>(
     ensures frame { IsFramed (N.device nvm.old) (N.device nvm.new) }
 {
     a_boot_may_go_on::<Refill>();
-    log.sound();
+    log.recall_sound();
     boot.step::<Refill, N>(log, start, nvm).expect(rt, "a step")
 }
 
@@ -135,21 +135,21 @@ fn steps<N: Nvm>(
     ensures frame { IsFramed (N.device nvm.old) (N.device nvm.new) }
 {
     for _ in 1..most {
-        let told = step(rt, boot, log, start, nvm);
-        match told {
+        let reported = step(rt, boot, log, start, nvm);
+        match reported {
             BootStep::GoesOn => {}
-            BootStep::Loaded | BootStep::Restarted(_, _) | BootStep::Refused(_) => return told,
+            BootStep::Loaded | BootStep::Restarted(_, _) | BootStep::Refused(_) => return reported,
         }
     }
     step(rt, boot, log, start, nvm)
 }
 
 /// The engine after the last step of a boot, which must not refuse the image.
-fn engine_after(rt: &impl Abort, geometry: &Geometry, told: &BootStep) -> Engine
+fn engine_after(rt: &impl Abort, geometry: &Geometry, reported: &BootStep) -> Engine
     ensures { IsBegun geometry.now result }
 {
     let mut engine = Engine::new(geometry);
-    match told {
+    match reported {
         BootStep::Restarted(_, _) => engine.apply(),
         BootStep::Refused(_) => panic!(rt; "refused"),
         BootStep::GoesOn | BootStep::Loaded => {}
@@ -199,10 +199,10 @@ impl Off {
         has_least_memory(rt, &geometry);
         let mut boot = new_boot(rt, alloc, &geometry);
         let mut log = new_log(rt, alloc, &geometry, dram);
-        log.sound();
-        let told = steps(rt, &mut boot, &mut log, start, &mut nvm, most);
-        log.sound();
-        let engine = engine_after(rt, &geometry, &told);
+        log.recall_sound();
+        let reported = steps(rt, &mut boot, &mut log, start, &mut nvm, most);
+        log.recall_sound();
+        let engine = engine_after(rt, &geometry, &reported);
         let parts = Parts {
             geometry,
             log,
@@ -210,9 +210,9 @@ impl Off {
             nvm,
             cuts,
         };
-        match told {
+        match reported {
             BootStep::GoesOn => Booted::Cut(parts.cut(rt, pick)),
-            _ => Booted::Over(parts, told),
+            _ => Booted::Over(parts, reported),
         }
     }
 }
@@ -254,7 +254,7 @@ impl Parts {
         let free = self.log.free();
         assert!(rt; free > 0);
         self.log.store(b, block);
-        self.log.sound();
+        self.log.recall_sound();
     }
 
     /// Seals the epoch with a processor that retired `count` instructions: its checkpoint begins.
@@ -290,7 +290,7 @@ impl Parts {
     /// Cuts the power of both devices with one pick.
     pub(crate) fn cut(self, rt: &impl Abort, pick: u64) -> Off {
         assert!(rt; self.cuts > 0);
-        self.log.sound();
+        self.log.recall_sound();
         let mut nvm = self.nvm;
         nvm.cut(pick);
         Off {

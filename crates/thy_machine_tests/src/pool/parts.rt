@@ -66,7 +66,7 @@ impl Model for Parts {
     ghost invariant = { λ m. AreParts (parts m.geometry m.pool m.engine m.nvm.device m.cuts) };
 }
 
-/// What comes of a boot.
+/// The outcome of a boot.
 #[derive(Drop)]
 pub(crate) enum Booted {
     /// The boot is over, with what was returned.
@@ -124,7 +124,7 @@ fn step<N: Nvm>(
     ensures frame { IsFramed (N.device nvm.old) (N.device nvm.new) }
 {
     a_boot_may_go_on::<Relist>();
-    pool.sound();
+    pool.recall_sound();
     boot.step::<Relist, N>(pool, start, nvm)
         .expect(rt, "a step")
 }
@@ -145,10 +145,10 @@ fn steps<N: Nvm>(
     ensures frame { IsFramed (N.device nvm.old) (N.device nvm.new) }
 {
     for _ in 1..most {
-        let told = step(rt, boot, pool, start, nvm);
-        match told {
+        let reported = step(rt, boot, pool, start, nvm);
+        match reported {
             BootStep::GoesOn => {}
-            BootStep::Loaded | BootStep::Restarted(_, _) | BootStep::Refused(_) => return told,
+            BootStep::Loaded | BootStep::Restarted(_, _) | BootStep::Refused(_) => return reported,
         }
     }
     step(rt, boot, pool, start, nvm)
@@ -196,11 +196,11 @@ impl Off {
         has_least_memory(rt, &geometry);
         let mut boot = new_boot(rt, alloc, &geometry);
         let mut pool = new_pool(rt, alloc, &geometry, dram);
-        pool.sound();
-        let told = steps(rt, &mut boot, &mut pool, start, &mut nvm, most);
-        pool.sound();
+        pool.recall_sound();
+        let reported = steps(rt, &mut boot, &mut pool, start, &mut nvm, most);
+        pool.recall_sound();
         let engine = Engine::new(&geometry);
-        if let BootStep::Refused(_) = told {
+        if let BootStep::Refused(_) = reported {
             panic!(rt; "refused");
         }
         let parts = Parts {
@@ -210,9 +210,9 @@ impl Off {
             nvm,
             cuts,
         };
-        match told {
+        match reported {
             BootStep::GoesOn => Booted::Cut(parts.cut(rt, pick)),
-            _ => Booted::Over(parts, told),
+            _ => Booted::Over(parts, reported),
         }
     }
 }
@@ -250,7 +250,7 @@ impl Parts {
             .pool
             .store(b, block, &mut self.nvm)
             .expect(rt, "a store");
-        self.pool.sound();
+        self.pool.recall_sound();
         match stored {
             Stored::Done => true,
             Stored::CopyFirst => false,
@@ -262,7 +262,7 @@ impl Parts {
         is_idle(rt, &self.engine);
         self.engine.begin(&cpu_at(count), epoch);
         self.pool.seal();
-        self.pool.sound();
+        self.pool.recall_sound();
     }
 
     /// One action of the engine.
@@ -285,14 +285,14 @@ impl Parts {
     pub(crate) fn drain_dram(&mut self) {
         if self.pool.queued() > 0 {
             self.pool.drain();
-            self.pool.sound();
+            self.pool.recall_sound();
         }
     }
 
     /// Cuts the power of both devices with one pick.
     pub(crate) fn cut(self, rt: &impl Abort, pick: u64) -> Off {
         assert!(rt; self.cuts > 0);
-        self.pool.sound();
+        self.pool.recall_sound();
         let mut nvm = self.nvm;
         nvm.cut(pick);
         Off {

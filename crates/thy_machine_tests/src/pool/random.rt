@@ -93,9 +93,9 @@ fn restart(
     for _ in 0..4 {
         let most = 1 + lcg.next() % 20;
         match off.boot(rt, alloc, start, most, drawn_pick(lcg)) {
-            Booted::Over(parts, told) => {
+            Booted::Over(parts, reported) => {
                 beside.clear();
-                beside.versions.compare_found(rt, told, pick, seen);
+                beside.versions.compare_found(rt, reported, pick, seen);
                 return parts;
             }
             Booted::Cut(next) => off = next,
@@ -103,9 +103,9 @@ fn restart(
         seen.cut_booting = true;
     }
     match off.boot(rt, alloc, start, 1000, 0) {
-        Booted::Over(parts, told) => {
+        Booted::Over(parts, reported) => {
             beside.clear();
-            beside.versions.compare_found(rt, told, pick, seen);
+            beside.versions.compare_found(rt, reported, pick, seen);
             parts
         }
         Booted::Cut(_) => panic!(rt; "a boot without end"),
@@ -206,8 +206,8 @@ fn play(rt: &impl Abort, alloc: Global, seed: u64, moments: &mut Moments) {
     };
     let off = Off::new(rt, alloc, geometry, 200);
     let mut parts = match off.boot(rt, alloc, &start, 1000, 0) {
-        Booted::Over(parts, told) => {
-            expect(rt, told, BootStep::Loaded);
+        Booted::Over(parts, reported) => {
+            expect(rt, reported, BootStep::Loaded);
             parts
         }
         Booted::Cut(_) => panic!(rt; "a boot without end"),

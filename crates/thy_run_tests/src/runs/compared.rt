@@ -156,7 +156,7 @@ fn called_with(
     alloc: Global,
     line: &str,
     unseen: &[u64],
-    untold: &[u64],
+    unreported: &[u64],
     nvm: &mut MemNvm,
 ) -> Given {
     called_over(
@@ -165,7 +165,7 @@ fn called_with(
         line,
         &mut shelf(rt, alloc, &[]),
         unseen,
-        untold,
+        unreported,
         nvm,
     )
 }
@@ -345,7 +345,7 @@ fn is_same(a: &MachState, b: &MachState) -> bool {
 
 /// Whether a state is reported as the plain machine reported its own last one: how it has ended, and the digest of
 /// memory.
-fn is_told_so(rt: &impl Abort, alloc: Global, state: &MachState, plain: &[u8]) -> bool {
+fn is_reported_so(rt: &impl Abort, alloc: Global, state: &MachState, plain: &[u8]) -> bool {
     let mut report = MemSink::new(alloc, 65_536, Vec::new(alloc)).expect(rt, "memory");
     let is_written = write_ended(state, true, &mut report).is_ok();
     is_written && report.taken() == plain
@@ -370,7 +370,7 @@ fn compare_ends(rt: &impl Abort, alloc: Global, answer: &Answer, plain: &[u8], a
     let mut ends = 0_u64;
     for i in 0..answer.events.len() {
         if let Event::Ended { state, .. } = answer.events.get(i) {
-            check(rt, is_told_so(rt, alloc, state, plain), at);
+            check(rt, is_reported_so(rt, alloc, state, plain), at);
             check(rt, are_the_same(answer, i, state), at);
             ends = ends.wrapping_add(1);
         }

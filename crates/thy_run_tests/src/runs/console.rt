@@ -36,7 +36,7 @@ fn ran(rt: &impl Abort, alloc: Global, line: &str) -> Given {
 /// Lines with the status, what the terminal takes, and the report. A checkpoint is shown once it is committed. In the
 /// smallest memory that is cycle 738 for the whole program: 700 for the loading, 21 for the eight instructions, the
 /// flush of the console's block, a drain, the seal, and eleven actions of the checkpoint with three drains. The
-/// instructions take two cycles each, and one for the first line, one to read, and three to reserve, fill and write the
+/// instructions take two cycles each, and one for the first line, one to read, and three to secure room, fill and write the
 /// console's block. Two instructions are left after an epoch of six, and are executed while its checkpoint is written.
 static PRINTED: [(&str, u8, &str, &str); 10] = [
     (
@@ -251,7 +251,7 @@ fn expect_unseen(rt: &impl Abort, alloc: Global, line: &str, report: &str) {
 }
 
 #[test]
-fn a_terminal_that_fails_is_told(rt: HostRuntime) {
+fn a_terminal_that_fails_is_reported(rt: HostRuntime) {
     let alloc = rt.alloc();
     for (line, report) in &UNSEEN {
         expect_unseen(&rt, alloc, line, report);

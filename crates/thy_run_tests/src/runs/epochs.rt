@@ -1,5 +1,5 @@
 //! Runs of several epochs: why each ends, and what is executed while its checkpoint is written.
-use crate::runs::{expect, expect_told};
+use crate::runs::{expect, expect_reported};
 use std::alloc::Global;
 use std::process::Abort;
 
@@ -139,7 +139,7 @@ fn schedule(rt: &impl Abort, alloc: Global, start: &str, report: &str, seed: u64
     let line = format!(in alloc;
         "{start} --pages 8 --btt 8 --ptt 8 --mix {seed} --nvmq {queue} --dramq {queue}"
     ).expect(rt, "memory");
-    expect_told(rt, alloc, line.as_str(), report);
+    expect_reported(rt, alloc, line.as_str(), report);
 }
 
 /// Runs one of these with six seeds and three lengths of queues.

@@ -1,5 +1,5 @@
 //! Programs that are made from a number, and runs of them.
-use crate::runs::{Given, called, called_untold, check, compare, expect_on, has};
+use crate::runs::{Given, called, called_unreported, check, compare, expect_on, has};
 use std::alloc::Global;
 use std::process::Abort;
 use thy_out::MemShelf;
@@ -71,7 +71,7 @@ fn a_report_that_refuses_sums_has_failed(rt: HostRuntime) {
     let alloc = rt.alloc();
     let mut shelf = empty(&rt, alloc, &[]);
     let line = "thynvm make 0 OUT";
-    let given = called_untold(&rt, alloc, line, &mut shelf, 1);
+    let given = called_unreported(&rt, alloc, line, &mut shelf, 1);
     compare(&rt, line, &given, 6, "", "");
     let line = "thynvm plain OUT";
     expect_on(&rt, alloc, line, &mut shelf, 0, "exit 128 at 48027\n");
@@ -85,7 +85,7 @@ fn a_report_that_refuses_sums_has_failed(rt: HostRuntime) {
 /// Runs and saves it with a report that refuses the sums.
 fn expect_unsummed(rt: &impl Abort, alloc: Global, shelf: &mut MemShelf, status: u8) {
     let line = "thynvm bench 0 --btt 4096 --epoch 1000000 --save IMAGE";
-    let given = called_untold(rt, alloc, line, shelf, 5);
+    let given = called_unreported(rt, alloc, line, shelf, 5);
     compare(rt, line, &given, status, "", UNSUMMED);
 }
 

@@ -1,7 +1,7 @@
 use Rattle.std.proofs.Common.{◌≡◌, refl, sym, ◌∙◌, inl, inr, subst, string_bytes}
 use Rattle.std.specs.Prelude.{IfSome, map, option_map}
 use Rattle.thy_block.specs.Outside.{Stock}
-use Rattle.thy_words.specs.Settings.{order_of}
+use Rattle.thy_arguments.specs.Settings.{order_of}
 use Rattle.thy_answer.specs.Saving.{IsPut}
 use Rattle.thy_answer.proofs.ShelfLemmas.{stock_same}
 use Rattle.observe.specs.Beginning.{IsBegunOf, IsUnreadOf}
@@ -66,4 +66,4 @@ returns g c =
     c.in-Ok.command c.in-Ok-beginning.begun (string_bytes c.in-Some.text) c.put_text-why.result _ same c.in-Ok.ensures.free
     (sym c.was_begun-ran.ensures ∙ c.if-not-ran.false) c.observed-answer.ensures c.in-Ok.ensures.asked begun c.in-Some.ensures
     (subst (λ text. IsPut c.args.out.now text (g.H.Shelf.stock x.shelf) (g.H.Shelf.stock c.put_text-why.new.shelf) c.put_text-why.result)
-    c.as_str.ensures.value c.put_text-why.ensures) c.tell.ensures))
+    c.as_str.ensures.value c.put_text-why.ensures) c.write_report.ensures))

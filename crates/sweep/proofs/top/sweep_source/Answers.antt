@@ -1,6 +1,6 @@
 use Rattle.std.proofs.Common.{◌≡◌, sym, subst}
 use Rattle.thy_base.specs.Config.{parameters_of}
-use Rattle.thy_words.specs.Settings.{Job, job_of}
+use Rattle.thy_arguments.specs.Settings.{Job, job_of}
 use Rattle.thy_files.specs.Restoring.{ReadsFiles}
 use Rattle.thy_answer.specs.Kept.{named}
 use Rattle.thy_execute.proofs.PlanLemmas.{IsBegun-begins}

@@ -4,7 +4,7 @@ use Rattle.thy_block.specs.Outside.{Stock}
 use Rattle.thy_answer.specs.Answering.{around, nvm_of}
 use Rattle.thy_answer.specs.Machines.{by_scheme}
 use Rattle.thy_execute.specs.Planning.{CanRun}
-use Rattle.thy_words.specs.Settings.{Job, job_of}
+use Rattle.thy_arguments.specs.Settings.{Job, job_of}
 use Rattle.thy_commands.specs.Compared.{Compares, plan_under}
 use Rattle.thy_commands.proofs.ComparisonLaws.{IsComparison-compares}
 use Rattle.thy_commands.proofs.NextLaws.{begun_under_each, no_blocks, plan_for_each}

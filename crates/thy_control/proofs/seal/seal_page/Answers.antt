@@ -8,5 +8,5 @@ pub is_low-requires : goal.is_low-requires
 is_low-requires c =
     let e = c.in-Some.entry in
     let was : entry_at c.args.ptt.now c.args.j ≡ Some e = sym c.in-Some.ensures in
-    let inside = c.lists_once.ensures.inside c.args.j e.page (lists-key page_key e.page (entry_at c.args.ptt.now c.args.j) e was refl) in
+    let inside = c.recall_lists_once.ensures.inside c.args.j e.page (lists-key page_key e.page (entry_at c.args.ptt.now c.args.j) e was refl) in
     omega (arith, inside, c.requires.counted)

@@ -17,4 +17,4 @@ steps-taken-requires-clause-boots g c =
     let sized : length n.image ≡ image_blocks p = omega (arith, c.requires.ready.sized, pages, btt, ptt, c.has_least_memory.ensures.harts) in
     Boots-of p s c.controller-control.ensures.dram n c.new_boot-boot.result c.controller-control.result
     (CanStart-least p s c.has_least_memory.ensures.in_range c.has_least_memory.ensures.pages c.has_least_memory.ensures.console c.has_least_memory.ensures.harts c.start_of-start.ensures)
-    c.new_boot-boot.ensures c.controller-control.ensures.is c.tables.ensures sized c.requires.ready.settled c.requires.ready.up
+    c.new_boot-boot.ensures c.controller-control.ensures.is c.recall_tables.ensures sized c.requires.ready.settled c.requires.ready.up

@@ -1,7 +1,7 @@
 use Rattle.std.proofs.Common.{◌≡◌, Ok, refl, sym, ◌∙◌, ap, subst}
 use Rattle.thy_view.specs.declared.view.Phase.TheVariants.{Boot, Run}
-use Rattle.thy_view.specs.Turn.{Actor, Nvm, Dram, Checkpoint, Stalled}
-use Rattle.thy_core.specs.Cycles.{IsAnyRun, HasStart, IsEngineDue, IsTurnOf}
+use Rattle.thy_view.specs.NextActor.{Actor, Nvm, Dram, Checkpoint, Stalled}
+use Rattle.thy_core.specs.Cycles.{IsAnyRun, HasStart, IsEngineDue, IsActorOf}
 use Rattle.thy_core.specs.MachineParts.{machine_of, actor_seen}
 use Rattle.thy_core.proofs.CycleLaws.{taken_is}
 use Rattle.thy_core.proofs.cycle.cycle.Goals as goal
@@ -37,7 +37,7 @@ pub returns-in-Engine-clause-no_writes : goal.returns-in-Engine-clause-no_writes
 returns-in-Engine-clause-no_writes g c = λ booting.
     let run = c.requires in
     let due : IsEngineDue g.S.Scheme.scheme (machine_of c.args.m.now)
-    = subst (λ (a : Actor). IsTurnOf g.S.Scheme.scheme run.o (machine_of c.args.m.now) (g.N.Nvm.device c.args.nvm.now) a) (ap actor_seen c.in-Engine.is) run.turn in
+    = subst (λ (a : Actor). IsActorOf g.S.Scheme.scheme run.o (machine_of c.args.m.now) (g.N.Nvm.device c.args.nvm.now) a) (ap actor_seen c.in-Engine.is) run.turn in
     let both : Boot ≡ Run = sym booting ∙ due.0 in
     absurd (cc)
 

@@ -2,7 +2,7 @@ use Rattle.std.proofs.Common.{◌≡◌, Ok, sym, ◌∙◌, ap, subst}
 use Rattle.thy_view.specs.declared.did.Stall.TheVariants.{Booting, Sealing, Waiting, Halted}
 use Rattle.thy_view.specs.declared.did.Stall.{Stall}
 use Rattle.thy_view.specs.declared.view.Phase.TheVariants.{Boot, Run, Halt}
-use Rattle.thy_view.specs.Turn.{Stalled}
+use Rattle.thy_view.specs.NextActor.{Stalled}
 use Rattle.thy_scheme.specs.Rows.{IsSealing}
 use Rattle.thy_core.specs.Cycles.{IsAnyRun, HasStart, IsEngineDue, IsStalledBy}
 use Rattle.thy_core.specs.MachineParts.{machine_of}

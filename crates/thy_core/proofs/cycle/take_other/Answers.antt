@@ -1,5 +1,5 @@
 use Rattle.std.proofs.Common.{◌∙◌, ap}
-use Rattle.thy_view.specs.Turn.{told_at}
+use Rattle.thy_view.specs.NextActor.{stall_at}
 use Rattle.thy_scheme.specs.declared.scheme_store.SchemeStore.{SchemeStore}
 use Rattle.thy_core.specs.Cycles.{reported}
 use Rattle.thy_core.specs.MachineParts.{machine_of, actor_seen}
@@ -12,8 +12,8 @@ returns-clause-steps g c = record {
   taken = c.cycle-taken.ensures.taken;
   next_is = c.report.ensures.notes;
   result_is = c.report.ensures.says
-      ∙ ap (λ stall. reported stall c.has_halted-ended.result c.cycle-taken.result) c.told_stall.ensures
-      ∙ ap (λ ended. reported (told_at (actor_seen c.args.actor)) ended c.cycle-taken.result) c.has_halted-ended.ensures;
+      ∙ ap (λ stall. reported stall c.has_halted-ended.result c.cycle-taken.result) c.stall_reported.ensures
+      ∙ ap (λ ended. reported (stall_at (actor_seen c.args.actor)) ended c.cycle-taken.result) c.has_halted-ended.ensures;
 }
 
 pub returns-clause-unmarked : goal.returns-clause-unmarked

@@ -1,6 +1,6 @@
 use Rattle.std.proofs.Common.{Ok, refl, ap, inr}
 use Rattle.thy_view.specs.declared.did.Stall.TheVariants.{Sealing}
-use Rattle.thy_view.specs.Turn.{Stalled}
+use Rattle.thy_view.specs.NextActor.{Stalled}
 use Rattle.thy_core.specs.Cycles.{IsAnyRun}
 use Rattle.thy_core.specs.MachineParts.{machine_of}
 use Rattle.thy_core.proofs.CycleLaws.{taken_err, framed_once, failed_once, kept_once, flush_cycle, flush_failed}

@@ -1,11 +1,11 @@
 use Rattle.std.proofs.Common.{◌≡◌, Some, refl, sym, ◌∙◌, ap}
 use Rattle.thy_view.specs.declared.view.Phase.TheVariants.{Boot}
 use Rattle.thy_view.specs.declared.view.View.{View}
-use Rattle.thy_view.specs.Turn.{Advances}
+use Rattle.thy_view.specs.NextActor.{Advances}
 use Rattle.thy_scheme.specs.Sound.{Sound}
 use Rattle.thy_scheme.proofs.BootingLaws.{sound-boot, view-boot}
 use Rattle.thy_scheme.proofs.MomentLaws.{sound-here}
-use Rattle.thy_core.specs.MachineParts.{machine_of, actor_seen, turn_seen}
+use Rattle.thy_core.specs.MachineParts.{machine_of, actor_seen, next_actor_seen}
 use Rattle.thy_core.proofs.CalmLaws.{knows_nothing}
 use Rattle.thy_core.proofs.TakenLaws.{at_run, moment_of, phase_in, actor_is, turned, reported_steps, reported_fails, reported_counts, reported_notes}
 use Rattle.thy_core.proofs.step.step_other.Goals as goal
@@ -25,7 +25,7 @@ unreachable-requires g c =
     let at = at_run K g.met.S.Scheme.lawful run.o run.cycles m n (sound-here K run.o run.cycles m n run.at_moment) run.few in
     c.requires.others run.o run.cycles c.in-Advances.field-0 run.at_moment
     (sym (actor_is K run.o run.cycles c.args.pick c.queued.result (Advances c.in-Advances.field-0) m n (moment_of K run.o run.cycles m n at) c.queued.ensures
-    (sym (ap turn_seen c.in-Advances.is) ∙ c.turn_of.ensures)))
+    (sym (ap next_actor_seen c.in-Advances.is) ∙ c.actor_of.ensures)))
 
 pub take_other-requires : goal.take_other-requires
 take_other-requires g c =
@@ -40,20 +40,20 @@ take_other-requires g c =
       of_kind = run.begins;
       at_moment = at;
       turn = turned K run.o run.cycles c.args.pick c.queued.result (actor_seen c.in-Other.actor) m n (moment_of K run.o run.cycles m n at) c.queued.ensures
-          (sym (ap turn_seen c.in-Other.is) ∙ c.turn_of.ensures);
+          (sym (ap next_actor_seen c.in-Other.is) ∙ c.actor_of.ensures);
     }
 
 pub returns-clause-steps : goal.returns-clause-steps
 returns-clause-steps g c =
     reported_steps g.S.Scheme.scheme g.met.S.Scheme.lawful c.args.start.now c.args.pick c.queued.result (actor_seen c.in-Other.actor)
     (machine_of c.args.m.now) (machine_of c.take_other.new.m) (g.N.Nvm.device c.args.nvm.now) (g.N.Nvm.device c.take_other.new.nvm) c.take_other.result
-    c.queued.ensures (sym (ap turn_seen c.in-Other.is) ∙ c.turn_of.ensures) c.take_other.ensures.steps
+    c.queued.ensures (sym (ap next_actor_seen c.in-Other.is) ∙ c.actor_of.ensures) c.take_other.ensures.steps
 
 pub returns-clause-safe : goal.returns-clause-safe
 returns-clause-safe g c =
     reported_fails g.S.Scheme.scheme g.met.S.Scheme.lawful c.args.start.now c.args.pick c.queued.result (actor_seen c.in-Other.actor)
     (machine_of c.args.m.now) (machine_of c.take_other.new.m) (g.N.Nvm.device c.args.nvm.now) (g.N.Nvm.device c.take_other.new.nvm) c.take_other.result
-    c.queued.ensures (sym (ap turn_seen c.in-Other.is) ∙ c.turn_of.ensures) c.take_other.ensures.steps
+    c.queued.ensures (sym (ap next_actor_seen c.in-Other.is) ∙ c.actor_of.ensures) c.take_other.ensures.steps
 
 pub returns-clause-frame : goal.returns-clause-frame
 returns-clause-frame g c = c.take_other.ensures.steps.taken.frame
@@ -62,13 +62,13 @@ pub returns-clause-cause : goal.returns-clause-cause
 returns-clause-cause g c =
     reported_counts g.S.Scheme.scheme g.met.S.Scheme.lawful c.args.start.now c.args.pick c.queued.result (actor_seen c.in-Other.actor)
     (machine_of c.args.m.now) (machine_of c.take_other.new.m) (g.N.Nvm.device c.args.nvm.now) (g.N.Nvm.device c.take_other.new.nvm) c.take_other.result
-    c.queued.ensures (sym (ap turn_seen c.in-Other.is) ∙ c.turn_of.ensures) c.take_other.ensures.steps
+    c.queued.ensures (sym (ap next_actor_seen c.in-Other.is) ∙ c.actor_of.ensures) c.take_other.ensures.steps
 
 pub returns-clause-failed : goal.returns-clause-failed
 returns-clause-failed g c =
     reported_notes g.S.Scheme.scheme g.met.S.Scheme.lawful c.args.start.now c.args.pick c.queued.result (actor_seen c.in-Other.actor)
     (machine_of c.args.m.now) (machine_of c.take_other.new.m) (g.N.Nvm.device c.args.nvm.now) (g.N.Nvm.device c.take_other.new.nvm) c.take_other.result
-    c.queued.ensures (sym (ap turn_seen c.in-Other.is) ∙ c.turn_of.ensures) c.take_other.ensures.steps c.requires.can
+    c.queued.ensures (sym (ap next_actor_seen c.in-Other.is) ∙ c.actor_of.ensures) c.take_other.ensures.steps c.requires.can
 
 pub returns-clause-no_writes : goal.returns-clause-no_writes
 returns-clause-no_writes g c = λ o k found here restarts stays.

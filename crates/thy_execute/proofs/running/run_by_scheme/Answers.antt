@@ -1,7 +1,7 @@
 use Rattle.std.proofs.Common.{sym, subst}
 use Rattle.thy_block.specs.declared.parameters.SchemeName.{SchemeName}
 use Rattle.thy_base.specs.Config.{parameters_of}
-use Rattle.thy_words.specs.Settings.{job_of}
+use Rattle.thy_arguments.specs.Settings.{job_of}
 use Rattle.thy_answer.specs.Answering.{Outside, outside}
 use Rattle.thy_answer.specs.Watching.{RunSeen}
 use Rattle.thy_answer.specs.Machines.{by_scheme}

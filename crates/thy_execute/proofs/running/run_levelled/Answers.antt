@@ -85,6 +85,6 @@ returns-in-Ok-clause-runs g c = λ job names p.
     let is_left : IsLeftAs job.config.gap after.device left =
     subst (λ x. IsLeftAs job.config.gap (g.N.Nvm.device x) left) (sym stands)
     (IsLeftAs-levelled job.config.gap last.ghost_name c.run_fitted-ran.new.nvm.registers (g.N.Nvm.device last.now) some lines
-    c.means_what_is_seen.ensures.image c.means_what_is_seen.ensures.crash c.means_what_is_seen.ensures.left) in
+    c.recall_meaning.ensures.image c.recall_meaning.ensures.crash c.recall_meaning.ensures.left) in
     RunOverSeen-seen K g.O.Observer.has_seen (named c.args.source) job before p.program after found left c.run_fitted-ran.result c.run_fitted-ran.new.observer is_found is_left
     (c.run_fitted-ran.ensures.runs job c.args.blocks.items found names p fit)

@@ -2,7 +2,7 @@ use Rattle.std.proofs.Common.{◌≡◌, ap, sym, subst, refl, inl}
 use Rattle.thy_block.specs.declared.nvm.FitError.{FitError}
 use Rattle.thy_base.specs.Config.{parameters_of}
 use Rattle.thy_block.specs.Outside.{Stock}
-use Rattle.thy_words.specs.Settings.{Job, job_of}
+use Rattle.thy_arguments.specs.Settings.{Job, job_of}
 use Rattle.thy_answer.specs.declared.refusal.Refusal.TheVariants.{Device as DeviceRefusal}
 use Rattle.thy_answer.specs.Answering.{Outside, Closes, outside}
 use Rattle.thy_files.specs.Restoring.{ReadsFiles}

@@ -2,7 +2,7 @@ use Rattle.std.proofs.Common.{sym, subst}
 use Rattle.thy_block.specs.Device.{IsMadeOf, possible, block_at}
 use Rattle.thy_block.proofs.CrashLemmas.{Contains-stands}
 use Rattle.thy_block.proofs.MadeLemmas.{IsMadeOf-one}
-use Rattle.thy_ring.specs.Held.{device_of}
+use Rattle.thy_write_queue.specs.Held.{device_of}
 use Rattle.thy_nvm.proofs.choices.choose_words.Goals as goal
 
 pub loop-k-init : goal.loop-k-init

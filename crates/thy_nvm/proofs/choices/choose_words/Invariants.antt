@@ -1,5 +1,5 @@
 use Rattle.thy_block.specs.Device.{IsMadeOf, possible}
-use Rattle.thy_ring.specs.Held.{device_of}
+use Rattle.thy_write_queue.specs.Held.{device_of}
 use Rattle.thy_nvm.proofs.choices.choose_words.Given as goal
 
 abbrev pub invariant-loop-k : goal.invariant-loop-k

@@ -1,4 +1,4 @@
-use Rattle.thy_record.proofs.DualPartsLemmas.{migration_decodes}
+use Rattle.thy_record.proofs.ThynvmPartsLemmas.{migration_decodes}
 use Rattle.thy_record.proofs.laws.a_migration_decodes.Goals as goal
 
 pub returns : goal.returns

@@ -3,7 +3,7 @@ use Rattle.std.specs.Prelude.{slice_index}
 use Rattle.thy_block.specs.Bytes.{bytes_of}
 use Rattle.thy_text.specs.Lines.{report_of}
 use Rattle.thy_run.specs.declared.progress.Progress.{Progress}
-use Rattle.thy_run.specs.Going.{turns_then, telling_of}
+use Rattle.thy_run.specs.Going.{turns_then, reporting_of}
 use Rattle.thy_run.specs.Sending.{Sent, Sends}
 use Rattle.thy_run.proofs.AdvanceLemmas.{few_released, noted_ready, broken_ready, more_noted, more_broken, awaits_cut, done_going, done_ended, done_noted, is_none, not_none}
 use Rattle.thy_run.proofs.OutcomeLemmas.{ends_unheard, ends_finished, Running-done, ComesTo-short}
@@ -33,8 +33,8 @@ overflow_sub-len g c =
     c.note.new.events c.in-Ok.ensures.ok in
     omega (arith, more, c.len-first.ensures, c.len-2.ensures)
 
-pub tell-failures-requires : goal.tell-failures-requires
-tell-failures-requires g c =
+pub write_report-failures-requires : goal.write_report-failures-requires
+write_report-failures-requires g c =
     let h = c.requires.gathered in
     let more = more_noted g.M.Computer.kind g.met.M.Computer.lawful c.args.plan.now h.0 h.1 c.args.progress.now h.2 h.3 h.4 h.5 c.args.stepped.now c.args.readings c.args.cycle c.requires.planned h.6
     c.note.new.events c.in-Ok.ensures.ok in
@@ -51,7 +51,7 @@ returns-in_default g c = λ fitted p n m k turns t u ready running w.
     let r2 = g.R.Sink.stream c.write_lines-progress.new.report in
     let report_failed = c.write_lines-progress.result in
     let first : c.len-first.result ≡ length p.events = c.len-first.ensures ∙ ap (λ y. length y.events) ready.stepped.same in
-    let L : ℕ → Type 0 = λ i. Sends (report_of (telling_of plan) (take i e)) (report_of (telling_of plan) e) report_failed r1 r2 in
+    let L : ℕ → Type 0 = λ i. Sends (report_of (reporting_of plan) (take i e)) (report_of (reporting_of plan) e) report_failed r1 r2 in
     record {
       after = turns;
       comes_to = ComesTo-short K plan fitted p (record q { events = e }) n m k turns turns report_failed t (g.T.Sink.stream c.args.terminal.now) u r1 r2 running ready.few
@@ -97,19 +97,19 @@ returns-in-Some g c = λ fitted p n m k turns t u ready running w.
     let e = c.note.new.events in
     let ended = c.in-Ok.ended in
     let t1 = g.T.Sink.stream c.args.terminal.now in
-    let t2 = g.T.Sink.stream c.tell-failures.new.terminal in
+    let t2 = g.T.Sink.stream c.write_report-failures.new.terminal in
     let r1 = g.R.Sink.stream c.args.report.now in
-    let r2 = g.R.Sink.stream c.tell-failures.new.report in
-    let terminal_failed = c.tell-failures.result.terminal in
-    let report_failed = c.tell-failures.result.report in
+    let r2 = g.R.Sink.stream c.write_report-failures.new.report in
+    let terminal_failed = c.write_report-failures.result.terminal in
+    let report_failed = c.write_report-failures.result.report in
     let after = turns_then plan turns r.did in
     let first : c.len-first.result ≡ length p.events = c.len-first.ensures ∙ ap (λ y. length y.events) ready.stepped.same in
     let q' : Progress g.row.M.Denot = record q { events = e; released = q.released + c.len.result; fresh = false; turns = c.end_list.new.turns } in
     let noted = noted_ready K laws plan fitted p q n m k turns r c.args.readings c.args.cycle c.requires.planned ready ended e c.len.result c.end_list.new.turns
     c.in-Ok.ensures.ok c.in-Ok.ensures.status c.len.ensures c.end_list.ensures.turns c.end_list.ensures.room in
-    let L : ℕ → Type 0 = λ i. Sends (report_of (telling_of plan) (take i e)) (report_of (telling_of plan) e) report_failed r1 r2 in
-    let sent = subst (Sent terminal_failed t1 t2) c.as_slice.ensures c.tell-failures.ensures.terminal in
-    let lines = subst L first c.tell-failures.ensures.report in
+    let L : ℕ → Type 0 = λ i. Sends (report_of (reporting_of plan) (take i e)) (report_of (reporting_of plan) e) report_failed r1 r2 in
+    let sent = subst (Sent terminal_failed t1 t2) c.as_slice.ensures c.write_report-failures.ensures.terminal in
+    let lines = subst L first c.write_report-failures.ensures.report in
     let many : c.len-2.result - c.len-first.result ≡ length e - length p.events = ap (λ l. l - c.len-first.result) c.len-2.ensures ∙ ap (λ f. length e - f) first in
     let undue : ended ≡ None → (nat_lt q.passed (length plan.config.cuts) && slice_index plan.config.cuts q.passed == c.args.cycle) ≡ false = λ none.
     elim c.else-is_none.branch [
@@ -136,19 +136,19 @@ returns-in-Some-ended g c = λ fitted p n m k turns t u ready running w.
     let e = c.note.new.events in
     let ended = c.in-Ok.ended in
     let t1 = g.T.Sink.stream c.args.terminal.now in
-    let t2 = g.T.Sink.stream c.tell-failures.new.terminal in
+    let t2 = g.T.Sink.stream c.write_report-failures.new.terminal in
     let r1 = g.R.Sink.stream c.args.report.now in
-    let r2 = g.R.Sink.stream c.tell-failures.new.report in
-    let terminal_failed = c.tell-failures.result.terminal in
-    let report_failed = c.tell-failures.result.report in
+    let r2 = g.R.Sink.stream c.write_report-failures.new.report in
+    let terminal_failed = c.write_report-failures.result.terminal in
+    let report_failed = c.write_report-failures.result.report in
     let after = turns_then plan turns r.did in
     let first : c.len-first.result ≡ length p.events = c.len-first.ensures ∙ ap (λ y. length y.events) ready.stepped.same in
     let q' : Progress g.row.M.Denot = record q { events = e; released = q.released + c.len.result; fresh = false; turns = c.end_list.new.turns } in
     let noted = noted_ready K laws plan fitted p q n m k turns r c.args.readings c.args.cycle c.requires.planned ready ended e c.len.result c.end_list.new.turns
     c.in-Ok.ensures.ok c.in-Ok.ensures.status c.len.ensures c.end_list.ensures.turns c.end_list.ensures.room in
-    let L : ℕ → Type 0 = λ i. Sends (report_of (telling_of plan) (take i e)) (report_of (telling_of plan) e) report_failed r1 r2 in
-    let sent = subst (Sent terminal_failed t1 t2) c.as_slice.ensures c.tell-failures.ensures.terminal in
-    let lines = subst L first c.tell-failures.ensures.report in
+    let L : ℕ → Type 0 = λ i. Sends (report_of (reporting_of plan) (take i e)) (report_of (reporting_of plan) e) report_failed r1 r2 in
+    let sent = subst (Sent terminal_failed t1 t2) c.as_slice.ensures c.write_report-failures.ensures.terminal in
+    let lines = subst L first c.write_report-failures.ensures.report in
     let many : c.len-2.result - c.len-first.result ≡ length e - length p.events = ap (λ l. l - c.len-first.result) c.len-2.ensures ∙ ap (λ f. length e - f) first in
     let done = done_ended K laws plan p q' n m k turns r ended bytes noted c.in-Some-ended.status c.in-Some-ended.is in
     record {
@@ -170,19 +170,19 @@ returns g c = λ fitted p n m k turns t u ready running w.
     let e = c.note.new.events in
     let ended = c.in-Ok.ended in
     let t1 = g.T.Sink.stream c.args.terminal.now in
-    let t2 = g.T.Sink.stream c.tell-failures.new.terminal in
+    let t2 = g.T.Sink.stream c.write_report-failures.new.terminal in
     let r1 = g.R.Sink.stream c.args.report.now in
-    let r2 = g.R.Sink.stream c.tell-failures.new.report in
-    let terminal_failed = c.tell-failures.result.terminal in
-    let report_failed = c.tell-failures.result.report in
+    let r2 = g.R.Sink.stream c.write_report-failures.new.report in
+    let terminal_failed = c.write_report-failures.result.terminal in
+    let report_failed = c.write_report-failures.result.report in
     let after = turns_then plan turns r.did in
     let first : c.len-first.result ≡ length p.events = c.len-first.ensures ∙ ap (λ y. length y.events) ready.stepped.same in
     let q' : Progress g.row.M.Denot = record q { events = e; released = q.released + c.len.result; fresh = false; turns = c.end_list.new.turns } in
     let noted = noted_ready K laws plan fitted p q n m k turns r c.args.readings c.args.cycle c.requires.planned ready ended e c.len.result c.end_list.new.turns
     c.in-Ok.ensures.ok c.in-Ok.ensures.status c.len.ensures c.end_list.ensures.turns c.end_list.ensures.room in
-    let L : ℕ → Type 0 = λ i. Sends (report_of (telling_of plan) (take i e)) (report_of (telling_of plan) e) report_failed r1 r2 in
-    let sent = subst (Sent terminal_failed t1 t2) c.as_slice.ensures c.tell-failures.ensures.terminal in
-    let lines = subst L first c.tell-failures.ensures.report in
+    let L : ℕ → Type 0 = λ i. Sends (report_of (reporting_of plan) (take i e)) (report_of (reporting_of plan) e) report_failed r1 r2 in
+    let sent = subst (Sent terminal_failed t1 t2) c.as_slice.ensures c.write_report-failures.ensures.terminal in
+    let lines = subst L first c.write_report-failures.ensures.report in
     let many : c.len-2.result - c.len-first.result ≡ length e - length p.events = ap (λ l. l - c.len-first.result) c.len-2.ensures ∙ ap (λ f. length e - f) first in
     let undue : ended ≡ None → (nat_lt q.passed (length plan.config.cuts) && slice_index plan.config.cuts q.passed == c.args.cycle) ≡ false = λ none.
     elim c.else-is_none.branch [

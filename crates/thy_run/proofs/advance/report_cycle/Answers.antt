@@ -8,7 +8,7 @@ use Rattle.thy_run.specs.Rounds.{ComesTo}
 use Rattle.thy_run.specs.Seeing.{CycleTaken}
 use Rattle.thy_run.specs.Stopping.{stop_of}
 use Rattle.thy_run.proofs.AdvanceLemmas.{CanGather-stepped, IsBroken-read}
-use Rattle.thy_run.proofs.OutcomeLemmas.{ComesTo-untold}
+use Rattle.thy_run.proofs.OutcomeLemmas.{ComesTo-unlisted}
 use Rattle.thy_run.proofs.advance.report_cycle.Goals as goal
 
 pub gather-requires : goal.gather-requires
@@ -78,7 +78,7 @@ returns-in-Err g c = λ fitted p n turns t u stepped running w.
     record {
       after = turns;
       comes_to = subst S (sym c.from.ensures)
-          (ComesTo-untold K plan fitted p q n d c.args.done turns turns (stop_of c.in-Err.error) t t1 u r1 running c.requires.few (ap (λ y. y.events) stepped.same)
+          (ComesTo-unlisted K plan fitted p q n d c.args.done turns turns (stop_of c.in-Err.error) t t1 u r1 running c.requires.few (ap (λ y. y.events) stepped.same)
           (IsBroken-read K g.met.M.Computer.lawful plan fitted p n c.args.done turns c.requires.planned running.goes q m c.args.stepped stepped d c.in-Err.error
           c.in-Err.ensures.err c.gather.ensures.frame c.in-Err.ensures.due));
       seen = refl;

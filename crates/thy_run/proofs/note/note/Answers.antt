@@ -1,6 +1,6 @@
 use Rattle.std.proofs.Common.{◌∙◌}
 use Rattle.thy_run.proofs.NoteLemmas.{made_but_end, ended_halts}
-use Rattle.thy_run.proofs.TellLemmas.{OnErr-any}
+use Rattle.thy_run.proofs.ReportLemmas.{OnErr-any}
 use Rattle.thy_run.proofs.note.note.Goals as goal
 
 pub returns-in_err-status-clause-err : goal.returns-in_err-status-clause-err

@@ -1,7 +1,7 @@
 use Rattle.std.proofs.Common.{◌≡◌, ◌+◌, ◌<◌, ℕ, true, sym, ◌∙◌, ap, subst, refl, arith}
 use Rattle.thy_block.specs.Device.{Device}
 use Rattle.thy_view.specs.declared.did.Stepped.{Stepped}
-use Rattle.thy_view.specs.Advances.{IsOthersTurn}
+use Rattle.thy_view.specs.Advances.{IsOthersCycle}
 use Rattle.thy_run.specs.declared.progress.Progress.{Progress}
 use Rattle.thy_run.specs.Due.{IsQuiet}
 use Rattle.thy_run.specs.Going.{HasDrawn, IsStepped}
@@ -136,8 +136,8 @@ pass_other-requires-clause-others g c =
     let d = drawn_on K plan h.0 p n c.loop-now.now led.turns c.harts-harts.result c.next-pick.new.self c.next-pick.result
     c.harts-harts.ensures.harts c.next-pick.ensures.pick c.next-pick.ensures.after led.goes in
     let left = c.in-Left.ensures.advances h.0 led.turns d in
-    subst (λ (x : Progress g.row.M.Denot). IsOthersTurn K c.next-pick.result x.machine m) (sym left.0)
-    (subst (λ (x : Device). IsOthersTurn K c.next-pick.result q.machine x) (sym left.1) (c.advance.ensures.others c.in-Left.is))
+    subst (λ (x : Progress g.row.M.Denot). IsOthersCycle K c.next-pick.result x.machine m) (sym left.0)
+    (subst (λ (x : Device). IsOthersCycle K c.next-pick.result q.machine x) (sym left.1) (c.advance.ensures.others c.in-Left.is))
 
 pub pass_other-requires-clause-unseen : goal.pass_other-requires-clause-unseen
 pass_other-requires-clause-unseen g c =
@@ -180,7 +180,7 @@ returns-in-Some g c = λ fitted turns goes w.
         turns = led.turns;
         goes = led.goes;
         watched = subst (Watched K S plan fitted p n c.loop-now.now led.turns) (sym stops.1) led.watched;
-        untold = led.untold;
+        unlisted = led.unlisted;
         uncut = led.uncut;
         fresh = led.fresh;
         more = led.more;

@@ -2,7 +2,7 @@ use Rattle.std.proofs.Common.{◌<◌, ◌^◌, ℕ, sym, subst, arith}
 use Rattle.std.specs.Prelude.{Ok, Err}
 use Rattle.thy_block.specs.Device.{Device}
 use Rattle.thy_view.specs.declared.did.Stepped.{Stepped}
-use Rattle.thy_view.specs.Advances.{IsOthersTurn}
+use Rattle.thy_view.specs.Advances.{IsOthersCycle}
 use Rattle.thy_run.specs.declared.progress.Progress.{Progress}
 use Rattle.thy_run.specs.Going.{HasDrawn, IsStepped}
 use Rattle.thy_run.specs.Promises.{StepsOn}
@@ -69,8 +69,8 @@ take_other-requires-clause-others g c =
     let d = drawn_on K plan h.0 p n c.args.done h.1 c.harts.result c.next-pick.new.self c.next-pick.result
     c.harts.ensures.harts c.next-pick.ensures.pick c.next-pick.ensures.after h.2 in
     let left = c.in-Left.ensures.advances h.0 h.1 d in
-    subst (λ (x : Progress g.row.M.Denot). IsOthersTurn K c.next-pick.result x.machine m) (sym left.0)
-    (subst (λ (x : Device). IsOthersTurn K c.next-pick.result q.machine x) (sym left.1) (c.advance.ensures.others c.in-Left.is))
+    subst (λ (x : Progress g.row.M.Denot). IsOthersCycle K c.next-pick.result x.machine m) (sym left.0)
+    (subst (λ (x : Device). IsOthersCycle K c.next-pick.result q.machine x) (sym left.1) (c.advance.ensures.others c.in-Left.is))
 
 pub returns-in-Ok : goal.returns-in-Ok
 returns-in-Ok g c = λ fitted turns goes.

@@ -13,5 +13,5 @@ loop-j-preserved c =
     c.commit_one.ensures
     ∙ ap (λ (t : Listing Held). moved_by (entry_at c.args.frames.now c.loop-j.j) (c.args.geometry.now.pages + c.loop-j.j) t)
     c.loop-j.invariant
-    ∙ committed_step c.args.geometry.now c.args.frames.now c.args.pool.now c.lists_once.ensures c.requires.pages
-    c.lists_once-2.ensures c.requires.claimed c.loop-j.j
+    ∙ committed_step c.args.geometry.now c.args.frames.now c.args.pool.now c.recall_lists_once.ensures c.requires.pages
+    c.recall_lists_once-2.ensures c.requires.claimed c.loop-j.j

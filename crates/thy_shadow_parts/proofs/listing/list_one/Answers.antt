@@ -1,7 +1,7 @@
 use Rattle.std.proofs.Common.{◌+◌, ◌<◌, ℕ, List, length, Option, Some, sym, ◌∙◌, ap, subst, arith}
 use Rattle.thy_layout.specs.Files.{blocks_of}
 use Rattle.thy_layout.specs.Entries.{Lists}
-use Rattle.thy_table.specs.Listing.{Listing, place_of, with_entry}
+use Rattle.thy_table.specs.Listing.{Listing, index_of, with_entry}
 use Rattle.thy_shadow_image.specs.Slots.{table_in}
 use Rattle.thy_shadow_parts.specs.declared.entry.Held.{Held}
 use Rattle.thy_shadow_parts.specs.Keys.{number_key}
@@ -18,7 +18,7 @@ put-requires-clause-free c =
 pub put-requires-clause-unlisted : goal.put-requires-clause-unlisted
 put-requires-clause-unlisted c =
     let table : List (Option ℕ) = table_in c.args.geometry.now (blocks_of c.args.slot.now) in
-    ap (λ (e : Held). place_of number_key e.number c.args.pool.now) c.new.ensures
+    ap (λ (e : Held). index_of number_key e.number c.args.pool.now) c.new.ensures
     ∙ holds_unlisted c.args.x table c.args.pool.now c.requires.before
 
 pub returns-in-Some : goal.returns-in-Some

@@ -5,10 +5,10 @@ use Rattle.thy_text.specs.Closings.{entries_of, image_parts, refusal_parts}
 use Rattle.thy_text.proofs.Rewording.{wrote-as}
 use Rattle.thy_text.proofs.closing.write_image.Goals as goal
 
--- the line of an image, where its parts are known
-image_is : (bad : BadImage) (number : ℕ) (name told : List ℕ) → number ≡ number_of bad → name ≡ name_of bad → told ≡ entries_of bad
-    → refusal_parts (codes "image ") number name told ≡ image_parts bad
-image_is bad number name told a b c = rw (a, b, c) refl
+-- the line of an image, if its parts are known
+image_is : (bad : BadImage) (number : ℕ) (name reported : List ℕ) → number ≡ number_of bad → name ≡ name_of bad → reported ≡ entries_of bad
+    → refusal_parts (codes "image ") number name reported ≡ image_parts bad
+image_is bad number name reported a b c = rw (a, b, c) refl
 
 pub returns-in-None : goal.returns-in-None
 returns-in-None g c =

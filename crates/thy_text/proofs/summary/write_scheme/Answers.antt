@@ -6,7 +6,7 @@ use Rattle.thy_text.specs.Summary.{ends_early, ends_epoch, overlapped_by, scheme
 use Rattle.thy_text.proofs.Rewording.{wrote-as}
 use Rattle.thy_text.proofs.summary.write_scheme.Goals as goal
 
--- the line of a run by a scheme, where its name and its sums are known
+-- the line of a run by a scheme, if its name and its sums are known
 line_is : (scheme : SchemeName) (vs : List Event) (name : List ℕ) (epochs early overlapped writes : ℕ)
     → name ≡ scheme_name scheme → epochs ≡ count_by ends_epoch vs → early ≡ count_by ends_early vs → overlapped ≡ sum_by overlapped_by vs
     → scheme_parts name epochs early overlapped writes

@@ -4,7 +4,7 @@ use Rattle.thy_text.specs.Summary.{ends_early, ends_epoch, overlapped_by, summar
 use Rattle.thy_text.proofs.Rewording.{wrote-as}
 use Rattle.thy_text.proofs.summary.write_summary.Goals as goal
 
--- the line of a run, where its sums are known
+-- the line of a run, if its sums are known
 summary_is : (vs : List Event) (epochs early overlapped : ℕ)
     → epochs ≡ count_by ends_epoch vs → early ≡ count_by ends_early vs → overlapped ≡ sum_by overlapped_by vs
     → summary_parts epochs early overlapped

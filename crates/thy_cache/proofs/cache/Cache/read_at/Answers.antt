@@ -1,7 +1,7 @@
 use Rattle.std.proofs.Common.{ap}
 use Rattle.std.specs.Option.{option_map}
 use Rattle.thy_cache.specs.declared.line.Line.{Line}
-use Rattle.thy_cache.proofs.PlaceLaws.{KeepsLines-read}
+use Rattle.thy_cache.proofs.LocationLaws.{KeepsLines-read}
 use Rattle.thy_cache.proofs.WriteLaws.{ReadsAs-peeked}
 use Rattle.thy_cache.proofs.cache.Cache.read_at.Goals as goal
 

@@ -1,4 +1,4 @@
-use Rattle.thy_cache.proofs.PlaceLaws.{KeepsLines-read}
+use Rattle.thy_cache.proofs.LocationLaws.{KeepsLines-read}
 use Rattle.thy_cache.proofs.cache.Cache.touch.Goals as goal
 
 pub returns-clause-lines : goal.returns-clause-lines

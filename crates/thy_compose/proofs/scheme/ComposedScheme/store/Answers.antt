@@ -8,7 +8,7 @@ use Rattle.thy_compose.proofs.scheme.ComposedScheme.store.Goals as goal
 pub returns-clause-once : goal.returns-clause-once
 returns-clause-once g c =
     store_once (design_of g.P.Fills.filling g.P.Checkpoints.items g.P.Parts.parts) g.met.P.Parts.are_parts c.args.b c.args.block.now c.args.self.now (g.N.Nvm.device c.args.nvm.now)
-    (record { sound = subst (λ (s : Composed _). g.P.Parts.parts.sound s.control) c.self.view_is c.sound.ensures; inside = c.requires.inside; ready = c.requires.ready; room = c.requires.room })
+    (record { sound = subst (λ (s : Composed _). g.P.Parts.parts.sound s.control) c.self.view_is c.recall_sound.ensures; inside = c.requires.inside; ready = c.requires.ready; room = c.requires.room })
     c.store_block.new.self (g.N.Nvm.device c.store_block.new.nvm) c.store_block.result c.store_block.ensures.acts
 
 pub returns-clause-exact : goal.returns-clause-exact

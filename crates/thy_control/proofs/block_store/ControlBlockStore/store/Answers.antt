@@ -33,7 +33,7 @@ returns-clause-once g c =
     let m : Device = g.N.Nvm.device c.args.nvm.now in
     let inside = (c.blocks_are_works.ensures.works s m c.args.b c.requires.inside).inside in
     once_stored c.args.b c.args.block.now s m c.store.new.self (g.N.Nvm.device c.store.new.nvm) c.store.result
-    c.store.ensures.state c.store.ensures.nvm c.store.ensures.kept c.store.ensures.err c.tables.ensures inside c.requires.room c.store.ensures.free c.store.ensures.frame c.store.ensures.stays
+    c.store.ensures.state c.store.ensures.nvm c.store.ensures.kept c.store.ensures.err c.recall_tables.ensures inside c.requires.room c.store.ensures.free c.store.ensures.frame c.store.ensures.stays
 
 pub returns-clause-cause : goal.returns-clause-cause
 returns-clause-cause g c =

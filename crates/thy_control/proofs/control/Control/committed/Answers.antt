@@ -12,7 +12,7 @@ read-requires-clause-place g c =
     let s = c.args.self.now in
     let is : c.penult.result ≡ penult (cell_of s c.args.b) = c.penult.ensures ∙ ap penult c.cell-cell.ensures in
     subst (λ (x : Place). IsPlace s.p x) (sym is)
-    (IsPlace-penult s.p (cell_of s c.args.b) (IsWithin-cell_of s c.args.b c.tables.ensures c.requires.block))
+    (IsPlace-penult s.p (cell_of s c.args.b) (IsWithin-cell_of s c.args.b c.recall_tables.ensures c.requires.block))
 
 pub returns-clause-stays : goal.returns-clause-stays
 returns-clause-stays g c =

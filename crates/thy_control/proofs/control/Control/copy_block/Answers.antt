@@ -17,7 +17,7 @@ move_block-requires-clause-to g c =
     subst_two (λ (t : State) x. IsPlace t.p x) c.self.view_is
     (c.target.ensures ∙ ap target c.cell-cell.ensures)
     (IsPlace-target s.p (cell_of s c.args.b)
-    (IsWithin-cell_of s c.args.b c.tables.ensures c.requires.block))
+    (IsWithin-cell_of s c.args.b c.recall_tables.ensures c.requires.block))
 
 pub returns : goal.returns
 returns g c =
@@ -42,9 +42,9 @@ invariant_of-self-2 g c =
     let e = (returns g c).state in
     let before = control_is c.self.view_is c.self.invariant in
     control_is (sym e) (record {
-      tables = AreSoundTables-copied c.args.b s c.requires.pending m c.tables.ensures
+      tables = AreSoundTables-copied c.args.b s c.requires.pending m c.recall_tables.ensures
           c.requires.sized c.requires.block
-          (subst (λ (t : State). IsListing block_key t.btt) e c.lists_once.ensures);
+          (subst (λ (t : State). IsListing block_key t.btt) e c.recall_lists_once.ensures);
       marks = AreWorkCounts-copied c.args.b s m marks c.requires.pending before.marks;
       cursors = AreCursors-copied c.args.b s m c.self.inside.cursors c.requires.pending
           before.cursors;

@@ -11,7 +11,7 @@ pub copy_block-requires : goal.copy_block-requires
 copy_block-requires g c =
     let s : State = c.args.self.now in
     let same = sym c.seek_copy.ensures.same in
-    let next = IsNext-entry s c.tables.ensures c.in-Some.i
+    let next = IsNext-entry s c.recall_tables.ensures c.in-Some.i
     (sym c.seek_copy.ensures.place ∙ c.in-Some.is) in
     let block = c.block_at-b.ensures ∙ ap (block_listed c.in-Some.i) c.seek_copy.ensures.same in
     let due = subst_two IsNext c.seek_copy.ensures.same block next in

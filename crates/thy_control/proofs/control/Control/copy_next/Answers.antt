@@ -16,13 +16,13 @@ returns g c =
     let copies = c.copy_lowest.ensures.copies in
     record {
       more = c.copy_lowest.ensures.more;
-      left = left_after s m t c.tables.ensures r
+      left = left_after s m t c.recall_tables.ensures r
           copies.state c.copy_lowest.ensures.more;
       keeps = at_result (KeepsAll s m) r t n copies.state copies.nvm
-          (KeepsAll-next law s m c.tables.ensures c.requires.sized);
+          (KeepsAll-next law s m c.recall_tables.ensures c.requires.sized);
       copies = copies;
       stays = stays_by law s m t n
-          r c.tables.ensures
+          r c.recall_tables.ensures
           c.requires.sized c.requires.up copies.state copies.nvm copies.kept copies.err
           copies.frame;
     }

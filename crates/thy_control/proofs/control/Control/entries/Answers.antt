@@ -13,7 +13,7 @@ pub table_block-requires : goal.table_block-requires
 table_block-requires c =
     let s : State = c.args.self.now in
     subst (λ (es : List (Option ℕ)). HaveWords es) (sym c.listed_in.ensures)
-    (HaveWords-entries s.p (tables1 s) c.args.k c.tables.ensures.range (AreTablesOf-under_way s c.tables.ensures).valid)
+    (HaveWords-entries s.p (tables1 s) c.args.k c.recall_tables.ensures.range (AreTablesOf-under_way s c.recall_tables.ensures).valid)
 
 pub returns : goal.returns
 returns c =

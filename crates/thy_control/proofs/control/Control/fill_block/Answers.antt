@@ -21,7 +21,7 @@ move_to_dram-requires-clause-from g c =
     subst_two (λ (t : State) x. IsPlace t.p x) c.self.view_is
     (c.work.ensures ∙ ap work c.cell-cell.ensures)
     (IsPlace-work s.p (cell_of s c.args.b)
-    (IsWithin-cell_of s c.args.b c.tables.ensures c.requires.block))
+    (IsWithin-cell_of s c.args.b c.recall_tables.ensures c.requires.block))
 
 pub marks_after-self-inside-requires : goal.marks_after-self-inside-requires
 marks_after-self-inside-requires g c =
@@ -58,14 +58,14 @@ invariant_of-self-2 g c =
     let fewer = ap (λ (x : PttEntry). now.promoted + (if is_framed x then 1 else 0)) (sym page)
     ∙ c.marks_after-self-inside.ensures.promoted in
     control_is (sym e) (record {
-      tables = AreSoundTables-filled c.args.b s c.requires.fresh m c.tables.ensures c.requires.sized
+      tables = AreSoundTables-filled c.args.b s c.requires.fresh m c.recall_tables.ensures c.requires.sized
           c.requires.block c.requires.due
           c.a_promotion_keeps_versions.ensures c.a_promotion_keeps_others.ensures
-          (subst (λ (t : State). IsListing page_key t.ptt) e c.lists_once.ensures);
-      marks = marks-filled c.args.b s c.requires.fresh m c.tables.ensures marks now
+          (subst (λ (t : State). IsListing page_key t.ptt) e c.recall_lists_once.ensures);
+      marks = marks-filled c.args.b s c.requires.fresh m c.recall_tables.ensures marks now
           c.requires.unframed (omega (arith, c.requires.due))
           before.marks c.marks_after-self-inside.ensures.overlaid fewer;
       cursors = AreCursors-filled c.args.b s m c.self.inside.cursors c.requires.fresh
           c.requires.unframed
-          c.tables.ensures before.cursors;
+          c.recall_tables.ensures before.cursors;
     })

@@ -11,7 +11,7 @@ pub fill_block-requires : goal.fill_block-requires
 fill_block-requires g c =
     let s : State = c.args.self.now in
     let same = sym c.seek_promotion.ensures.same in
-    let next = IsFill-entry s c.tables.ensures c.in-Some.j
+    let next = IsFill-entry s c.recall_tables.ensures c.in-Some.j
     (sym c.seek_promotion.ensures.place ∙ c.in-Some.is) in
     let block = c.block_unfilled-b.ensures
     ∙ ap (block_to_fill c.in-Some.j) c.seek_promotion.ensures.same in

@@ -7,7 +7,7 @@ use Rattle.thy_control.proofs.FrameLemmas.{entry_inside, IsBooting-after, LoadsF
 use Rattle.thy_control.proofs.control.Control.frame_block.Goals as goal
 
 pub load_frame-requires-clause-entry : goal.load_frame-requires-clause-entry
-load_frame-requires-clause-entry g c = entry_inside c.args.j c.args.k c.args.self.now c.tables.ensures c.requires.booting c.requires.may
+load_frame-requires-clause-entry g c = entry_inside c.args.j c.args.k c.args.self.now c.recall_tables.ensures c.requires.booting c.requires.may
 
 pub returns : goal.returns
 returns g c =
@@ -25,9 +25,9 @@ returns g c =
           booting copies.state copies.kept;
       same_writes = c.load_frame.ensures.same_writes;
       keeps = at_result (KeepsCheckpoints s m) r t n copies.state copies.nvm
-          (KeepsCheckpoints-frame c.args.j c.args.k s c.tables.ensures booting c.requires.may m
+          (KeepsCheckpoints-frame c.args.j c.args.k s c.recall_tables.ensures booting c.requires.may m
           c.requires.sized law);
       loads = at_result (LoadsFrame c.args.j c.args.k s m) r t n copies.state copies.nvm
-          (LoadsFrame-frame c.args.j c.args.k s c.tables.ensures booting c.requires.may m
+          (LoadsFrame-frame c.args.j c.args.k s c.recall_tables.ensures booting c.requires.may m
           c.requires.sized law);
     }

@@ -12,7 +12,7 @@ read-requires-clause-place g c =
     let s = c.args.self.now in
     let is : c.work.result ≡ work (cell_of s c.args.b) = c.work.ensures ∙ ap work c.cell-cell.ensures in
     subst (λ (x : Place). IsPlace s.p x) (sym is)
-    (IsPlace-work s.p (cell_of s c.args.b) (IsWithin-cell_of s c.args.b c.tables.ensures c.requires.block))
+    (IsPlace-work s.p (cell_of s c.args.b) (IsWithin-cell_of s c.args.b c.recall_tables.ensures c.requires.block))
 
 pub returns-clause-stays : goal.returns-clause-stays
 returns-clause-stays g c =

@@ -22,7 +22,7 @@ overflow_sub-self c =
     (λ (t : State). AreWorkCounts t.ptt t.btt marks) c.self.view_is c.self.invariant.marks in
     omega (
       arith,
-      overlaid-some c.args.b s c.requires.framed c.requires.work marks c.tables.ensures
+      overlaid-some c.args.b s c.requires.framed c.requires.work marks c.recall_tables.ensures
           c.requires.block c.requires.idle
           c.a_merge_keeps_versions.ensures c.a_dirty_page_keeps_others.ensures before,
     )
@@ -36,17 +36,17 @@ invariant_of-self c =
     let merge = c.a_merge_keeps_versions.ensures in
     let others = c.a_dirty_page_keeps_others.ensures in
     let before = control_is c.self.view_is c.self.invariant in
-    let some = overlaid-some c.args.b s c.requires.framed c.requires.work marks c.tables.ensures
+    let some = overlaid-some c.args.b s c.requires.framed c.requires.work marks c.recall_tables.ensures
     c.requires.block c.requires.idle merge others before.marks in
     control_is (sym e) (record {
-      tables = AreSoundTables-merged c.args.b s c.requires.framed c.requires.work c.tables.ensures
+      tables = AreSoundTables-merged c.args.b s c.requires.framed c.requires.work c.recall_tables.ensures
           c.requires.block c.requires.idle merge others
-          (subst (λ (t : State). IsListing block_key t.btt) e c.lists_once.ensures)
-          (subst (λ (t : State). IsListing page_key t.ptt) e c.lists_once-2.ensures);
+          (subst (λ (t : State). IsListing block_key t.btt) e c.recall_lists_once.ensures)
+          (subst (λ (t : State). IsListing page_key t.ptt) e c.recall_lists_once-2.ensures);
       marks = AreWorkCounts-merged c.args.b s c.requires.framed c.requires.work marks now
-          c.tables.ensures c.requires.block c.requires.idle merge others
+          c.recall_tables.ensures c.requires.block c.requires.idle merge others
           before.marks (omega (arith, some)) refl;
       cursors = AreCursors-merged c.args.b s c.self.inside.cursors c.requires.framed c.requires.work
-          (framed_same c.args.b s c.requires.framed c.requires.work c.tables.ensures
+          (framed_same c.args.b s c.requires.framed c.requires.work c.recall_tables.ensures
           c.requires.block c.requires.idle merge others) before.cursors;
     })

@@ -9,7 +9,7 @@ pub merge_block-requires : goal.merge_block-requires
 merge_block-requires c =
     let s : State = c.args.self.now in
     let same = sym c.seek_overlay.ensures.same in
-    let next = IsOverlay-entry s c.tables.ensures c.in-Some.i
+    let next = IsOverlay-entry s c.recall_tables.ensures c.in-Some.i
     (sym c.seek_overlay.ensures.place ∙ c.in-Some.is) in
     let block = c.block_at-b.ensures ∙ ap (block_listed c.in-Some.i) c.seek_overlay.ensures.same in
     let due = subst_two IsOverlay c.seek_overlay.ensures.same block next in

@@ -14,7 +14,7 @@ returns c =
     let merge = c.a_merge_keeps_versions.ensures in
     let others = c.a_dirty_page_keeps_others.ensures in
     let same = sym c.merge_lowest.ensures in
-    let all = MergesAll-next merge others s c.tables.ensures c.requires.idle c.requires.overlay in
+    let all = MergesAll-next merge others s c.recall_tables.ensures c.requires.idle c.requires.overlay in
     record {
       left = subst (λ (t : State). overlays t + 1 ≡ overlays s) same all.left;
       keeps = subst (λ (t : State). (n : Device) → IsSized s n → KeepsAll s n t n) same
@@ -22,5 +22,5 @@ returns c =
           (same_p-merge s (next_merge s)) (all.each n sized));
       state = c.merge_lowest.ensures;
       stays = subst (λ (t : State). (n : Device) → IsSized s n → Stays s n t n) same
-          (Stays-merge merge others s c.tables.ensures c.requires.idle (next_merge s) refl);
+          (Stays-merge merge others s c.recall_tables.ensures c.requires.idle (next_merge s) refl);
     }

@@ -16,10 +16,10 @@ returns g c =
     let keeps = c.a_page_write_keeps_versions.ensures in
     let others = c.a_page_write_keeps_others.ensures in
     let writes = c.write_lowest.ensures.writes in
-    let all = KeepsNext-write keeps others s m c.tables.ensures c.requires.sized in
+    let all = KeepsNext-write keeps others s m c.recall_tables.ensures c.requires.sized in
     record {
       more = c.write_lowest.ensures.more;
-      left = left_after s m t c.tables.ensures r
+      left = left_after s m t c.recall_tables.ensures r
           writes.state c.write_lowest.ensures.more;
       committed = at_result (KeepsCommitted s m) r t n writes.state writes.nvm all.committed;
       work = at_result (KeepsWork s m) r t n writes.state writes.nvm all.work;
@@ -27,7 +27,7 @@ returns g c =
           writes.nvm all.held;
       writes = writes;
       stays = stays_by keeps others s m t
-          n r c.tables.ensures
+          n r c.recall_tables.ensures
           c.requires.sized c.requires.up writes.state writes.nvm writes.kept writes.err
           writes.frame;
     }

@@ -18,7 +18,7 @@ returns g c =
     let keeps = c.a_promotion_keeps_versions.ensures in
     let others = c.a_promotion_keeps_others.ensures in
     let fills = c.fill_lowest.ensures.fills in
-    let all = KeepsNext-promotion keeps others s m c.tables.ensures c.requires.sized
+    let all = KeepsNext-promotion keeps others s m c.recall_tables.ensures c.requires.sized
     c.requires.promoting in
     record {
       left = at_result (λ t n. unfilled t + 1 ≡ unfilled s) r t n fills.state fills.nvm all.left;
@@ -29,7 +29,7 @@ returns g c =
       side = c.fill_lowest.ensures.side;
       same_writes = c.fill_lowest.ensures.same_writes;
       stays = stays_by keeps others s m t
-          n r c.tables.ensures
+          n r c.recall_tables.ensures
           c.requires.sized c.requires.promoting fills.state fills.nvm fills.kept fills.err
           fills.frame;
     }

@@ -33,7 +33,7 @@ pub block_to_put-put-requires-clause-entry : goal.block_to_put-put-requires-clau
 block_to_put-put-requires-clause-entry g c =
     let w = way_of c.self.view_is c.cell-found.ensures c.store_rule-rule.ensures
     c.place_for_rule-i.ensures in
-    let l = (IsWithin-before c.args.self.now c.args.b c.tables.ensures c.requires.block).entry in
+    let l = (IsWithin-before c.args.self.now c.args.b c.recall_tables.ensures c.requires.block).entry in
     subst (λ (t : State). c.place_for_rule-i.result < t.p.btt) (sym c.self.view_is)
     (omega (arith, l, ap (λ (x : Cell). x.i) (way_cell w)))
 
@@ -47,7 +47,7 @@ write_place-requires-clause-place g c =
     c.place_for_rule-i.ensures in
     subst_two (λ (t : State) x. IsPlace t.p x) c.self.view_is (c.store_place.ensures ∙ way_place w)
     (IsPlace-store s.p (rule_for c.args.b s) (cell_before c.args.b s)
-    (IsWithin-before s c.args.b c.tables.ensures c.requires.block))
+    (IsWithin-before s c.args.b c.recall_tables.ensures c.requires.block))
 
 pub write_place-requires-clause-sized : goal.write_place-requires-clause-sized
 write_place-requires-clause-sized g c = record {
@@ -125,10 +125,10 @@ invariant_of-self-2 g c =
     let low = subst_two (λ q x. AreLowered q x cursors c.lowered-self-inside.result)
     (sym (way_rule w)) (sym (way_cell w)) c.lowered-self-inside.ensures in
     control_is (sym e) (record {
-      tables = AreSoundTables-after c.args.b block s m c.tables.ensures c.requires.sized
+      tables = AreSoundTables-after c.args.b block s m c.recall_tables.ensures c.requires.sized
           c.requires.whole c.requires.block c.requires.room
-          (subst (λ (t : State). IsListing block_key t.btt) e c.lists_once.ensures)
-          (subst (λ (t : State). IsListing page_key t.ptt) e c.lists_once-2.ensures);
+          (subst (λ (t : State). IsListing block_key t.btt) e c.recall_lists_once.ensures)
+          (subst (λ (t : State). IsListing page_key t.ptt) e c.recall_lists_once-2.ensures);
       marks = AreWorkCounts-after c.args.b block s m marks c.after-self-inside.result before.marks
           (has_free s.btt c.requires.room) more
           c.after-self-inside.ensures.promoted;

@@ -12,7 +12,7 @@ use Rattle.thy_control.proofs.control.Control.seal.Goals as goal
 pub returns : goal.returns
 returns c =
     let s : State = c.args.self.now in
-    let t = c.tables.ensures in
+    let t = c.recall_tables.ensures in
     let asks = c.requires in
     let law = c.a_seal_keeps_entries_sound.ensures in
     let takes = c.a_seal_leaves_no_work.ensures in
@@ -36,7 +36,7 @@ returns c =
 pub invariant_of-self : goal.invariant_of-self
 invariant_of-self c = record {
   tables = subst AreSoundTables (sym (returns c).state)
-      (AreSoundTables-sealed c.args.self.now c.tables.ensures c.requires.idle c.requires.whole c.requires.bare
+      (AreSoundTables-sealed c.args.self.now c.recall_tables.ensures c.requires.idle c.requires.whole c.requires.bare
       c.a_seal_keeps_entries_sound.ensures c.a_seal_leaves_no_work.ensures c.a_listing_keeps_versions.ensures);
   marks = c.of-self-inside.ensures;
   cursors = c.start-self-inside.ensures c.seal_pages.new.ptt c.seal_blocks.new.btt;

@@ -18,15 +18,15 @@ returns g c =
     let leaves = c.a_store_leaves_the_target.ensures in
     let asks = c.requires in
     let kept = kept_by t n c.put.result put.state put.nvm put.answer
-    (Kept-after c.a_store_is_read.ensures b block s m c.tables.ensures asks.sized asks.whole
+    (Kept-after c.a_store_is_read.ensures b block s m c.recall_tables.ensures asks.sized asks.whole
     asks.block asks.room) in
     let keeps = checkpoints_by b block s m t n c.put.result kept in
     let holds = hold_by s m t (state_after b block s m) n (devices_after b block s m).nvm
     c.put.result put.state put.nvm
-    (HoldAll-after c.a_store_leaves_what_has_to_stand.ensures b block s m c.tables.ensures
+    (HoldAll-after c.a_store_leaves_what_has_to_stand.ensures b block s m c.recall_tables.ensures
     asks.sized asks.whole asks.block asks.room) in
     let guarded = guarded_by b block s m n c.put.result put.nvm put.err
-    (LeavesGuarded-after elsewhere leaves b s c.tables.ensures asks.whole asks.block asks.room block
+    (LeavesGuarded-after elsewhere leaves b s c.recall_tables.ensures asks.whole asks.block asks.room block
     m n) in
     record {
       answer = put.answer;
@@ -34,12 +34,12 @@ returns g c =
       keeps = keeps;
       state = put.state;
       nvm = put.nvm;
-      free = StoresFree-store elsewhere leaves b s c.tables.ensures asks.whole asks.block asks.room;
+      free = StoresFree-store elsewhere leaves b s c.recall_tables.ensures asks.whole asks.block asks.room;
       holds = holds;
       stays = stays_by b block s m c.put.new.self n c.put.result put.state put.nvm put.kept put.err
-          keeps holds c.tables.ensures asks.sized
+          keeps holds c.recall_tables.ensures asks.sized
           asks.room asks.up
-          (there elsewhere leaves b s c.tables.ensures asks.whole asks.block asks.room) put.frame
+          (there elsewhere leaves b s c.recall_tables.ensures asks.whole asks.block asks.room) put.frame
           guarded;
       kept = put.kept;
       err = put.err;

@@ -17,7 +17,7 @@ move_block-requires-clause-to g c =
     subst_two (λ (t : State) x. IsPlace t.p x) c.self.view_is
     (c.target.ensures ∙ ap target c.cell-cell.ensures)
     (IsPlace-target s.p (cell_of s c.args.b)
-    (IsWithin-cell_of s c.args.b c.tables.ensures c.requires.block))
+    (IsWithin-cell_of s c.args.b c.recall_tables.ensures c.requires.block))
 
 pub returns : goal.returns
 returns g c =
@@ -42,10 +42,10 @@ invariant_of-self-2 g c =
     let e = (returns g c).state in
     let before = control_is c.self.view_is c.self.invariant in
     control_is (sym e) (record {
-      tables = AreSoundTables-issued c.args.b s c.requires.busy m c.tables.ensures c.requires.sized
+      tables = AreSoundTables-issued c.args.b s c.requires.busy m c.recall_tables.ensures c.requires.sized
           c.requires.block c.requires.due
           c.a_page_write_keeps_versions.ensures c.a_page_write_keeps_others.ensures
-          (subst (λ (t : State). IsListing page_key t.ptt) e c.lists_once.ensures);
+          (subst (λ (t : State). IsListing page_key t.ptt) e c.recall_lists_once.ensures);
       marks = AreWorkCounts-issued c.args.b s m marks c.requires.busy before.marks;
       cursors = AreCursors-issued c.args.b s m c.self.inside.cursors c.requires.busy
           (omega (arith, c.requires.due)) before.cursors;

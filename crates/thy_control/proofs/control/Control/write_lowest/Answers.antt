@@ -11,7 +11,7 @@ pub write_block-requires : goal.write_block-requires
 write_block-requires g c =
     let s : State = c.args.self.now in
     let same = sym c.seek_page.ensures.same in
-    let next = IsDue-entry s c.tables.ensures c.in-Some.j
+    let next = IsDue-entry s c.recall_tables.ensures c.in-Some.j
     (sym c.seek_page.ensures.place ∙ c.in-Some.is) in
     let block = c.block_due-b.ensures ∙ ap (block_to_write c.in-Some.j) c.seek_page.ensures.same in
     let due = subst_two IsDue c.seek_page.ensures.same block next in

@@ -1,5 +1,5 @@
 use Rattle.std.proofs.Common.{sym, ◌∙◌, ap, subst}
-use Rattle.thy_view.specs.Advances.{IfAdvanced, IsOthersTurn}
+use Rattle.thy_view.specs.Advances.{IfAdvanced, IsOthersCycle}
 use Rattle.thy_view.specs.Kind.{CanStep, Simulates, FailsSafe}
 use Rattle.thy_view.specs.Restart.{RestartsUnwritten}
 use Rattle.thy_scheme.specs.Kind.{kind_over}
@@ -40,5 +40,5 @@ returns-clause-left g c = λ is.
 
 pub returns-clause-others : goal.returns-clause-others
 returns-clause-others g c = λ is.
-    subst (λ (m : Machine g.row.S.Denot). IsOthersTurn (kind_over g.S.Scheme.scheme) c.args.pick m (g.N.Nvm.device c.args.nvm.now))
+    subst (λ (m : Machine g.row.S.Denot). IsOthersCycle (kind_over g.S.Scheme.scheme) c.args.pick m (g.N.Nvm.device c.args.nvm.now))
     (c.mark_calm.ensures.same ∙ c.self.view_is) (c.step_hart.ensures.others is)

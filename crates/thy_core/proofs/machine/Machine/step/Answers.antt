@@ -1,5 +1,5 @@
 use Rattle.std.proofs.Common.{Ok, sym, ◌∙◌, ap, subst}
-use Rattle.thy_view.specs.Advances.{IfAdvanced, IsOthersTurn}
+use Rattle.thy_view.specs.Advances.{IfAdvanced, IsOthersCycle}
 use Rattle.thy_view.specs.Kind.{Simulates, FailsSafe}
 use Rattle.thy_view.specs.Restart.{RestartsUnwritten}
 use Rattle.thy_scheme.specs.Kind.{kind_over}
@@ -20,8 +20,8 @@ take_other-requires-clause-others g c =
     let K = kind_over g.S.Scheme.scheme in
     let is = c.in-Ok-None.is ∙ ap Ok c.in-Ok-None.field-0-is in
     let left = c.advance.ensures.left is in
-    subst (λ m. IsOthersTurn K c.args.pick m (g.N.Nvm.device c.advance.new.nvm)) (sym left.0)
-    (subst (λ x. IsOthersTurn K c.args.pick c.args.self.now (g.N.Nvm.device x)) (sym left.1) (c.advance.ensures.others is))
+    subst (λ m. IsOthersCycle K c.args.pick m (g.N.Nvm.device c.advance.new.nvm)) (sym left.0)
+    (subst (λ x. IsOthersCycle K c.args.pick c.args.self.now (g.N.Nvm.device x)) (sym left.1) (c.advance.ensures.others is))
 
 pub returns-in-Ok-None-clause-steps : goal.returns-in-Ok-None-clause-steps
 returns-in-Ok-None-clause-steps g c =

@@ -1,5 +1,5 @@
 use Rattle.std.proofs.Common.{sym, subst}
-use Rattle.thy_view.specs.Advances.{IsOthersTurn}
+use Rattle.thy_view.specs.Advances.{IsOthersCycle}
 use Rattle.thy_view.specs.Kind.{CanStep, Simulates, FailsSafe}
 use Rattle.thy_view.specs.Restart.{RestartsUnwritten}
 use Rattle.thy_scheme.specs.Kind.{kind_over}
@@ -9,7 +9,7 @@ use Rattle.thy_core.proofs.machine.Machine.take_other.Goals as goal
 
 pub step_other-requires-clause-others : goal.step_other-requires-clause-others
 step_other-requires-clause-others g c =
-    subst (λ (m : Machine g.row.S.Denot). IsOthersTurn (kind_over g.S.Scheme.scheme) c.args.pick m (g.N.Nvm.device c.args.nvm.now)) (sym c.self.view_is) c.requires.others
+    subst (λ (m : Machine g.row.S.Denot). IsOthersCycle (kind_over g.S.Scheme.scheme) c.args.pick m (g.N.Nvm.device c.args.nvm.now)) (sym c.self.view_is) c.requires.others
 
 pub returns-clause-steps : goal.returns-clause-steps
 returns-clause-steps g c =

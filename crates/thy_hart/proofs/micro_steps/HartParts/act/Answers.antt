@@ -43,5 +43,5 @@ returns-in-Loads-clause-acts g c = c.load.ensures.acts (given c.args.input.now c
 pub returns-in-Stores-clause-acts : goal.returns-in-Stores-clause-acts
 returns-in-Stores-clause-acts g c = c.store.ensures.acts (given c.args.input.now c.args.free c.args.under_way)
 
-pub returns-in-Reserves-clause-acts : goal.returns-in-Reserves-clause-acts
-returns-in-Reserves-clause-acts g c = c.room.ensures.acts c.args.input.now
+pub returns-in-Secures-clause-acts : goal.returns-in-Secures-clause-acts
+returns-in-Secures-clause-acts g c = c.room.ensures.acts c.args.input.now

@@ -4,11 +4,11 @@ use Rattle.thy_isa.specs.declared.state.Effect.{Effect}
 use Rattle.thy_isa.specs.Effects.{word_effect}
 use Rattle.thy_isa.specs.Step.{within}
 use Rattle.thy_isa.proofs.AccessLaws.{within-is}
-use Rattle.thy_hart.specs.HartState.{HartState, reserved, IsSoundHart}
+use Rattle.thy_hart.specs.HartState.{HartState, secured, IsSoundHart}
 use Rattle.thy_hart.specs.InHand.{hart_state_of}
 use Rattle.thy_hart.specs.Outcomes.{begun_with, fetched}
 use Rattle.thy_hart.proofs.FetchLemmas.{span_whole, span_len, effect_read}
-use Rattle.thy_hart.proofs.HandLemmas.{begun_with-sound, begun_with-unreserved}
+use Rattle.thy_hart.proofs.HandLemmas.{begun_with-sound, begun_with-unsecured}
 use Rattle.thy_hart.proofs.micro_steps.HartParts.fetch_at.Goals as goal
 
 pub fetch_word-word-requires-clause-len : goal.fetch_word-word-requires-clause-len
@@ -43,10 +43,10 @@ returns-clause-sound g c =
       pieces = c.begin_word.ensures.pieces;
     }
 
-pub returns-clause-unreserved : goal.returns-clause-unreserved
-returns-clause-unreserved g c =
+pub returns-clause-unsecured : goal.returns-clause-unsecured
+returns-clause-unsecured g c =
     let p = c.args.self.now.geometry in
     let cpu = c.args.self.now.cpu in
     let old : HartState = hart_state_of c.args.self.now in
     let effect : Effect = within p.base (program_size p) cpu.other (word_effect c.fetch_word-word.result cpu.pc cpu.regs) in
-    subst (λ (h : HartState). reserved h.hand ≡ 0) (sym c.begin_word.ensures.hart) (begun_with-unreserved c.args.input.now effect old)
+    subst (λ (h : HartState). secured h.hand ≡ 0) (sym c.begin_word.ensures.hart) (begun_with-unsecured c.args.input.now effect old)

@@ -23,7 +23,7 @@ returns-in-Some-clause-acts g c =
     λ t. subst (λ h. IsActed t c.args.cache.now c.load_at.new.cache h new (Taken Moved)) (ap (λ st. at_stage st c.args.self.now) (sym c.requires.stage))
     (IsActed-taken t c.args.cache.now c.load_at.new.cache old new (first_block s) (Reading (load_of i) s (span 0 0)) refl refl hit
     (IsMicroStep-read t c.args.cache.now c.load_at.new.cache old new (load_of i) s (span 0 0) refl c.load_at.ensures.hart
-    c.load_at.ensures.unreserved c.load_at.ensures.lines c.load_at.ensures.cache))
+    c.load_at.ensures.unsecured c.load_at.ensures.lines c.load_at.ensures.cache))
 
 pub returns-in-None-clause-acts : goal.returns-in-None-clause-acts
 returns-in-None-clause-acts g c = λ t.

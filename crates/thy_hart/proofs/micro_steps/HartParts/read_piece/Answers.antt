@@ -2,8 +2,8 @@ use Rattle.std.proofs.Common.{◌∙◌, ap}
 use Rattle.thy_cache.specs.Contents.{read_from}
 use Rattle.thy_block.specs.declared.span.Span.{Span}
 use Rattle.thy_hart.specs.Outcomes.{begun}
-use Rattle.thy_hart.specs.HartState.{reserved}
-use Rattle.thy_hart.proofs.HandLemmas.{read-sound, begun-unreserved}
+use Rattle.thy_hart.specs.HartState.{secured}
+use Rattle.thy_hart.proofs.HandLemmas.{read-sound, begun-unsecured}
 use Rattle.thy_hart.proofs.micro_steps.HartParts.read_piece.Goals as goal
 
 pub returns-clause-sound : goal.returns-clause-sound
@@ -13,8 +13,8 @@ returns-clause-sound c = record {
       c.requires.reading c.take_head.ensures (c.begun-self.ensures ∙ ap (λ (s : Span). begun c.args.effect s c.args.to) c.rest.ensures);
 }
 
-pub returns-clause-unreserved : goal.returns-clause-unreserved
-returns-clause-unreserved c = ap reserved c.begun-self.ensures ∙ begun-unreserved c.args.effect c.rest.result c.args.to
+pub returns-clause-unsecured : goal.returns-clause-unsecured
+returns-clause-unsecured c = ap secured c.begun-self.ensures ∙ begun-unsecured c.args.effect c.rest.result c.args.to
 
 pub returns-clause-cache : goal.returns-clause-cache
 returns-clause-cache c = c.touch.ensures.cache ∙ ap (λ b. read_from b c.args.cache.now) c.first_block-b.ensures

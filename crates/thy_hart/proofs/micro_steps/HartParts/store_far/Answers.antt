@@ -18,7 +18,7 @@ returns-in-Some-clause-acts c =
     let s : Span = span_of i.access in
     let old : HartState = at_stage Stores c.args.self.now in
     let new : HartState = hart_state_of c.store_at.new.self in
-    let found = found_hits c.args.cache.now c.first_block-b.result c.find.result c.in-Some.place c.find.ensures.hit c.in-Some.is in
+    let found = found_hits c.args.cache.now c.first_block-b.result c.find.result c.in-Some.location c.find.ensures.hit c.in-Some.is in
     let hit = subst (λ b. hits c.args.cache.now b ≡ true) (c.first_block-b.ensures ∙ ap first_block c.span.ensures.span) found in
     let writing = subst (λ st. IsInHand c.args.self.now.geometry (hand_by st i) (length (bytes_by st i))) c.requires.stage c.requires.sound.hart.in_hand in
     λ t. subst (λ h. IsActed t c.args.cache.now c.store_at.new.cache h new (Taken Moved)) (ap (λ st. at_stage st c.args.self.now) (sym c.requires.stage))

@@ -77,7 +77,7 @@ returns-in-Missing-clause-acts g c = λ input.
     let missing = subst (IsActed t x d k l) c.in-Missing.is (c.store.ensures.acts t) in
     (x, k, room, c.room.ensures.sound.hart, (missing.3, missing.2))
 
--- room was not reserved
+-- room was not secured
 pub returns-in_default-clause-acts : goal.returns-in_default-clause-acts
 returns-in_default-clause-acts g c = λ input.
     (c.args.cache.now, hart_state_of c.room.new.self, c.room.ensures.acts input, c.room.ensures.sound.hart, (refl, refl))

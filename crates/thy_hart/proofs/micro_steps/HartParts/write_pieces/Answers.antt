@@ -11,7 +11,7 @@ pub returns-in-Some-clause-acts : goal.returns-in-Some-clause-acts
 returns-in-Some-clause-acts c =
     let old : HartState = pieces_of c.args.self.now in
     let new : HartState = pieces_of c.write_piece.new.self in
-    let found = found_hits c.args.cache.now c.first_block.result c.find.result c.in-Some.place c.find.ensures.hit c.in-Some.is in
+    let found = found_hits c.args.cache.now c.first_block.result c.find.result c.in-Some.location c.find.ensures.hit c.in-Some.is in
     let hit = subst (λ b. hits c.args.cache.now b ≡ true) c.first_block.ensures found in
     let writing = subst (λ hand. IsInHand old.geometry hand (length old.bytes)) c.requires.hand c.requires.sound.in_hand in
     λ t. IsActed-taken t c.args.cache.now c.write_piece.new.cache old new (first_block c.args.to) (Writing c.args.effect c.args.to c.args.done) c.requires.hand refl hit

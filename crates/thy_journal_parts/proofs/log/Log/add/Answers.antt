@@ -11,7 +11,7 @@ pub invariant_of-self : goal.invariant_of-self
 invariant_of-self c =
     IsSoundState-table c.self.inside.geometry c.self.inside.table c.add-place.new.self c.self.inside.dram c.self.invariant
     (ap (λ (t : Listing Listed). length t.entries) c.add-place.ensures.table ∙ length-added c.new.result c.self.inside.table)
-    (ap (λ (t : Listing Listed). t.numbers) c.add-place.ensures.table) c.lists_once.ensures
+    (ap (λ (t : Listing Listed). t.numbers) c.add-place.ensures.table) c.recall_lists_once.ensures
 
 pub returns-clause-log : goal.returns-clause-log
 returns-clause-log c =

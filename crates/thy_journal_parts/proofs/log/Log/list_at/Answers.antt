@@ -9,4 +9,4 @@ pub invariant_of-self : goal.invariant_of-self
 invariant_of-self c =
     IsSoundState-table c.self.inside.geometry c.self.inside.table c.put.new.self c.self.inside.dram c.self.invariant
     (ap (λ (t : Listing Listed). length t.entries) c.put.ensures ∙ length-set c.self.inside.table.entries c.args.i (Some c.new.result))
-    (ap (λ (t : Listing Listed). t.numbers) c.put.ensures) c.lists_once.ensures
+    (ap (λ (t : Listing Listed). t.numbers) c.put.ensures) c.recall_lists_once.ensures

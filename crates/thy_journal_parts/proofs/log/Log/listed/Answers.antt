@@ -11,4 +11,4 @@ returns-clause-inside c =
     let s : State = c.args.self.now in
     subst (λ (b : ℕ). b < memory_blocks s.p)
     (sym (c.block_or_zero.ensures ∙ ap listed_by c.entry.ensures ∙ ap (λ (t : State). listed_by (entry_at t.table c.args.i)) c.self.view_is))
-    (block_listed-inside s c.args.i c.sound.ensures)
+    (block_listed-inside s c.args.i c.recall_sound.ensures)

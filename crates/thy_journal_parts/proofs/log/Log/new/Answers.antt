@@ -12,6 +12,6 @@ invariant_of-result c = record {
       ∙ length-empty c.numbers-numbers.result.btt c.memory_blocks.result
       ∙ ap (λ (q : Parameters). q.btt) c.numbers-numbers.ensures.same;
   numbers = ap (λ (t : Listing Listed). t.numbers) c.in_ok-table.ensures ∙ c.memory_blocks.ensures.blocks;
-  once = c.lists_once.ensures;
+  once = c.recall_lists_once.ensures;
   dram_size = c.requires;
 }

@@ -1,6 +1,6 @@
-use Rattle.thy_dual_parts.specs.Design.{dual_design}
-use Rattle.thy_dual_parts.proofs.PartsLemmas.{are_parts}
-use Rattle.thy_dual_parts.specs.Scheme.{dual_scheme}
+use Rattle.thy_thynvm_parts.specs.Design.{thynvm_design}
+use Rattle.thy_thynvm_parts.proofs.PartsLemmas.{are_parts}
+use Rattle.thy_thynvm_parts.specs.Scheme.{thynvm_scheme}
 use Rattle.thy_parts.proofs.BootStepLemmas.{may-step}
 use Rattle.thy_waiting_laws.proofs.BootLemmas.{below-boots}
 use Rattle.thy_machine_tests.proofs.CallLemmas.{boots-on, boot-fails-on, boot-stays, boot-writes, boot-made}
@@ -9,8 +9,8 @@ use Rattle.thy_machine_tests.proofs.scheme.WaitingSchemeScheme.boot_step.Goals a
 pub take_boot_step-requires-clause-can : goal.take_boot_step-requires-clause-can
 take_boot_step-requires-clause-can g c =
     let can = c.requires.boots in
-    may-step dual_design are_parts c.args.start.now c.args.self.now.below (g.N.Nvm.device c.args.nvm.now)
-    (record { o = can.o; begins = can.begins; booting = below-boots dual_scheme can.o c.args.self.now (g.N.Nvm.device c.args.nvm.now) can.booting })
+    may-step thynvm_design are_parts c.args.start.now c.args.self.now.below (g.N.Nvm.device c.args.nvm.now)
+    (record { o = can.o; begins = can.begins; booting = below-boots thynvm_scheme can.o c.args.self.now (g.N.Nvm.device c.args.nvm.now) can.booting })
 
 pub take_boot_step-requires-clause-fits : goal.take_boot_step-requires-clause-fits
 take_boot_step-requires-clause-fits g c = c.requires.boots.booting.boots.below.boot

@@ -1,7 +1,7 @@
-use Rattle.thy_dual_parts.specs.Design.{dual_design}
-use Rattle.thy_dual_parts.proofs.PartsLemmas.{are_parts}
+use Rattle.thy_thynvm_parts.specs.Design.{thynvm_design}
+use Rattle.thy_thynvm_parts.proofs.PartsLemmas.{are_parts}
 use Rattle.thy_compose.proofs.CallLemmas.{cut_sized}
 use Rattle.thy_machine_tests.proofs.scheme.WaitingSchemeScheme.cut.Goals as goal
 
 pub returns-clause-sized : goal.returns-clause-sized
-returns-clause-sized c = λ p of. cut_sized dual_design are_parts c.args.self.below c.args.pick c.power_off.result c.power_off.ensures p of
+returns-clause-sized c = λ p of. cut_sized thynvm_design are_parts c.args.self.below c.args.pick c.power_off.result c.power_off.ensures p of

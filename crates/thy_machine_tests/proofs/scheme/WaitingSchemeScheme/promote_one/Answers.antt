@@ -1,6 +1,6 @@
 use Rattle.thy_block.specs.Device.{Device}
 use Rattle.thy_parts.specs.Calls.{promoted}
-use Rattle.thy_dual_parts.specs.Design.{dual_design}
+use Rattle.thy_thynvm_parts.specs.Design.{thynvm_design}
 use Rattle.thy_compose.proofs.CallLemmas.{promoted_then}
 use Rattle.thy_waiting_laws.specs.Waiting.{Waiting}
 use Rattle.thy_machine_tests.specs.Calls.{Below, with_below}
@@ -31,11 +31,11 @@ pub returns-clause-left : goal.returns-clause-left
 returns-clause-left g c =
     let w : Waiting Below = c.args.self.now in
     let n : Device = g.N.Nvm.device c.args.nvm.now in
-    promotion-stays w c.promote_next.new.self (with_below (promoted dual_design w.below n) w) c.promote_next.result c.promote_next.ensures.promotes
+    promotion-stays w c.promote_next.new.self (with_below (promoted thynvm_design w.below n) w) c.promote_next.result c.promote_next.ensures.promotes
 
 pub returns-clause-exact : goal.returns-clause-exact
 returns-clause-exact g c =
     let w : Waiting Below = c.args.self.now in
     let n : Device = g.N.Nvm.device c.args.nvm.now in
-    promoted_then (with_below (promoted dual_design w.below n) w) w c.promote_next.new.self n (g.N.Nvm.device c.promote_next.new.nvm)
+    promoted_then (with_below (promoted thynvm_design w.below n) w) w c.promote_next.new.self n (g.N.Nvm.device c.promote_next.new.nvm)
     c.promote_next.result c.promote_next.ensures.promotes c.promote_next.ensures.reads

@@ -1,11 +1,11 @@
 use Rattle.thy_waiting_laws.proofs.RunLemmas.{neither}
 use Rattle.thy_waiting_laws.specs.Waiting.{is_waiting}
-use Rattle.thy_dual_parts.specs.Scheme.{dual_scheme}
+use Rattle.thy_thynvm_parts.specs.Scheme.{thynvm_scheme}
 use Rattle.thy_machine_tests.proofs.CallLemmas.{seals-on}
 use Rattle.thy_machine_tests.proofs.scheme.WaitingSchemeScheme.seal.Goals as goal
 
 pub seal_epoch-requires-clause-idle : goal.seal_epoch-requires-clause-idle
-seal_epoch-requires-clause-idle c = (neither (dual_scheme.under_way c.args.self.now.below) (is_waiting c.args.self.now) c.requires.idle).0
+seal_epoch-requires-clause-idle c = (neither (thynvm_scheme.under_way c.args.self.now.below) (is_waiting c.args.self.now) c.requires.idle).0
 
 pub returns-clause-seals : goal.returns-clause-seals
 returns-clause-seals c = λ o k n stands.

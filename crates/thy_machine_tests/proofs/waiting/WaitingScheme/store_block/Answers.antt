@@ -2,7 +2,7 @@ use Rattle.std.proofs.Common.{subst}
 use Rattle.thy_block.specs.Device.{Device}
 use Rattle.thy_checkpoint.specs.Progress.{Acts}
 use Rattle.thy_parts.specs.Calls.{stored}
-use Rattle.thy_dual_parts.specs.Design.{dual_design, dual_parts}
+use Rattle.thy_thynvm_parts.specs.Design.{thynvm_design, thynvm_parts}
 use Rattle.thy_waiting_laws.specs.Waiting.{Waiting}
 use Rattle.thy_machine_tests.specs.Calls.{Below, with_below}
 use Rattle.thy_machine_tests.proofs.CallLemmas.{acts-over}
@@ -14,7 +14,7 @@ returns-clause-acts g c =
     let n : Device = g.N.Nvm.device c.args.nvm.now in
     let m : Device = g.N.Nvm.device c.store_block.new.nvm in
     subst (λ (w : Waiting Below).
-    Acts (dual_parts.store_action c.args.b c.args.block.now w.below.control) (with_below (stored dual_design c.args.b c.args.block.now w.below n) w)
+    Acts (thynvm_parts.store_action c.args.b c.args.block.now w.below.control) (with_below (stored thynvm_design c.args.b c.args.block.now w.below n) w)
     c.store_block.result w n (with_below c.store_block.new.self v) m) c.self.view_is
-    (acts-over (dual_parts.store_action c.args.b c.args.block.now v.below.control) (stored dual_design c.args.b c.args.block.now v.below n)
+    (acts-over (thynvm_parts.store_action c.args.b c.args.block.now v.below.control) (stored thynvm_design c.args.b c.args.block.now v.below n)
     c.store_block.result v n c.store_block.new.self m c.store_block.ensures.acts)

@@ -1,7 +1,7 @@
 use Rattle.std.proofs.Common.{◌≡◌, ℕ, List, [], false, length, sym, ap, subst, ◌∙◌}
 use Rattle.thy_block.specs.declared.nvm.Write.{Write}
 use Rattle.thy_block.specs.Device.{Device, Crash, IsCut, cut_to}
-use Rattle.thy_ring.specs.Held.{Held}
+use Rattle.thy_write_queue.specs.Held.{Held}
 use Rattle.thy_nvm.specs.Kept.{Cuts, with_cut}
 use Rattle.thy_nvm.specs.DeviceInMemory.{InMemory, device_in}
 use Rattle.thy_nvm.specs.Pick.{landing}

@@ -7,8 +7,8 @@ use Rattle.thy_observe.proofs.ChangeLemmas.{changed-one}
 use Rattle.thy_observe.proofs.changes.Changes.add.Goals as goal
 
 pub returns : goal.returns
-returns c = λ told seen h.
-    let t = taken c.args.stepped.now told c.args.fell in
+returns c = λ reported seen h.
+    let t = taken c.args.stepped.now reported c.args.fell in
     let cycle = c.args.cycle in
     let now : cycle ≡ length seen + 1 = omega (arith, c.requires.2, c.requires.1.0, h.0) in
     let middle = c.listed_with-listed.result in

@@ -21,9 +21,9 @@ with_cycle-row-requires-clause-waits c =
     grind (arith, few, c.requires.2, c.ranges.cycle.fits, c.waiting_in.ensures)
 
 pub returns-in-None : goal.returns-in-None
-returns-in-None c = λ told seen h.
+returns-in-None c = λ reported seen h.
     let e = c.args.self.now in
-    AreEpochs-goes e _ seen (taken c.args.stepped.now told c.args.fell) c.with_cycle-row.result c.args.cycle c.index_of-cause.result c.waiting_in.result h
+    AreEpochs-goes e _ seen (taken c.args.stepped.now reported c.args.fell) c.with_cycle-row.result c.args.cycle c.index_of-cause.result c.waiting_in.result h
     (next-cycle e c.requires.0 seen c.args.cycle c.requires.1 h c.requires.2)
     (c.index_of-cause.ensures.index ∙ ap cause_index (c.cause_of.ensures ∙ ap (cause_of e.under_way) c.kind_of.ensures))
     c.waiting_in.ensures
@@ -35,9 +35,9 @@ returns-in-None c = λ told seen h.
     refl
 
 pub returns-in-Some : goal.returns-in-Some
-returns-in-Some c = λ told seen h.
+returns-in-Some c = λ reported seen h.
     let e = c.args.self.now in
-    AreEpochs-ends e _ seen (taken c.args.stepped.now told c.args.fell) c.with_cycle-row.result c.args.cycle c.index_of-cause.result c.waiting_in.result h
+    AreEpochs-ends e _ seen (taken c.args.stepped.now reported c.args.fell) c.with_cycle-row.result c.args.cycle c.index_of-cause.result c.waiting_in.result h
     (next-cycle e c.requires.0 seen c.args.cycle c.requires.1 h c.requires.2)
     (c.index_of-cause.ensures.index ∙ ap cause_index (c.cause_of.ensures ∙ ap (cause_of e.under_way) c.kind_of.ensures))
     c.waiting_in.ensures

@@ -14,9 +14,9 @@ overflow_add-self c =
     omega (arith, is, by-few at seen, c.requires.2, c.ranges.cycle.fits)
 
 pub returns : goal.returns
-returns c = λ told seen h.
+returns c = λ reported seen h.
     let l = c.args.self.now in
-    IsLedger-one l _ seen (taken c.args.stepped.now told c.args.fell) c.index_of-at.result h
+    IsLedger-one l _ seen (taken c.args.stepped.now reported c.args.fell) c.index_of-at.result h
     (c.index_of-at.ensures.index ∙ ap cause_index (c.cause_of.ensures ∙ ap (cause_of l.under_way) c.kind_of.ensures))
     c.index_of-at.ensures.within
     refl

@@ -25,7 +25,7 @@ shares_after_step-requires c =
 
 pub returns : goal.returns
 returns c = λ seen h.
-    let x = taken c.args.stepped.now c.args.told c.args.fell in
+    let x = taken c.args.stepped.now c.args.reported c.args.fell in
     let t = c.args.self.now in
     let at : c.index_of-at.result ≡ index_of (kind_of c.args.stepped.now.did) = c.index_of-at.ensures.index ∙ ap index_of c.kind_of.ensures in
     let now : c.args.cycle ≡ length seen + 1 = omega (arith, c.requires.2, c.requires.1.cycles, h.cycles) in
@@ -41,6 +41,6 @@ returns c = λ seen h.
     let m = c.add_event_cycle-self.ensures.added whole in (
       m.0,
       m.1
-          ∙ ap (λ p. t.event_cycles.items ++ (if c.args.told == 0 then [] else record { cycle = c.args.cycle; retired = p; told = c.args.told; fell = c.args.fell } ∷ [])) c.retired_after_step-retired.ensures
+          ∙ ap (λ p. t.event_cycles.items ++ (if c.args.reported == 0 then [] else record { cycle = c.args.cycle; retired = p; reported = c.args.reported; fell = c.args.fell } ∷ [])) c.retired_after_step-retired.ensures
           ∙ ap (λ k. t.event_cycles.items ++ event_cycle_of k t.retired x) now,
     ))

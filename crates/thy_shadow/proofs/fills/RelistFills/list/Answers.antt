@@ -26,4 +26,4 @@ list-requires-clause-unbegun c = c.requires.fresh.unframed.unbegun
 pub returns : goal.returns
 returns c =
     lists_on c.args.commit.now (blocks_of c.args.slot.now) c.args.control.now c.list.new.self c.requires.fresh
-    c.sound.ensures c.list.ensures.map c.list.ensures.same
+    c.recall_sound.ensures c.list.ensures.map c.list.ensures.same

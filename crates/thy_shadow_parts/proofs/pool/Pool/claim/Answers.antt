@@ -1,6 +1,6 @@
 use Rattle.std.proofs.Common.{◌≡◌, ◌<◌, ◌+◌, ℕ, None, sym, ◌∙◌, ap, subst}
 use Rattle.thy_block.specs.declared.parameters.Parameters.{Parameters}
-use Rattle.thy_table.specs.Listing.{place_of, free_count, added}
+use Rattle.thy_table.specs.Listing.{index_of, free_count, added}
 use Rattle.thy_shadow_parts.specs.declared.entry.Framed.{Framed}
 use Rattle.thy_shadow_parts.specs.declared.entry.Held.{Held}
 use Rattle.thy_shadow_parts.specs.Keys.{number_key, held, framed}
@@ -18,7 +18,7 @@ add-requires-2-clause-unlisted c =
     let number : c.numbers.result.pages + c.free_frame-j.result ≡ s.p.pages + free_frame s
     = ap (λ (p : Parameters). p.pages + c.free_frame-j.result) c.numbers.ensures.same
     ∙ ap (λ (j : ℕ). s.p.pages + j) (c.free_frame-j.ensures.frame ∙ sym (ap free_frame c.self.view_is)) in
-    ap (λ (e : Held). place_of number_key e.number s.pool) c.new-2.ensures ∙ ap (λ (n : ℕ). place_of number_key n s.pool) number
+    ap (λ (e : Held). index_of number_key e.number s.pool) c.new-2.ensures ∙ ap (λ (n : ℕ). index_of number_key n s.pool) number
     ∙ unclaimed_free s c.self.invariant c.args.x page unframed room
 
 pub invariant_of-self : goal.invariant_of-self

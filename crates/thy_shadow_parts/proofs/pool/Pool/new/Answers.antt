@@ -15,5 +15,5 @@ invariant_of-result c =
     let frames = c.in_ok-frames.ensures ∙ ap (λ (q : Parameters). empty_table {E = Framed} q.ptt q.pages) c.numbers-numbers.ensures.same in
     coe 1 0 (i. IsSoundState (state_in p (pool i) (frames i) None c.args.dram))
     (IsSoundState-new p c.args.dram c.numbers-numbers.ensures.in_range c.requires
-    (subst (λ (t : Listing Held). IsListing number_key t) pool c.lists_once.ensures)
-    (subst (λ (t : Listing Framed). IsListing page_key t) frames c.lists_once-2.ensures))
+    (subst (λ (t : Listing Held). IsListing number_key t) pool c.recall_lists_once.ensures)
+    (subst (λ (t : Listing Framed). IsListing page_key t) frames c.recall_lists_once-2.ensures))

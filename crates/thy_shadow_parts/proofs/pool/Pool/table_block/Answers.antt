@@ -11,7 +11,7 @@ pub table_block-requires : goal.table_block-requires
 table_block-requires c =
     let s : State = c.args.self.now in
     subst (λ (es : List (Option ℕ)). HaveWords es) (sym c.listed_in.ensures)
-    (HaveWords-eight (next_table s) c.args.k (HaveWords-map s.p (next_table s) c.sound.ensures.range (IsMap-next s c.sound.ensures)))
+    (HaveWords-eight (next_table s) c.args.k (HaveWords-map s.p (next_table s) c.recall_sound.ensures.range (IsMap-next s c.recall_sound.ensures)))
 
 pub returns : goal.returns
 returns c =

@@ -1,5 +1,5 @@
 use Rattle.std.proofs.Common.{◌≡◌, true, false, List, Some, None, get_or, sym, ◌∙◌, ap}
-use Rattle.thy_table.specs.Listing.{lists, place_of, indexed_at}
+use Rattle.thy_table.specs.Listing.{lists, index_of, indexed_at}
 use Rattle.thy_table.proofs.IndexLemmas.{position-indexed, position-unindexed}
 use Rattle.thy_table.proofs.table.Table.find.Goals as goal
 
@@ -13,7 +13,7 @@ returns-then-lists-clause-place g c =
     ∙ ap (λ places. indexed_at c.self.inside.leaders.items places n) c.deref-2.ensures.value in
     let here : lists key n (get_or es c.indexed-place.result None) ≡ true
     = ap (λ (xs : List _). lists key n (get_or xs c.indexed-place.result None)) (sym c.deref-3.ensures.value) ∙ sym c.lists.ensures ∙ c.if-lists.true in
-    ap Some at ∙ sym (position-indexed key _ _ _ _ _ _ c.self.invariant n (ap (λ i. lists key n (get_or es i None)) (sym at) ∙ here)) ∙ ap (place_of key n) c.self.view_is
+    ap Some at ∙ sym (position-indexed key _ _ _ _ _ _ c.self.invariant n (ap (λ i. lists key n (get_or es i None)) (sym at) ∙ here)) ∙ ap (index_of key n) c.self.view_is
 
 pub returns-else-lists-clause-place : goal.returns-else-lists-clause-place
 returns-else-lists-clause-place g c =
@@ -25,4 +25,4 @@ returns-else-lists-clause-place g c =
     ∙ ap (λ places. indexed_at c.self.inside.leaders.items places n) c.deref-2.ensures.value in
     let here : lists key n (get_or es c.indexed-place.result None) ≡ false
     = ap (λ (xs : List _). lists key n (get_or xs c.indexed-place.result None)) (sym c.deref-3.ensures.value) ∙ sym c.lists.ensures ∙ c.if-lists.false in
-    sym (position-unindexed key _ _ _ _ _ _ c.self.invariant n (ap (λ i. lists key n (get_or es i None)) (sym at) ∙ here)) ∙ ap (place_of key n) c.self.view_is
+    sym (position-unindexed key _ _ _ _ _ _ c.self.invariant n (ap (λ i. lists key n (get_or es i None)) (sym at) ∙ here)) ∙ ap (index_of key n) c.self.view_is

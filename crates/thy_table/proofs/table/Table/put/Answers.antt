@@ -1,6 +1,6 @@
 use Rattle.std.proofs.Common.{◌≡◌, ◌<◌, ◌/◌, [], None, if◌then◌else◌, List, length, get_or, position, ◌∙◌, ap, arith}
 use Rattle.std.proofs.lemmas.List.{get_or_read}
-use Rattle.thy_table.specs.Listing.{place_of, lists, leads, entry_at}
+use Rattle.thy_table.specs.Listing.{index_of, lists, leads, entry_at}
 use Rattle.thy_table.proofs.IndexLemmas.{IsSoundTable-put, some-free, group-inside, leader_with-inside}
 use Rattle.thy_table.proofs.table.Table.put.Goals as goal
 
@@ -19,7 +19,7 @@ invariant_of-self g c =
     let m = key c.args.entry / 16 in
     let inside : c.args.place < length es = omega (arith, c.requires.inside, ap (λ t. length t.entries) c.self.view_is) in
     let room : key c.args.entry < c.self.inside.numbers = omega (arith, c.requires.number, ap (λ t. t.numbers) c.self.view_is) in
-    let unlisted : position (lists key (key c.args.entry)) es ≡ None = ap (place_of key (key c.args.entry)) c.self.view_is ∙ c.requires.unlisted in
+    let unlisted : position (lists key (key c.args.entry)) es ≡ None = ap (index_of key (key c.args.entry)) c.self.view_is ∙ c.requires.unlisted in
     let old : c.index.result.now ≡ get_or leaders m 0
     = get_or_read leaders m c.index.result.now (group-inside key _ _ _ _ _ _ c.self.invariant (key c.args.entry) room)
     (c.index.ensures ∙ ap (λ n. get_or leaders (n / 16) c.index.result.now) c.key-number.ensures) 0 in

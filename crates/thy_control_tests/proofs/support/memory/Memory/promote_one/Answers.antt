@@ -17,6 +17,6 @@ invariant_of-self g c =
     let made : t ≡ after_promotion (next_promotion s) s m
     = subst (λ r. OnOk r (t ≡ after_promotion (next_promotion s) s m)) c.expect.ensures c.promote_one.ensures.fills.state in
     IsMemory-stays c.self.inside.geometry e s t m n c.self.inside.cuts c.self.invariant
-    (c.engine_and_controller_fit.ensures.stays e s m t n c.tables.ensures
+    (c.engine_and_controller_fit.ensures.stays e s m t n c.recall_tables.ensures
     (promoted-rests e s t m c.self.invariant.fits c.has_promotion.ensures made) c.self.invariant.fits c.promote_one.ensures.stays)
     c.promote_one.ensures.stays (ap (λ (d : Device). d.down) is) c.promote_one.ensures.fills.frame

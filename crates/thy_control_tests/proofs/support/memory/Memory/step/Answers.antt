@@ -2,9 +2,9 @@ use Rattle.std.proofs.Common.{◌≡◌, OnOk, ◌∙◌, ap, subst}
 use Rattle.thy_block.specs.Device.{Device}
 use Rattle.thy_table.specs.Places.{image_blocks}
 use Rattle.thy_control.specs.State.{State}
-use Rattle.thy_dual_parts.specs.Design.{items_dual}
+use Rattle.thy_thynvm_parts.specs.Design.{items_thynvm}
 use Rattle.thy_checkpoint.specs.Progress.{Progress, action_next, engine_next}
-use Rattle.thy_dual_parts.specs.Filling.{filling_dual}
+use Rattle.thy_thynvm_parts.specs.Filling.{filling_thynvm}
 use Rattle.thy_view.specs.Action.{after}
 use Rattle.thy_control_tests.proofs.MemoryLemmas.{IsMemory-item}
 use Rattle.thy_control_tests.proofs.support.memory.Memory.step.Goals as goal
@@ -19,8 +19,8 @@ invariant_of-self g c =
     let m : Device = c.self.inside.nvm.device in
     let f : Progress = c.step.new.self in
     let n : Device = c.step.new.nvm.device in
-    let engine : f ≡ engine_next filling_dual items_dual e s
-    = subst (λ r. OnOk r (f ≡ engine_next filling_dual items_dual e s)) c.expect.ensures c.step.ensures.engine in
+    let engine : f ≡ engine_next filling_thynvm items_thynvm e s
+    = subst (λ r. OnOk r (f ≡ engine_next filling_thynvm items_thynvm e s)) c.expect.ensures c.step.ensures.engine in
     IsMemory-item c.self.inside.geometry e f s c.step.new.control m n c.self.inside.cuts c.self.invariant c.step.ensures.fits
     (ap (λ (x : Progress). x.p) engine)
-    (subst (λ r. OnOk r (n ≡ after (action_next filling_dual items_dual e s m) m)) c.expect.ensures c.step.ensures.device) c.step.ensures.frame
+    (subst (λ r. OnOk r (n ≡ after (action_next filling_thynvm items_thynvm e s m) m)) c.expect.ensures c.step.ensures.device) c.step.ensures.frame

@@ -17,6 +17,6 @@ invariant_of-self g c =
     let after : Device = (devices_after c.args.b c.args.block.now s m).nvm in
     let is : n ≡ after = subst (λ r. OnOk r (n ≡ after)) c.expect-stored.ensures c.store.ensures.nvm in
     IsMemory-stays c.self.inside.geometry e s t m n c.self.inside.cuts c.self.invariant
-    (c.engine_and_controller_fit.ensures.stays e s m t n c.tables.ensures (whole-rests t c.is_whole.ensures) c.self.invariant.fits c.store.ensures.stays)
+    (c.engine_and_controller_fit.ensures.stays e s m t n c.recall_tables.ensures (whole-rests t c.is_whole.ensures) c.self.invariant.fits c.store.ensures.stays)
     c.store.ensures.stays (ap (λ (d : Device). d.down) is ∙ down-after c.args.b c.args.block.now s m)
     c.store.ensures.frame

@@ -9,4 +9,4 @@ invariant_of-result g c =
     c.self.inside.cuts c.self.invariant
     (CanStart-least c.self.inside.geometry s c.has_least_memory.ensures.in_range c.has_least_memory.ensures.pages c.has_least_memory.ensures.console c.has_least_memory.ensures.harts
     c.requires)
-    c.new_boot-boot.ensures c.new_controller-control.ensures c.tables.ensures
+    c.new_boot-boot.ensures c.new_controller-control.ensures c.recall_tables.ensures

@@ -14,4 +14,4 @@ invariant_of-self g c =
     let is : s ≡ stored = subst (λ r. OnOk r (s ≡ stored)) c.expect-stored.ensures c.store.ensures.pool in
     let same : new ≡ n = subst (λ r. OnOk r (new ≡ n)) c.expect-stored.ensures c.store.ensures.same in
     AreParts-store c.self.inside.geometry c.self.inside.pool s c.self.inside.engine n new c.self.inside.cuts c.args.b c.args.block.now
-    c.self.invariant c.is_idle.ensures c.sound.ensures is same c.store.ensures.frame
+    c.self.invariant c.is_idle.ensures c.recall_sound.ensures is same c.store.ensures.frame

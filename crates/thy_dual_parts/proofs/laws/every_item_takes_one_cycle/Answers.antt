@@ -1,5 +1,0 @@
-use Rattle.thy_dual_parts.proofs.CycleLemmas.{items_count}
-use Rattle.thy_dual_parts.proofs.laws.every_item_takes_one_cycle.Goals as goal
-
-pub returns : goal.returns
-returns c = items_count

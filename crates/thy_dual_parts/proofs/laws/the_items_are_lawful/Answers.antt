@@ -1,5 +1,0 @@
-use Rattle.thy_dual_parts.proofs.ItemLemmas.{items_are}
-use Rattle.thy_dual_parts.proofs.laws.the_items_are_lawful.Goals as goal
-
-pub returns : goal.returns
-returns c = items_are

@@ -1,5 +1,0 @@
-use Rattle.thy_dual_parts.proofs.PageLemmas.{is_paging}
-use Rattle.thy_dual_parts.proofs.laws.the_pages_are_lawful.Goals as goal
-
-pub returns : goal.returns
-returns c = is_paging
