@@ -5,7 +5,7 @@ use Rattle.std.specs.Option.{option_map}
 use Rattle.thy_block.specs.declared.block.Block.{Block}
 use Rattle.thy_block.specs.declared.store.Stored.{Stored}
 use Rattle.thy_block.specs.declared.store.Stored.TheVariants.{Done, CopyFirst}
-use Rattle.thy_block.specs.Store.{Holding, HasStored, page_of}
+use Rattle.thy_block.specs.Store.{Holding, HasStored, StoresOver, page_of}
 use Rattle.thy_cache.specs.declared.line.Line.{Line}
 use Rattle.thy_cache.specs.declared.line.LineLocation.{LineLocation}
 use Rattle.thy_cache.specs.declared.line.Victim.{Victim}
@@ -151,6 +151,18 @@ pub record StoresLine (stored : Stored) (o : Option Line) (old new : Holding) : 
   pub line : Line
   pub stands : o ≡ Some line
   pub store : HasStored stored line.at line.block old new
+
+-- this line was stored, by a call of the store that returned this
+pub record StoresBy {S N : Type 0} (stores : StoresOver S N) (stored : Stored) (o : Option Line) (a : S) (m : N) (b : S) (n : N) : Type 0 where
+  pub line : Line
+  pub stands : o ≡ Some line
+  pub made : stores line.at line.block stored a m b n
+
+-- a step of a flush stores the first dirty line
+abbrev pub FlushesBy : {S N : Type 0} → StoresOver S N → Flushed → Contents → S → N → S → N → Type 0
+FlushesBy stores Clean c a m b n = Unit {0}
+FlushesBy stores StoredLine c a m b n = StoresBy stores Done (dirty_line c) a m b n
+FlushesBy stores CopiedFirst c a m b n = StoresBy stores CopyFirst (dirty_line c) a m b n
 
 -- what a step of a flush does to the store: nothing, or its own store of the first dirty line
 abbrev pub HasFlushed : Flushed → Contents → Holding → Holding → Type 0

@@ -3,7 +3,7 @@ ghost use Rattle.std.specs.Prelude.{◌≡◌, ◌≢◌, ◌<◌, ◌≤◌, �
 ghost use Rattle.thy_block.specs.Device.{block_at, CountsOneFault};
 ghost use Rattle.thy_block.specs.Store.{IsKeptByLoad};
 ghost use Rattle.thy_cache.specs.Ways.{is_dirty, line_at, victim_way, has_dirty};
-ghost use Rattle.thy_cache.specs.Contents.{Contents, empty_cache, set_at, set_of, index_of, victim_line_of, is_dirty_victim, cleaned_at, filled_with, evicted_for, stored_at, dirty_set, dirty_way, dirty_line, HasNoneDirty, IsSized, KeepsSize, KeepsOpen, flushed_from, HasFlushed, CountsFlushed, StoresLine, CountsStored, line_of, location_of, peeked, hits, victim_of, dirty_count, read_from, written_at};
+ghost use Rattle.thy_cache.specs.Contents.{Contents, empty_cache, set_at, set_of, index_of, victim_line_of, is_dirty_victim, cleaned_at, filled_with, evicted_for, stored_at, dirty_set, dirty_way, dirty_line, HasNoneDirty, IsSized, KeepsSize, KeepsOpen, flushed_from, HasFlushed, CountsFlushed, StoresLine, StoresBy, FlushesBy, CountsStored, line_of, location_of, peeked, hits, victim_of, dirty_count, read_from, written_at};
 ghost use Rattle.thy_cache.specs.Flat.{flat, Agrees, PeeksSame, HitsSame, ReadsAs, AgreesWithAll, ReadsAsStore, KeepsLines, IsWritten};
 
 use crate::line::{Flushed, Line, LineLocation, Victim};
@@ -303,6 +303,8 @@ impl Cache {
         ensures cache { IfOk result (λ stored. self.new ≡ stored_at stored set way self.old) }
         ensures store { IfOk result (λ stored.
             StoresLine stored (line_at (set_at self.old set) way) (S.holding store.old nvm.old) (S.holding store.new nvm.new)) }
+        ensures made { IfOk result (λ stored.
+            StoresBy S.stores stored (line_at (set_at self.old set) way) store.old nvm.old store.new nvm.new) }
         ensures err { OnErr result (self.new ≡ self.old) }
 
         ensures peeks { PeeksSame self.old self.new }
@@ -343,6 +345,8 @@ impl Cache {
         ensures cache { IfOk result (λ stored. self.new ≡ evicted_for stored b self.old) }
         ensures store { IfOk result (λ stored.
             StoresLine stored (victim_line_of self.old b) (S.holding store.old nvm.old) (S.holding store.new nvm.new)) }
+        ensures made { IfOk result (λ stored.
+            StoresBy S.stores stored (victim_line_of self.old b) store.old nvm.old store.new nvm.new) }
         ensures err { OnErr result (self.new ≡ self.old) }
         ensures room { result ≡ Ok Stored.Done → victim_of self.new b ≡ Victim.Room }
 
@@ -386,6 +390,7 @@ impl Cache {
         requires room { dirty_count self.old ≤ (S.holding store.old nvm.old).free }
         ensures cache { IfOk result (λ flushed. self.new ≡ flushed_from flushed self.old) }
         ensures store { IfOk result (λ flushed. HasFlushed flushed self.old (S.holding store.old nvm.old) (S.holding store.new nvm.new)) }
+        ensures made { IfOk result (λ flushed. FlushesBy S.stores flushed self.old store.old nvm.old store.new nvm.new) }
         ensures err { OnErr result (self.new ≡ self.old) }
 
         // Once no line is dirty the store's list is the flat list.

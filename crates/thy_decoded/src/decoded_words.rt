@@ -1,121 +1,105 @@
-//! The words that were executed last, with the instructions that they mean.
+//! The words that were executed last, with what they mean.
 
-ghost use Rattle.std.specs.Prelude.{◌≡◌, ◌<◌, slice_index};
-ghost use Rattle.thy_isa.specs.Effects.{word_effect};
+ghost use Rattle.std.specs.Prelude.{◌≡◌, ◌<◌};
 ghost use Rattle.thy_isa.specs.Table.{instr_of};
+ghost use Rattle.thy_decoded.specs.Found.{instr_by};
 
-use crate::effects::instr_effect;
+use crate::found::{Found, found_of};
 use std::marker::Model;
-use thy_isa::{Cause, Effect, Instr, Regs, decode};
 
-/// A word and the instruction that it means, found once.
+/// A word and what it means, found once.
 #[derive(Clone, Copy)]
 struct DecodedWord {
     word: u32,
-    instr: Option<Instr>,
+    found: Found,
 }
 
 impl Model for DecodedWord {
-    ghost use Rattle.std.specs.Prelude.{ℕ, ◌≡◌};
+    ghost use Rattle.std.specs.Prelude.{◌≡◌};
     ghost use Rattle.thy_isa.specs.Table.{instr_of};
+    ghost use Rattle.thy_decoded.specs.Found.{Kept, instr_by};
 
-    ghost Value = { ℕ };
+    ghost Value = { Kept };
 
-    ghost view = { λ d. d.word };
+    ghost view = { λ d. record { word = d.word; found = d.found } };
 
-    ghost invariant = { λ d. d.instr ≡ instr_of d.word };
+    ghost invariant = { λ d. instr_by d.word d.found ≡ instr_of d.word };
 
-    ghost inverse = { λ w. record { word = w; instr = instr_of w } };
+    ghost inverse = { λ k. record { word = k.word; found = k.found } };
 }
 
 impl DecodedWord {
-    /// A word, with the instruction that it means.
-    #[inline(never)]
+    /// A word, with what it means.
     fn new(word: u32) -> DecodedWord
-        ensures { result ≡ word }
+        ensures { result.word ≡ word }
     {
         DecodedWord {
             word,
-            instr: decode(word),
+            found: found_of(word),
         }
     }
 
-    /// The word.
-    #[inline(always)]
-    fn word(&self) -> u32
-        ensures { result ≡ self.now }
+    /// Holds this word in place of another one.
+    #[inline(never)]
+    fn replace(&mut self, word: u32)
+        ensures { self.new.word ≡ word }
     {
-        self.word
+        *self = DecodedWord::new(word);
     }
 
-    /// The instruction that the word means.
+    /// Holds this word, as it mostly does already.
     #[inline(always)]
-    fn instr(&self) -> &Option<Instr>
-        ensures { result.now ≡ instr_of self.now }
+    fn keep(&mut self, word: u32)
+        ensures { self.new.word ≡ word }
     {
-        &self.instr
+        if self.word != word {
+            self.replace(word);
+        }
+    }
+
+    /// What the word means.
+    #[inline(always)]
+    fn found(&self) -> &Found
+        ensures { instr_by self.now.word result.now ≡ instr_of self.now.word }
+    {
+        &self.found
     }
 }
 
-/// How many words are kept.
-const KEPT: u32 = 64;
+/// How many words are kept: a power of two.
+const KEPT: u64 = 256;
 
-/// An odd number whose bits are mixed.
-const SCATTER: u32 = 0x9e37_79b1;
-
-/// The words that were executed last, one at each of 64 places. What they mean depends on nothing else: not on the memory that they
-/// are in, nor on who executes them.
+/// The words that were executed last, one at each of 256 places. What they mean depends on nothing else: not on the memory that
+/// they are in, nor on who executes them.
 #[derive(Drop)]
 pub struct DecodedWords {
-    words: [DecodedWord; 64],
+    words: [DecodedWord; 256],
 }
 
 impl DecodedWords {
     /// Words that were not executed yet.
     pub fn new() -> DecodedWords {
         DecodedWords {
-            words: [DecodedWord::new(0); 64],
+            words: [DecodedWord::new(0); 256],
         }
     }
 
-    /// Where a word is kept: the high bits of a product, which depend on all bits of the word.
+    /// Where the word at an address is kept. So no two words of a loop of at most 256 have one place.
     #[inline(always)]
-    fn place_of(word: u32) -> usize
-        ensures { result < 64 }
+    fn place_of(at: u64) -> usize
+        ensures { result < 256 }
     {
-        ((word.wrapping_mul(SCATTER) >> 26) % KEPT) as usize
+        (at / 4 % KEPT) as usize
     }
 
-    /// Keeps a word at its place.
+    /// What a word at `pc` means.
     #[inline(always)]
-    fn keep(&mut self, place: usize, word: u32)
-        requires { place < 64 }
-        ensures { slice_index self.new.words place ≡ word }
+    pub fn found(&mut self, word: u32, pc: u64) -> &Found
+        ensures { instr_by word result.now ≡ instr_of word }
     {
-        if self.words[place].word() != word {
-            self.words[place] = DecodedWord::new(word);
-        }
-    }
-
-    /// The instruction that a word means, as `decode` of thy_isa says.
-    #[inline(always)]
-    pub fn instr(&mut self, word: u32) -> &Option<Instr>
-        ensures { result.now ≡ instr_of word }
-    {
-        let place = DecodedWords::place_of(word);
-        self.keep(place, word);
+        let place = DecodedWords::place_of(pc);
+        self.words[place].keep(word);
         let kept = &*self;
-        kept.words[place].instr()
-    }
-
-    /// What a word at `pc` does with these registers, as `word_effect` of thy_isa says.
-    #[inline(always)]
-    pub fn effect(&mut self, word: u32, pc: u64, regs: &Regs) -> Effect
-        ensures { result ≡ word_effect word pc regs.now }
-    {
-        match self.instr(word) {
-            Some(instr) => instr_effect(instr, pc, regs),
-            None => Effect::Trap(Cause::Illegal),
-        }
+        kept.words[place].found()
     }
 }

@@ -1,5 +1,5 @@
 -- The fetch reads one block.
-use Rattle.std.proofs.Common.{◌≡◌, ℕ, ◌+◌, ◌-◌, ◌%◌, ◌^◌, ◌<◌, ◌≤◌, ◌==◌, Bool, true, false, if◌then◌else◌, List, ◌++◌, length, Option, Some, None, Ok, Err, refl, sym, ◌∙◌, ap, subst, drop, append-nil, arith}
+use Rattle.std.proofs.Common.{◌≡◌, ℕ, ◌+◌, ◌-◌, ◌*◌, ◌/◌, ◌%◌, ◌^◌, ◌<◌, ◌≤◌, ◌==◌, Bool, true, false, if◌then◌else◌, List, ◌++◌, length, Option, Some, None, Ok, Err, refl, sym, ◌∙◌, ap, subst, drop, append-nil, arith}
 use Rattle.std.proofs.lemmas.Bool.Decides.{nat_tests}
 use Rattle.thy_block.specs.declared.block.Block.{Block}
 use Rattle.thy_block.specs.declared.parameters.Parameters.{Parameters}
@@ -83,6 +83,12 @@ offset-fetched p pc r fits below fours =
     let aligned : pc % 4 ≡ 0 = omega (arith, found.0, found.1, base, fours) in
     let high : pc + 4 ≤ p.base + program_size p = omega (arith, found.0, found.1, below, fours) in
     inside_by (pc % 4 == 0) (is_inside p.base (program_size p) pc 4) (grind (arith, nat_tests)) (grind (arith, nat_tests))
+
+-- an offset that is low with its low two bits in front is low, and they are 0
+pub turned-below : (size at : ℕ) → size < 2 ^ 64 → at % 4 * 2 ^ 62 + at / 4 < size / 4 → (at < size) × (at % 4 ≡ 0)
+turned-below size at fits h =
+    let fours : at % 4 ≡ 0 = omega (arith, fits, h) in
+    (omega (arith, h, fours), fours)
 
 -- the span of that word
 pub fetched-offset : (p q : Parameters) (size pc : ℕ) → IsInRange p → q ≡ p → size ≡ program_size p → pc < 2 ^ 64

@@ -2,7 +2,7 @@
 use Rattle.std.proofs.Common.{◌≡◌, ◌⊎◌, ℕ, ◌+◌, ◌-◌, ◌<◌, ◌≤◌, Bool, true, false, not, if◌then◌else◌, length, Option, Some, None, refl, sym, ◌∙◌, ap, subst, inl, inr, arith}
 use Rattle.thy_block.specs.Device.{block_at}
 use Rattle.thy_block.specs.Geometry.{memory_blocks, program_size}
-use Rattle.thy_block.specs.Store.{Holding}
+use Rattle.thy_block.specs.Store.{Holding, StoresOver}
 use Rattle.thy_cache.specs.Contents.{Contents, hits, victim_of, dirty_count}
 use Rattle.thy_cache.specs.Flat.{flat, Agrees}
 use Rattle.thy_block.specs.Flat.{AllLong}
@@ -17,8 +17,8 @@ use Rattle.thy_hart.specs.declared.hand.HartStep.{HartStep}
 use Rattle.thy_hart.specs.declared.hand.HartStep.TheVariants.{Moved, Retired, Waiting, Over}
 use Rattle.thy_hart.specs.HartState.{HartState, fetched_block, block_for, next_block, secured, IsInHand, IsSoundHart}
 use Rattle.thy_hart.specs.Outcomes.{Given, acted_by, answer_by, memory_by}
-use Rattle.thy_hart.specs.Bring.{IsNearer, BringsLine, IsBrought}
-use Rattle.thy_hart.specs.Moments.{Moment, moment, is_missing, IsOpenInTheWay, IsOpenFor, IsReady, touch_left}
+use Rattle.thy_hart.specs.Bring.{BringsBy, CallsStore, IsNearer, BringsLine, IsBrought}
+use Rattle.thy_hart.specs.Moments.{Moment, moment, is_missing, brings_line, IsOpenInTheWay, IsOpenFor, IsReady, touch_left}
 use Rattle.thy_hart.specs.MicroSteps.{HitsNext, IsMicroStep}
 use Rattle.thy_hart.specs.OneStep.{coming, ComesNearer, Nears, Closes, IsStep}
 use Rattle.thy_hart.proofs.FetchLemmas.{fetched_inside, word_inside, unless_some}
@@ -177,3 +177,19 @@ IsStep-acted g h k c d held step free s r hit a =
       long = w.long;
       console = w.console;
     }
+
+-- ---- which call of the store is made
+
+module _ {S N : Type 0} (loads : S → N → S → N → Type 0) (stores : StoresOver S N) where
+  pub called-none : (x : Moment) (d : Contents) (s : S) (m : N) (t : S) (n : N) → HitsNext x.cache (next_block x.hart)
+      → CallsStore loads stores (brings_line x) (next_block x.hart) x.cache d s m t n
+  called-none x d s m t n hit =
+      subst (λ brings. CallsStore loads stores brings (next_block x.hart) x.cache d s m t n)
+      (sym (hit_not_missing x.cache (next_block x.hart) hit)) tt
+
+  pub called-line : (b : ℕ) (x : Moment) (d : Contents) (s : S) (m : N) (t : S) (n : N) → next_block x.hart ≡ Some b → hits x.cache b ≡ false
+      → BringsBy loads stores (victim_of x.cache b) b x.cache d s m t n
+      → CallsStore loads stores (brings_line x) (next_block x.hart) x.cache d s m t n
+  called-line b x d s m t n is miss by =
+      subst (λ block. CallsStore loads stores (is_missing x.cache block) block x.cache d s m t n) (sym is)
+      (subst (λ brings. CallsStore loads stores brings (Some b) x.cache d s m t n) (sym (ap not miss)) by)

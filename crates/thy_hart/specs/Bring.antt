@@ -1,12 +1,11 @@
--- Part of the claim.
 -- What bringing a missing line a step nearer does.
-use Rattle.std.specs.Prelude.{◌≡◌, ◌⊎◌, ℕ, ◌+◌, ◌≤◌, length, Some}
+use Rattle.std.specs.Prelude.{◌≡◌, ◌⊎◌, ℕ, ◌+◌, ◌≤◌, Bool, true, length, Option, Some}
 use Rattle.thy_block.specs.declared.store.Stored.{Stored}
 use Rattle.thy_block.specs.Device.{block_at}
-use Rattle.thy_block.specs.Store.{Holding}
+use Rattle.thy_block.specs.Store.{Holding, StoresOver}
 use Rattle.thy_cache.specs.declared.line.Victim.{Victim}
 use Rattle.thy_cache.specs.declared.line.Victim.TheVariants.{Room, Dirty}
-use Rattle.thy_cache.specs.Contents.{Contents, victim_of, dirty_count, filled_with, evicted_for, KeepsSize}
+use Rattle.thy_cache.specs.Contents.{Contents, victim_of, victim_line_of, dirty_count, filled_with, evicted_for, KeepsSize, StoresBy}
 use Rattle.thy_cache.specs.Flat.{flat, Agrees}
 use Rattle.thy_hart.specs.Moments.{IsOpenFor, touch_steps}
 
@@ -19,6 +18,24 @@ IsNearer b old before new now =
 abbrev pub BringsLine : Victim → ℕ → Contents → Holding → Contents → Type 0
 BringsLine Room b old before new = new ≡ filled_with b (block_at before.blocks b) old
 BringsLine (Dirty at) b old before new = (stored : Stored) × (new ≡ evicted_for stored b old)
+
+-- ---- which call of the store that makes
+
+-- the line in the way was stored, or a copy came first
+pub record EvictsBy {S N : Type 0} (stores : StoresOver S N) (b : ℕ) (old new : Contents) (s : S) (m : N) (t : S) (n : N) : Type 0 where
+  pub stored : Stored
+  pub cache : new ≡ evicted_for stored b old
+  pub made : StoresBy stores stored (victim_line_of old b) s m t n
+
+-- a load if there is room, else the store of the line in the way
+abbrev pub BringsBy : {S N : Type 0} → (S → N → S → N → Type 0) → StoresOver S N → Victim → ℕ → Contents → Contents → S → N → S → N → Type 0
+BringsBy loads stores Room b old new s m t n = loads s m t n
+BringsBy loads stores (Dirty at) b old new s m t n = EvictsBy stores b old new s m t n
+
+-- which call of the store a hart makes: the one that brings the line of the block that is touched next, if one is brought
+abbrev pub CallsStore : {S N : Type 0} → (S → N → S → N → Type 0) → StoresOver S N → Bool → Option ℕ → Contents → Contents → S → N → S → N → Type 0
+CallsStore loads stores true (Some b) old new s m t n = BringsBy loads stores (victim_of old b) b old new s m t n
+CallsStore loads stores brings block old new s m t n = Unit {0}
 
 -- memory is as before, and its block is a step nearer
 pub record IsBrought (b : ℕ) (old : Contents) (before : Holding) (new : Contents) (now : Holding) : Type 0 where

@@ -1,9 +1,9 @@
 //! A line that is missing.
 ghost use Rattle.std.specs.Prelude.{◌≡◌, true, false, ◌<◌, ◌≤◌, length, OnOk, OnErr};
 ghost use Rattle.thy_block.specs.Device.{CountsOneFault};
-ghost use Rattle.thy_cache.specs.Contents.{hits, dirty_count, KeepsSize};
+ghost use Rattle.thy_cache.specs.Contents.{hits, victim_of, dirty_count};
 ghost use Rattle.thy_cache.specs.Flat.{Agrees};
-ghost use Rattle.thy_hart.specs.Bring.{IsBrought};
+ghost use Rattle.thy_hart.specs.Bring.{BringsBy, IsBrought};
 ghost use Rattle.thy_hart.specs.Moments.{IsOpenFor};
 
 use thy_block::{BlockStore, NvmError};
@@ -26,6 +26,8 @@ pub(crate) fn bring<N, S: BlockStore<N>>(
     ensures brought { OnOk result (IsBrought b
         cache.old (S.holding store.old nvm.old)
         cache.new (S.holding store.new nvm.new)) }
+    ensures called { OnOk result (BringsBy S.loads S.stores (victim_of cache.old b) b
+        cache.old cache.new store.old nvm.old store.new nvm.new) }
     ensures err { OnErr result (cache.new ≡ cache.old) }
     ensures once { S.once store.old nvm.old store.new nvm.new }
     ensures loads { dirty_count cache.old ≡ 0 → S.loads store.old nvm.old store.new nvm.new }

@@ -1,12 +1,13 @@
 //! The hart and its calls.
-ghost use Rattle.std.specs.Prelude.{◌≡◌, ◌≢◌, ◌⊎◌, None, false, ◌+◌, ◌<◌, ◌≤◌, ◌^◌, IfOk, OnErr};
+ghost use Rattle.std.specs.Prelude.{◌≡◌, ◌≢◌, ◌⊎◌, None, false, ◌+◌, ◌<◌, ◌≤◌, ◌^◌, IfOk, OnOk, OnErr};
 ghost use Rattle.thy_block.specs.Device.{CountsOneFault};
 ghost use Rattle.thy_cache.specs.Contents.{dirty_count};
 ghost use Rattle.thy_isa.specs.declared.state.Status.TheVariants.{Running};
 ghost use Rattle.thy_isa.specs.Step.{cpu_crossed};
 ghost use Rattle.thy_hart.specs.declared.hand.Hand.TheVariants.{Nothing};
 ghost use Rattle.thy_hart.specs.Epoch.{next_epoch};
-ghost use Rattle.thy_hart.specs.HartState.{new_hart, to_secure};
+ghost use Rattle.thy_hart.specs.Bring.{CallsStore};
+ghost use Rattle.thy_hart.specs.HartState.{new_hart, next_block, to_secure};
 ghost use Rattle.thy_hart.specs.Outcomes.{given};
 ghost use Rattle.thy_hart.specs.Moments.{moment, brings_line, IsReady};
 ghost use Rattle.thy_hart.specs.OneStep.{IsStep};
@@ -23,6 +24,7 @@ use thy_block::{BlockStore, Geometry, NvmError};
 use thy_cache::Cache;
 use thy_decoded::DecodedWords;
 use thy_isa::CpuState;
+use thy_processor::Fronted;
 
 /// The hart in front, of RV64IM, with its epoch and the other hart, if there are two. It executes an instruction in
 /// micro-steps.
@@ -51,7 +53,7 @@ impl Hart {
         Hart {
             parts: HartParts {
                 geometry: *geometry,
-                cpu: *cpu,
+                cpu: Fronted::of(cpu),
                 epoch: EpochState::new(span, epoch),
                 hand: InHand::nothing(),
                 decoded: DecodedWords::new(),
@@ -60,10 +62,10 @@ impl Hart {
     }
 
     /// The processor, as the last instruction that retired left it.
-    pub fn cpu(&self) -> &CpuState
-        ensures { result.now ≡ self.now.cpu }
+    pub fn cpu(&self) -> CpuState
+        ensures { result ≡ self.now.cpu }
     {
-        &self.parts.cpu
+        self.parts.cpu.cpu()
     }
 
     /// The epoch under execution.
@@ -101,7 +103,7 @@ impl Hart {
         requires { self.old.hand ≡ Nothing }
         ensures { self.new ≡ record self.old { cpu = cpu_crossed self.old.cpu } }
     {
-        thy_isa::cross(&mut self.parts.cpu);
+        self.parts.cpu.cross();
     }
 
     /// Takes one step, a cycle. If the step touches a block that is not in the cache, it brings the line nearer and the
@@ -133,6 +135,11 @@ impl Hart {
         // A failure leaves hart and cache.
         ensures hart { OnErr result (self.new ≡ self.old) }
         ensures cache { OnErr result (cache.new ≡ cache.old) }
+
+        // A line is brought by a load of its block, if there is room, and else by the store of the line in its way.
+        ensures called { let old = moment self.old cache.old (S.holding store.old nvm.old) in
+            OnOk result (CallsStore S.loads S.stores (brings_line old) (next_block self.old)
+            cache.old cache.new store.old nvm.old store.new nvm.new) }
 
         // The store is called once at most, not at all if no line is brought, and for a load if no line is dirty.
         ensures untouched { brings_line (moment self.old cache.old (S.holding store.old nvm.old)) ≡ false

@@ -12,9 +12,11 @@ ghost use Rattle.thy_isa.specs.declared.state.CallState.{CallState as Calls};
 ghost use Rattle.thy_isa.specs.declared.state.Effect.TheVariants.{Next, Set, Read, Write, Environment};
 ghost use Rattle.thy_isa.specs.Effects.{size_of, word_effect};
 ghost use Rattle.thy_isa.specs.Moves.{number_in};
+ghost use Rattle.thy_isa.specs.Regs.{reg_at};
 ghost use Rattle.thy_isa.specs.Step.{finished as effect_finished, within};
 ghost use Rattle.thy_block.specs.Inside.{is_inside};
 ghost use Rattle.thy_hart.specs.declared.in_hand.Stage.TheVariants.{Idle, Loads, Secures, Stores};
+ghost use Rattle.thy_processor.specs.Processor.{IsAloneIf};
 ghost use Rattle.thy_hart.specs.HartState.{secured, blocks_of, to_secure};
 ghost use Rattle.thy_hart.specs.Outcomes.{Given, begun_with, written_by, block_written, room_secured, room_answer, retired, over_or_retired, epoch_retired, given};
 ghost use Rattle.thy_hart.specs.InHand.{span_of, load_of, store_of, value_bytes, at_stage, hart_state_of, ArePieces, IsSoundParts};
@@ -28,17 +30,21 @@ use crate::hand::{HartStep, MicroStep, ShortStep};
 use crate::in_hand::{Access, InHand, Stage};
 use thy_block::{EndCause, Geometry, Span};
 use thy_cache::{Cache, LineLocation};
-use thy_decoded::{DecodedWords, holds, operated};
+use thy_decoded::{DecodedWords, Found, holds};
 use thy_isa::{
-    Cause, CpuState, Effect, Extend, Instr, Reg, Width, after, bytes_in, fetch_fault, finish_alone,
-    is_running, number, within, word,
+    Cause, Effect, Extend, Reg, Width, after, alu, bytes_in, fetch_fault, is_running, number, word,
+    word_effect,
 };
+use thy_processor::Fronted;
+
+/// A quarter of the numbers of 64 bits.
+const QUARTER: u64 = 1 << 62;
 
 /// What a hart is made of.
 #[derive(Drop)]
 pub(crate) struct HartParts {
     pub geometry: Geometry,
-    pub cpu: CpuState,
+    pub cpu: Fronted,
     pub epoch: EpochState,
     pub hand: InHand,
     pub decoded: DecodedWords,
@@ -80,9 +86,10 @@ pub(crate) fn blocks_of(span: Span) -> u64
     if span.rest().is_empty() { 1 } else { 2 }
 }
 
-// The micro-steps take a type `N`, which none of them uses: that of device and store together. So the compiler has a copy of
-// them for each device and scheme, called from one place, and makes it part of the loop over cycles. What is rare is called, and
-// takes no reference to what the loop has in registers.
+// The micro-steps take a type `N`, which none of them uses: that of device and store together, and in a row of one hart of
+// several a pair with it. So the compiler has a copy of them for each device, scheme and whether the hart is alone, called from
+// one place, and makes that of a hart that is alone part of the loop over cycles. What is rare is called, and takes no reference
+// to what the loop has in registers.
 impl HartParts {
     /// How many blocks the instruction in hand is to secure room for, if that is its next micro-step.
     pub fn to_secure(&self) -> Option<u64>
@@ -102,18 +109,21 @@ impl HartParts {
         }
     }
 
-    /// The four bytes of memory at the program counter, or why no word can be fetched there. Two comparisons of the offset show
-    /// that they lie inside: base and size of program memory are multiples of four, and an address below the base has a greater
-    /// offset than its size.
+    /// The four bytes of memory at the program counter, or why no word can be fetched there. One comparison shows that they lie
+    /// inside: of the offset with its low two bits in front, which is low only if they are 0. Base and size of program memory are
+    /// multiples of four, and an address below the base has a greater offset than its size.
     #[inline(always)]
-    fn fetched_span(&self) -> Result<Span, Cause>
-        requires { IsInRange self.now.geometry }
+    fn fetched_span(&self, alone: bool) -> Result<Span, Cause>
+        requires range { IsInRange self.now.geometry }
+        requires alone { IsAloneIf alone self.now.cpu }
         ensures { IsFetchedSpan self.now.geometry self.now.cpu result }
     {
         let base = self.geometry.numbers().base;
-        let size = self.geometry.program_size();
-        let at = self.cpu.pc.wrapping_sub(base);
-        if at < size && at % 4 == 0 {
+        let words = self.geometry.program_size() / 4;
+        let pc = self.cpu.pc(alone);
+        let at = pc.wrapping_sub(base);
+        let turned = at % 4 * QUARTER + at / 4;
+        if turned < words {
             Ok(Span { at, len: 4 })
         } else {
             self.tested_span()
@@ -127,10 +137,11 @@ impl HartParts {
     {
         let base = self.geometry.numbers().base;
         let size = self.geometry.program_size();
-        match fetch_fault(base, size, self.cpu.pc) {
+        let pc = self.cpu.pc(false);
+        match fetch_fault(base, size, pc) {
             Some(cause) => Err(cause),
             None => Ok(Span {
-                at: self.cpu.pc - base,
+                at: pc - base,
                 len: 4,
             }),
         }
@@ -285,64 +296,134 @@ impl HartParts {
         }
     }
 
+    /// The number of a register, of a hart that is alone if `alone` says so.
+    #[inline(always)]
+    fn operand<N>(&self, alone: bool, reg: Reg) -> u64
+        requires { IsAloneIf alone self.now.cpu }
+        ensures { result ≡ reg_at self.now.cpu.regs reg }
+    {
+        self.cpu.regs(alone).get(reg)
+    }
+
     /// Takes in hand what a word means that was fetched at the program counter. The most frequent instructions are taken here;
     /// no effect is made of them.
     #[inline(always)]
-    #[tactic(auto, unfolding(thy_isa::specs::Effects::effect_of, thy_isa::specs::Step::within))]
-    fn begin_word<N>(&mut self, word: u32, input: &[u8])
+    #[tactic(auto, unfolding(thy_decoded::specs::Found::instr_by, thy_isa::specs::Arith::alu_of, thy_isa::specs::Effects::effect_of, thy_isa::specs::Step::within))]
+    fn begin_word<N>(&mut self, alone: bool, word: u32, input: &[u8])
         requires range { IsInRange self.old.geometry }
+        requires alone { IsAloneIf alone self.old.cpu }
         ensures hart { let p = self.old.geometry in let cpu = self.old.cpu in
             hart_state_of self.new ≡ begun_with input.now
             (within p.base (program_size p) cpu.other (word_effect word cpu.pc cpu.regs)) (hart_state_of self.old) }
         ensures pieces { ArePieces self.new.hand }
     {
-        let pc = self.cpu.pc;
-        let Some(instr) = self.decoded.instr(word) else {
-            return self.begin_rarely(word, input);
-        };
-        match *instr {
-            Instr::OpImm { op, rd, rs1, imm } => {
-                let value = operated(op, self.cpu.regs.get(rs1), imm);
+        let pc = self.cpu.pc(alone);
+        let found = self.decoded.found(word, pc);
+        match *found {
+            Found::AddImm { rd, rs1, imm } => {
+                let value = self.operand::<N>(alone, rs1).wrapping_add(imm);
                 self.begin_set::<N>(rd, after(pc), value);
             }
-            Instr::Op { op, rd, rs1, rs2 } => {
-                let value = operated(op, self.cpu.regs.get(rs1), self.cpu.regs.get(rs2));
+            Found::SllImm { rd, rs1, imm } => {
+                let value = self.operand::<N>(alone, rs1) << (imm & 63);
                 self.begin_set::<N>(rd, after(pc), value);
             }
-            Instr::Load {
+            Found::XorImm { rd, rs1, imm } => {
+                let value = self.operand::<N>(alone, rs1) ^ imm;
+                self.begin_set::<N>(rd, after(pc), value);
+            }
+            Found::SrlImm { rd, rs1, imm } => {
+                let value = self.operand::<N>(alone, rs1) >> (imm & 63);
+                self.begin_set::<N>(rd, after(pc), value);
+            }
+            Found::OrImm { rd, rs1, imm } => {
+                let value = self.operand::<N>(alone, rs1) | imm;
+                self.begin_set::<N>(rd, after(pc), value);
+            }
+            Found::AndImm { rd, rs1, imm } => {
+                let value = self.operand::<N>(alone, rs1) & imm;
+                self.begin_set::<N>(rd, after(pc), value);
+            }
+            Found::OpImm { op, rd, rs1, imm } => {
+                let value = alu(op, self.operand::<N>(alone, rs1), imm);
+                self.begin_set::<N>(rd, after(pc), value);
+            }
+            Found::Add { rd, rs1, rs2 } => {
+                let value = self
+                    .operand::<N>(alone, rs1)
+                    .wrapping_add(self.operand::<N>(alone, rs2));
+                self.begin_set::<N>(rd, after(pc), value);
+            }
+            Found::Sub { rd, rs1, rs2 } => {
+                let value = self
+                    .operand::<N>(alone, rs1)
+                    .wrapping_sub(self.operand::<N>(alone, rs2));
+                self.begin_set::<N>(rd, after(pc), value);
+            }
+            Found::Sll { rd, rs1, rs2 } => {
+                let value = self.operand::<N>(alone, rs1) << (self.operand::<N>(alone, rs2) & 63);
+                self.begin_set::<N>(rd, after(pc), value);
+            }
+            Found::Xor { rd, rs1, rs2 } => {
+                let value = self.operand::<N>(alone, rs1) ^ self.operand::<N>(alone, rs2);
+                self.begin_set::<N>(rd, after(pc), value);
+            }
+            Found::Srl { rd, rs1, rs2 } => {
+                let value = self.operand::<N>(alone, rs1) >> (self.operand::<N>(alone, rs2) & 63);
+                self.begin_set::<N>(rd, after(pc), value);
+            }
+            Found::Or { rd, rs1, rs2 } => {
+                let value = self.operand::<N>(alone, rs1) | self.operand::<N>(alone, rs2);
+                self.begin_set::<N>(rd, after(pc), value);
+            }
+            Found::And { rd, rs1, rs2 } => {
+                let value = self.operand::<N>(alone, rs1) & self.operand::<N>(alone, rs2);
+                self.begin_set::<N>(rd, after(pc), value);
+            }
+            Found::Op { op, rd, rs1, rs2 } => {
+                let value = alu(
+                    op,
+                    self.operand::<N>(alone, rs1),
+                    self.operand::<N>(alone, rs2),
+                );
+                self.begin_set::<N>(rd, after(pc), value);
+            }
+            Found::Load {
                 width,
                 extend,
                 rd,
                 rs1,
                 imm,
             } => {
-                let at = self.cpu.regs.get(rs1).wrapping_add(imm);
+                let at = self.operand::<N>(alone, rs1).wrapping_add(imm);
                 match self.access_at::<N>(at, width) {
                     Some(access) => self.begin_access::<N>(rd, extend, after(pc), at, access),
                     None => self.begin_rarely(word, input),
                 }
             }
-            Instr::Store {
+            Found::Store {
                 width,
                 rs1,
                 rs2,
                 imm,
             } => {
-                let at = self.cpu.regs.get(rs1).wrapping_add(imm);
-                let value = self.cpu.regs.get(rs2);
+                let at = self.operand::<N>(alone, rs1).wrapping_add(imm);
+                let value = self.operand::<N>(alone, rs2);
                 match self.access_at::<N>(at, width) {
                     Some(access) => self.begin_change::<N>(after(pc), at, value, access),
                     None => self.begin_rarely(word, input),
                 }
             }
-            Instr::Branch {
+            Found::Branch {
                 cond,
                 rs1,
                 rs2,
                 imm,
             } => {
                 let target = pc.wrapping_add(imm);
-                if !holds(cond, self.cpu.regs.get(rs1), self.cpu.regs.get(rs2)) {
+                let a = self.operand::<N>(alone, rs1);
+                let b = self.operand::<N>(alone, rs2);
+                if !holds(cond, a, b) {
                     self.begin_jump::<N>(after(pc));
                 } else if target % 4 == 0 {
                     self.begin_jump::<N>(target);
@@ -350,9 +431,9 @@ impl HartParts {
                     self.begin_rarely(word, input);
                 }
             }
-            Instr::Lui { rd, imm } => self.begin_set::<N>(rd, after(pc), imm),
-            Instr::Auipc { rd, imm } => self.begin_set::<N>(rd, after(pc), pc.wrapping_add(imm)),
-            Instr::Jal { rd, imm } => {
+            Found::Lui { rd, imm } => self.begin_set::<N>(rd, after(pc), imm),
+            Found::Auipc { rd, imm } => self.begin_set::<N>(rd, after(pc), pc.wrapping_add(imm)),
+            Found::Jal { rd, imm } => {
                 let target = pc.wrapping_add(imm);
                 if target % 4 == 0 {
                     self.begin_set::<N>(rd, target, after(pc));
@@ -360,14 +441,16 @@ impl HartParts {
                     self.begin_rarely(word, input);
                 }
             }
-            Instr::Jalr { .. }
-            | Instr::Fence
-            | Instr::FenceI
-            | Instr::Ecall
-            | Instr::Ebreak
-            | Instr::LoadReserved { .. }
-            | Instr::StoreConditional { .. }
-            | Instr::AtomicOp { .. } => self.begin_rarely(word, input),
+            Found::Jalr { rd, rs1, imm } => {
+                let sum = self.operand::<N>(alone, rs1).wrapping_add(imm);
+                let target = sum - sum % 2;
+                if target % 4 == 0 {
+                    self.begin_set::<N>(rd, target, after(pc));
+                } else {
+                    self.begin_rarely(word, input);
+                }
+            }
+            Found::Other => self.begin_rarely(word, input),
         }
     }
 
@@ -382,15 +465,23 @@ impl HartParts {
     {
         let base = self.geometry.numbers().base;
         let size = self.geometry.program_size();
-        let meant = self.decoded.effect(word, self.cpu.pc, &self.cpu.regs);
-        let effect = within(base, size, &self.cpu.other, meant);
+        let meant = word_effect(word, self.cpu.pc(false), self.cpu.regs(false));
+        let effect = self.cpu.within(base, size, meant);
         self.begin(effect, input);
     }
 
     /// Fetches the instruction at the program counter, whose word lies here, in the line at this location.
     #[inline(always)]
-    fn fetch_at<N>(&mut self, cache: &mut Cache, at: Span, location: LineLocation, input: &[u8])
+    fn fetch_at<N>(
+        &mut self,
+        alone: bool,
+        cache: &mut Cache,
+        at: Span,
+        location: LineLocation,
+        input: &[u8],
+    )
         requires range { IsInRange self.old.geometry }
+        requires alone { IsAloneIf alone self.old.cpu }
         requires at { IsFetchedSpan self.old.geometry self.old.cpu (Ok at) }
         requires found { location_of cache.old (first_block at) ≡ Some location }
         ensures hart { FetchesIn input.now cache.old (hart_state_of self.old) (hart_state_of self.new) }
@@ -400,26 +491,27 @@ impl HartParts {
         ensures lines { KeepsLines cache.old cache.new }
     {
         let word = fetch_word(cache, at, location);
-        self.begin_word::<N>(word, input);
+        self.begin_word::<N>(alone, word, input);
     }
 
     /// Fetches the instruction at the program counter.
     #[inline(always)]
-    fn fetch<N>(&mut self, cache: &mut Cache, input: &[u8]) -> MicroStep
+    fn fetch<N>(&mut self, alone: bool, cache: &mut Cache, input: &[u8]) -> MicroStep
         requires sound { IsSoundParts self.old }
+        requires alone { IsAloneIf alone self.old.cpu }
         requires stage { self.old.hand.stage ≡ Idle }
         ensures acts { (free : ℕ) (under_way : Bool) → IsActed (given input.now free under_way)
             cache.old cache.new (hart_state_of self.old) (hart_state_of self.new) result }
         ensures sound { IsSoundParts self.new }
     {
-        match self.fetched_span() {
+        match self.fetched_span(alone) {
             Err(cause) => {
                 self.begin_trap(cause, input);
                 MicroStep::Taken(HartStep::Moved)
             }
             Ok(at) => match cache.latest(at.first_block()) {
                 Some(location) => {
-                    self.fetch_at::<N>(cache, at, location, input);
+                    self.fetch_at::<N>(alone, cache, at, location, input);
                     MicroStep::Taken(HartStep::Moved)
                 }
                 None => {
@@ -442,7 +534,7 @@ impl HartParts {
     {
         match cache.find(at.first_block()) {
             Some(location) => {
-                self.fetch_at::<()>(cache, at, location, input);
+                self.fetch_at::<()>(false, cache, at, location, input);
                 ShortStep::Moved
             }
             None => ShortStep::Missing(at.first_block()),
@@ -645,9 +737,10 @@ impl HartParts {
 
     /// Retires an instruction of this effect, which has read this number if it reads.
     #[inline(always)]
-    fn retire<N>(&mut self, effect: &Effect, number: u64) -> HartStep
+    fn retire<N>(&mut self, alone: bool, effect: &Effect, number: u64) -> HartStep
         requires range { IsInRange self.old.geometry }
-        requires alone { effect.now ≢ Environment }
+        requires alone { IsAloneIf alone self.old.cpu }
+        requires no_call { effect.now ≢ Environment }
         requires number { (calls : Calls) → effect_finished self.old.cpu effect.now number calls
             ≡ effect_finished self.old.cpu effect.now (number_in effect.now (hart_state_of self.old).bytes) calls }
         requires count { self.old.cpu.count + 1 < 2 ^ 64 }
@@ -656,8 +749,8 @@ impl HartParts {
         ensures says { (input : List ℕ) → result ≡ over_or_retired (epoch_retired input effect.now (hart_state_of self.old)).over }
         ensures sound { IsSoundParts self.new }
     {
-        finish_alone(&mut self.cpu, effect, number);
-        self.epoch.retired_once(is_running(self.cpu.status));
+        self.cpu.finish_alone(alone, effect, number);
+        self.epoch.retired_once(is_running(self.cpu.status()));
         self.hand.stage = Stage::Idle;
         self.ended()
     }
@@ -703,26 +796,26 @@ impl HartParts {
         ensures sound { IsSoundParts self.new }
     {
         match self.hand.stage {
-            Stage::Idle => self.fetch::<N>(cache, input),
+            Stage::Idle => self.fetch::<N>(false, cache, input),
             Stage::Jumps => {
                 let effect = self.hand.jump();
-                MicroStep::Taken(self.retire::<N>(&effect, 0))
+                MicroStep::Taken(self.retire::<N>(false, &effect, 0))
             }
             Stage::Sets => {
                 let effect = self.hand.set();
-                MicroStep::Taken(self.retire::<N>(&effect, 0))
+                MicroStep::Taken(self.retire::<N>(false, &effect, 0))
             }
             Stage::Loads => self.load::<N>(cache),
             Stage::Loaded => {
                 let effect = self.hand.load();
                 let number = self.hand.number();
-                MicroStep::Taken(self.retire::<N>(&effect, number))
+                MicroStep::Taken(self.retire::<N>(false, &effect, number))
             }
             Stage::Secures => MicroStep::Taken(self.room::<N>(cache, free, under_way)),
             Stage::Stores => self.store::<N>(cache),
             Stage::Stored => {
                 let effect = self.hand.store();
-                MicroStep::Taken(self.retire::<N>(&effect, 0))
+                MicroStep::Taken(self.retire::<N>(false, &effect, 0))
             }
             Stage::InPieces => {
                 let step = self.act_in_pieces(cache, free, under_way, input);
@@ -733,8 +826,9 @@ impl HartParts {
 
     /// Retires the instruction in hand, if that is its next micro-step and it is in no pieces.
     #[inline(always)]
-    fn retire_next<N>(&mut self) -> Option<HartStep>
+    fn retire_next<N>(&mut self, alone: bool) -> Option<HartStep>
         requires sound { IsSoundParts self.old }
+        requires alone { IsAloneIf alone self.old.cpu }
         requires count { self.old.cpu.count + 1 < 2 ^ 64 }
         requires going { self.old.epoch.over ≡ None }
         ensures acts { IfSome result (λ step. (g : Given) (c : Contents) → IsActed g
@@ -745,20 +839,20 @@ impl HartParts {
         match self.hand.stage {
             Stage::Jumps => {
                 let effect = self.hand.jump();
-                Some(self.retire::<N>(&effect, 0))
+                Some(self.retire::<N>(alone, &effect, 0))
             }
             Stage::Sets => {
                 let effect = self.hand.set();
-                Some(self.retire::<N>(&effect, 0))
+                Some(self.retire::<N>(alone, &effect, 0))
             }
             Stage::Loaded => {
                 let effect = self.hand.load();
                 let number = self.hand.number();
-                Some(self.retire::<N>(&effect, number))
+                Some(self.retire::<N>(alone, &effect, number))
             }
             Stage::Stored => {
                 let effect = self.hand.store();
-                Some(self.retire::<N>(&effect, 0))
+                Some(self.retire::<N>(alone, &effect, 0))
             }
             Stage::Idle | Stage::Loads | Stage::Secures | Stage::Stores | Stage::InPieces => None,
         }
@@ -767,8 +861,9 @@ impl HartParts {
     /// Takes the micro-steps of a load in a row, from the one that reads its bytes on. It answers how many moved it on, and the
     /// step that retired it, if its line is there.
     #[inline(always)]
-    fn load_on<N>(&mut self, cache: &mut Cache) -> (u64, Option<HartStep>)
+    fn load_on<N>(&mut self, alone: bool, cache: &mut Cache) -> (u64, Option<HartStep>)
         requires sound { IsSoundParts self.old }
+        requires alone { IsAloneIf alone self.old.cpu }
         requires stage { self.old.hand.stage ≡ Loads }
         requires count { self.old.cpu.count + 1 < 2 ^ 64 }
         requires going { self.old.epoch.over ≡ None }
@@ -778,7 +873,7 @@ impl HartParts {
         ensures sound { IsSoundParts self.new }
     {
         match self.load::<N>(cache) {
-            MicroStep::Taken(_) => (1, self.retire_next::<N>()),
+            MicroStep::Taken(_) => (1, self.retire_next::<N>(alone)),
             MicroStep::Missing(_) => (0, None),
         }
     }
@@ -788,11 +883,13 @@ impl HartParts {
     #[inline(always)]
     fn store_on<N>(
         &mut self,
+        alone: bool,
         cache: &mut Cache,
         free: u64,
         under_way: bool,
     ) -> (u64, Option<HartStep>)
         requires sound { IsSoundParts self.old }
+        requires alone { IsAloneIf alone self.old.cpu }
         requires stage { self.old.hand.stage ≡ Secures }
         requires count { self.old.cpu.count + 1 < 2 ^ 64 }
         requires going { self.old.epoch.over ≡ None }
@@ -803,7 +900,7 @@ impl HartParts {
     {
         match self.room::<N>(cache, free, under_way) {
             HartStep::Moved => match self.store::<N>(cache) {
-                MicroStep::Taken(_) => (2, self.retire_next::<N>()),
+                MicroStep::Taken(_) => (2, self.retire_next::<N>(alone)),
                 MicroStep::Missing(_) => (1, None),
             },
             step => (0, Some(step)),
@@ -814,11 +911,13 @@ impl HartParts {
     #[inline(always)]
     fn act_fetched<N>(
         &mut self,
+        alone: bool,
         cache: &mut Cache,
         free: u64,
         under_way: bool,
     ) -> (u64, Option<HartStep>)
         requires sound { IsSoundParts self.old }
+        requires alone { IsAloneIf alone self.old.cpu }
         requires count { self.old.cpu.count + 1 < 2 ^ 64 }
         requires going { self.old.epoch.over ≡ None }
         ensures acts { (input : List ℕ) → ActsAll (given input free under_way)
@@ -827,15 +926,15 @@ impl HartParts {
         ensures sound { IsSoundParts self.new }
     {
         match self.hand.stage {
-            Stage::Loads => self.load_on::<N>(cache),
-            Stage::Secures => self.store_on::<N>(cache, free, under_way),
+            Stage::Loads => self.load_on::<N>(alone, cache),
+            Stage::Secures => self.store_on::<N>(alone, cache, free, under_way),
             Stage::Idle
             | Stage::Jumps
             | Stage::Sets
             | Stage::Loaded
             | Stage::Stores
             | Stage::Stored
-            | Stage::InPieces => (0, self.retire_next::<N>()),
+            | Stage::InPieces => (0, self.retire_next::<N>(alone)),
         }
     }
 
@@ -843,12 +942,14 @@ impl HartParts {
     #[inline(always)]
     fn act_from_fetch<N>(
         &mut self,
+        alone: bool,
         cache: &mut Cache,
         free: u64,
         under_way: bool,
         input: &[u8],
     ) -> (u64, Option<HartStep>)
         requires sound { IsSoundParts self.old }
+        requires alone { IsAloneIf alone self.old.cpu }
         requires stage { self.old.hand.stage ≡ Idle }
         requires count { self.old.cpu.count + 1 < 2 ^ 64 }
         requires going { self.old.epoch.over ≡ None }
@@ -858,17 +959,51 @@ impl HartParts {
         ensures left { result.0 ≡ 0 → (result.1 ≡ None) × (hart_state_of self.new ≡ hart_state_of self.old) × (cache.new ≡ cache.old) }
         ensures sound { IsSoundParts self.new }
     {
-        match self.fetch::<N>(cache, input) {
+        match self.fetch::<N>(alone, cache, input) {
             MicroStep::Taken(_) => {
-                let (moved, last) = self.act_fetched::<N>(cache, free, under_way);
+                let (moved, last) = self.act_fetched::<N>(alone, cache, free, under_way);
                 (moved + 1, last)
             }
             MicroStep::Missing(_) => (0, None),
         }
     }
 
+    /// Takes the micro-steps of the next instruction in a row, as `act_on` answers.
+    #[inline(always)]
+    fn act_in_row<N>(
+        &mut self,
+        alone: bool,
+        cache: &mut Cache,
+        free: u64,
+        under_way: bool,
+        input: &[u8],
+    ) -> (u64, Option<HartStep>)
+        requires sound { IsSoundParts self.old }
+        requires alone { IsAloneIf alone self.old.cpu }
+        requires count { self.old.cpu.count + 1 < 2 ^ 64 }
+        requires going { self.old.epoch.over ≡ None }
+        ensures acts { ActsAll (given input.now free under_way)
+            cache.old (hart_state_of self.old) (moved_then result.0 result.1) cache.new (hart_state_of self.new) }
+        ensures few { result.0 ≤ 3 }
+        ensures left { result.0 ≡ 0 → (result.1 ≡ None) × (hart_state_of self.new ≡ hart_state_of self.old) × (cache.new ≡ cache.old) }
+        ensures sound { IsSoundParts self.new }
+    {
+        match self.hand.stage {
+            Stage::Idle => self.act_from_fetch::<N>(alone, cache, free, under_way, input),
+            Stage::Jumps
+            | Stage::Sets
+            | Stage::Loads
+            | Stage::Loaded
+            | Stage::Secures
+            | Stage::Stores
+            | Stage::Stored
+            | Stage::InPieces => (0, None),
+        }
+    }
+
     /// Takes the micro-steps of the next instruction in a row, if none is in hand: as long as each moves it on, its line is there,
-    /// and it is in no pieces. It answers how many moved it on, and the step that ended the row, if one did that was taken.
+    /// and it is in no pieces. It answers how many moved it on, and the step that ended the row, if one did that was taken. The
+    /// number of a hart that is alone is a constant all through the row.
     #[inline(always)]
     pub fn act_on<N>(
         &mut self,
@@ -886,16 +1021,31 @@ impl HartParts {
         ensures left { result.0 ≡ 0 → (result.1 ≡ None) × (hart_state_of self.new ≡ hart_state_of self.old) × (cache.new ≡ cache.old) }
         ensures sound { IsSoundParts self.new }
     {
-        match self.hand.stage {
-            Stage::Idle => self.act_from_fetch::<N>(cache, free, under_way, input),
-            Stage::Jumps
-            | Stage::Sets
-            | Stage::Loads
-            | Stage::Loaded
-            | Stage::Secures
-            | Stage::Stores
-            | Stage::Stored
-            | Stage::InPieces => (0, None),
+        if self.cpu.is_alone() {
+            self.act_in_row::<N>(true, cache, free, under_way, input)
+        } else {
+            self.act_among::<N>(cache, free, under_way, input)
         }
+    }
+
+    /// Takes the micro-steps of the next instruction in a row, as `act_on` answers, of one hart of several.
+    #[inline(never)]
+    fn act_among<N>(
+        &mut self,
+        cache: &mut Cache,
+        free: u64,
+        under_way: bool,
+        input: &[u8],
+    ) -> (u64, Option<HartStep>)
+        requires sound { IsSoundParts self.old }
+        requires count { self.old.cpu.count + 1 < 2 ^ 64 }
+        requires going { self.old.epoch.over ≡ None }
+        ensures acts { ActsAll (given input.now free under_way)
+            cache.old (hart_state_of self.old) (moved_then result.0 result.1) cache.new (hart_state_of self.new) }
+        ensures few { result.0 ≤ 3 }
+        ensures left { result.0 ≡ 0 → (result.1 ≡ None) × (hart_state_of self.new ≡ hart_state_of self.old) × (cache.new ≡ cache.old) }
+        ensures sound { IsSoundParts self.new }
+    {
+        self.act_in_row::<(N, ())>(false, cache, free, under_way, input)
     }
 }

@@ -26,10 +26,7 @@ use crate::in_hand::Stage;
 use crate::micro_steps::{HartParts, blocks_of};
 use thy_block::{EndCause, Piece, Span, take_head};
 use thy_cache::{Cache, LineLocation};
-use thy_isa::{
-    CallState, Cause, Effect, brought, finish, finish_alone, is_running, modified_bytes, moves,
-    number_in,
-};
+use thy_isa::{CallState, Cause, Effect, brought, is_running, modified_bytes, moves, number_in};
 
 impl HartParts {
     /// What an environment call depends on in addition to the registers, with an input of this length.
@@ -38,17 +35,17 @@ impl HartParts {
         ensures fits { AreCallsOf self.now.cpu result }
     {
         CallState {
-            cursor: self.cpu.cursor,
+            cursor: self.cpu.cursor(),
             input_len,
-            console_len: self.cpu.console_len,
+            console_len: self.cpu.console_len(),
             room: self
                 .geometry
                 .console_room()
-                .saturating_sub(self.cpu.console_len),
+                .saturating_sub(self.cpu.console_len()),
             base: self.geometry.numbers().base,
             size: self.geometry.program_size(),
-            floor: self.cpu.floor,
-            brk: self.cpu.brk,
+            floor: self.cpu.floor(),
+            brk: self.cpu.brk(),
         }
     }
 
@@ -61,8 +58,8 @@ impl HartParts {
         ensures pieces { ArePieces self.new.hand }
     {
         let calls = self.calls(input.len() as u64);
-        let moves = moves(&self.cpu.regs, &calls, &effect);
-        self.hand.bytes = brought(input, &self.cpu.regs, &calls, &effect);
+        let moves = moves(self.cpu.regs(false), &calls, &effect);
+        self.hand.bytes = brought(input, self.cpu.regs(false), &calls, &effect);
         self.hand.pieces = begun(effect, moves.from, moves.to);
         self.hand.stage = Stage::InPieces;
     }
@@ -265,7 +262,7 @@ impl HartParts {
             | Effect::Modify { .. }
             | Effect::Trap(_) => {
                 let number = number_in(&effect, self.hand.bytes.as_slice());
-                finish_alone(&mut self.cpu, &effect, number);
+                self.cpu.finish_alone(false, &effect, number);
             }
         }
     }
@@ -277,7 +274,7 @@ impl HartParts {
         ensures { pieces_of self.new ≡ finished input.now Environment (pieces_of self.old) }
     {
         let calls = self.calls(input.len() as u64);
-        finish(&mut self.cpu, &Effect::Environment, 0, &calls);
+        self.cpu.finish(&Effect::Environment, 0, &calls);
     }
 
     /// Retires the instruction, which has read and written.
@@ -290,7 +287,7 @@ impl HartParts {
         ensures ends { EndsBy (Taken result) self.new.epoch.over }
     {
         self.finish_pieces(effect, input);
-        self.epoch.retired_once(is_running(self.cpu.status));
+        self.epoch.retired_once(is_running(self.cpu.status()));
         self.hand.pieces = Hand::Nothing;
         self.hand.bytes = Piece::new();
         self.ended()

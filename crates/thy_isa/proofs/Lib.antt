@@ -11,3 +11,4 @@ pub mod BlockLaws
 pub mod MoveLaws
 pub mod TrapLaws
 pub mod HartLaws
+pub mod RegLaws

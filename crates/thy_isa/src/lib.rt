@@ -38,7 +38,7 @@ pub use laws::{
 pub use moving::{add_number, brought, modified_bytes, moves, number_in};
 pub use numbers::{extended, number, word};
 pub use regs::Regs;
-pub use reserving::{front_of, is_reserved, reservation, reserve, write_past};
+pub use reserving::{front_of, is_reserved, left_by, reservation, reserve, write_past};
 pub use state::{
     Call, CallState, Cause, CpuState, Effect, MachState, Moves, OtherHart, Reservation, Status,
 };

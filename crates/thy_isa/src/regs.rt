@@ -5,20 +5,20 @@ ghost use Rattle.thy_isa.specs.Regs.{reg_at, regs_with};
 use crate::instr::Reg;
 use std::marker::Model;
 
-/// The 32 integer registers, each a number of 64 bits. Register 0 reads as 0 whatever is written to it.
+/// The 32 integer registers, each a number of 64 bits. Register 0 reads as 0 whatever is written to it: its number stays 0.
 #[derive(Clone, Copy, Debug, PartialEq, Eq)]
 pub struct Regs {
     numbers: [u64; 32],
 }
 
 impl Model for Regs {
-    ghost use Rattle.std.specs.Prelude.{ℕ, ◌≡◌, List, length};
+    ghost use Rattle.std.specs.Prelude.{ℕ, ◌≡◌, List, length, slice_index};
 
     ghost Value = { List ℕ };
 
     ghost view = { λ r. r.numbers };
 
-    ghost invariant = { λ r. length r.numbers ≡ 32 };
+    ghost invariant = { λ r. (length r.numbers ≡ 32) × (slice_index r.numbers 0 ≡ 0) };
 
     ghost inverse = { λ l. record { numbers = l } };
 }
@@ -32,24 +32,19 @@ impl Regs {
     }
 
     /// What a register reads as.
+    #[tactic(auto, using(crate::proofs::RegLaws::read_at))]
     pub fn get(&self, reg: Reg) -> u64
         ensures { result ≡ reg_at self.now reg }
     {
-        let number = reg.number();
-        if number == 0 {
-            0
-        } else {
-            self.numbers[number as usize]
-        }
+        self.numbers[reg.number() as usize]
     }
 
     /// Writes a register; register 0 stays.
+    #[tactic(auto, using(crate::proofs::RegLaws::zero_again, crate::proofs::RegLaws::written_is))]
     pub fn set(&mut self, reg: Reg, value: u64)
         ensures { self.new ≡ regs_with self.old reg value }
     {
-        let number = reg.number();
-        if number != 0 {
-            self.numbers[number as usize] = value;
-        }
+        self.numbers[reg.number() as usize] = value;
+        self.numbers[0] = 0;
     }
 }

@@ -53,7 +53,7 @@ fn shares_block(at: u64, len: u64, a: u64) -> bool
 }
 
 /// What is left of a reservation when the other hart has written `len` bytes at an address.
-fn left_by(at: u64, len: u64, reserved: Reservation) -> Reservation
+pub fn left_by(at: u64, len: u64, reserved: Reservation) -> Reservation
     ensures { result ≡ left_by at len reserved }
 {
     match reserved {

@@ -1,9 +1,9 @@
 -- Steps one after another, while the program runs.
-use Rattle.std.proofs.Common.{◌≡◌, ℕ, ◌+◌, ◌<◌, true, ap, sym, ◌∙◌, arith}
+use Rattle.std.proofs.Common.{◌≡◌, ℕ, ◌+◌, ◌<◌, true, false, ap, sym, ◌∙◌, arith}
 use borrow.Author.Count.{below_more}
 use Rattle.thy_isa.specs.Step.{State, is_running, steps}
 use Rattle.thy_isa.proofs.StepLaws.{steps-zero, steps-one_more, steps-count}
-use Rattle.thy_plain.specs.Machine.{Machine, after_steps, stepped}
+use Rattle.thy_plain.specs.Machine.{Machine, StopsAt, after_steps, stepped}
 
 -- the program runs at every count of steps below k
 pub record Ran (m : Machine) (k : ℕ) : Type 0 where
@@ -28,3 +28,22 @@ pub count_below : (m now : Machine) (k bound : ℕ) → now ≡ after_steps k m 
 count_below m now k bound is runs below =
     let still : is_running (steps m.setting k m.state).status ≡ true = ap (λ (n : Machine). is_running n.state.status) (sym is) ∙ runs in
     omega (arith, ap (λ (n : Machine). n.state.count) is, steps-count m.setting k m.state still)
+
+-- ---- where a run stops
+
+-- at once, if the program does not run
+pub stops_at_once : (m : Machine) (limit : ℕ) → is_running m.state.status ≡ false → StopsAt m limit 0
+stops_at_once m limit ended = record {
+  within = omega arith;
+  ran = λ j h. absurd (omega (arith, h));
+  over = λ h. ap (λ (s : State). is_running s.status) (steps-zero m.setting m.state) ∙ ended;
+}
+
+-- after one step more, which ends the program
+pub stops_after : (m now : Machine) (limit k : ℕ) → k < limit → Ran m k → is_running (steps m.setting k m.state).status ≡ true
+    → now ≡ after_steps (k + 1) m → is_running now.state.status ≡ false → StopsAt m limit (k + 1)
+stops_after m now limit k below before runs is ended = record {
+  within = omega (arith, below);
+  ran = (Ran-more m k before runs).each;
+  over = λ h. ap (λ (n : Machine). is_running n.state.status) (sym is) ∙ ended;
+}

@@ -1,10 +1,10 @@
 -- Where an address lies whose offset is one of the window.
-use Rattle.std.proofs.Common.{◌≡◌, ℕ, ◌+◌, ◌-◌, ◌%◌, ◌^◌, ◌<◌, ◌≤◌, ◌==◌, Bool, true, false, if◌then◌else◌, Some, None, refl, arith}
+use Rattle.std.proofs.Common.{◌≡◌, ℕ, ◌+◌, ◌-◌, ◌*◌, ◌/◌, ◌%◌, ◌^◌, ◌<◌, ◌≤◌, ◌==◌, Bool, true, false, if◌then◌else◌, Some, None, refl, arith}
 use Rattle.std.proofs.lemmas.Bool.Decides.{nat_tests}
 use Rattle.thy_block.specs.Inside.{is_inside}
 use Rattle.thy_isa.specs.declared.state.Cause.TheVariants.{FetchMisaligned, FetchAccess}
 use Rattle.thy_isa.specs.Step.{fetch_fault}
-use Rattle.thy_plain.specs.Window.{IsWindow}
+use Rattle.thy_plain.specs.Window.{HasWords, IsWindow}
 
 -- the address is not below the base, so nothing was borrowed
 pub not-below : (base size window at : ℕ) → base < 2 ^ 64 → at < 2 ^ 64 → IsWindow base size window
@@ -31,12 +31,46 @@ fault_by true true one two = refl
 fault_by true false one two = cc
 fault_by false b one two = cc
 
--- a word can be fetched at an offset in the window, if it is a multiple of four
-pub window-fetched : (base size window pc : ℕ) → base < 2 ^ 64 → pc < 2 ^ 64 → IsWindow base size window
-    → (pc + (2 ^ 64 - base)) % 2 ^ 64 < window → ((pc + (2 ^ 64 - base)) % 2 ^ 64) % 4 ≡ 0 → fetch_fault base size pc ≡ None
+-- ---- the word at an address
+
+-- the address as an offset from the base, which wraps around below it
+abbrev pub offset_from : ℕ → ℕ → ℕ
+offset_from base at = (at + (2 ^ 64 - base)) % 2 ^ 64
+
+-- a number with its low two bits in front
+abbrev pub turned : ℕ → ℕ
+turned n = n % 4 * 2 ^ 62 + n / 4
+
+-- what an offset is whose word is one of memory
+pub record IsWord (base size pc : ℕ) : Type 0 where
+  pub whole : offset_from base pc % 4 ≡ 0
+  pub low : base ≤ pc
+  pub same : offset_from base pc ≡ pc - base
+  pub fits : offset_from base pc + 4 ≤ size
+  pub aligned : base % 4 ≡ 0
+
+pub word-is : (base size words pc : ℕ) → base < 2 ^ 64 → pc < 2 ^ 64 → HasWords base size words
+    → turned (offset_from base pc) < words → IsWord base size pc
+word-is base size words pc b a w h =
+    let some : 0 < words = omega (arith, h) in
+    let ends : base + size < 2 ^ 64 = w.ends some in
+    let few : words < 2 ^ 62 = omega (arith, w.bytes, ends) in
+    let whole : offset_from base pc % 4 ≡ 0 = omega (arith, h, few) in
+    let fits : offset_from base pc + 4 ≤ size = omega (arith, h, whole, w.bytes) in
+    record {
+      whole = whole;
+      low = omega (arith, b, a, ends, fits);
+      same = omega (arith, b, a, ends, fits);
+      fits = fits;
+      aligned = w.aligned some;
+    }
+
+-- it can be fetched
+pub word-fetched : (base size pc : ℕ) → IsWord base size pc → fetch_fault base size pc ≡ None
 unfolding fetch_fault
-window-fetched base size window pc b a w h fours =
-    let found = not-below base size window pc b a w h in
-    let own : base % 4 ≡ 0 = w.aligned (omega (arith, h)) in
-    let aligned : pc % 4 ≡ 0 = omega (arith, found.0, found.1, own, fours) in
-    fault_by (pc % 4 == 0) (is_inside base size pc 4) (grind (arith, nat_tests)) (window-inside base size window pc 4 b a (omega arith) w h)
+word-fetched base size pc w =
+    let low : base ≤ pc = w.low in
+    let high : pc + 4 ≤ base + size = omega (arith, w.low, w.same, w.fits) in
+    let inside : is_inside base size pc 4 ≡ true = grind (arith, nat_tests) in
+    let aligned : pc % 4 ≡ 0 = omega (arith, w.low, w.same, w.whole, w.aligned) in
+    fault_by (pc % 4 == 0) (is_inside base size pc 4) (grind (arith, nat_tests)) inside

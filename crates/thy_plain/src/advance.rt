@@ -1,9 +1,10 @@
 //! One instruction, in place.
 #![tactic(auto, unfolding(thy_isa::specs::Step::performed, thy_isa::specs::Step::within, thy_isa::specs::Step::effect_at, thy_isa::specs::Step::read_by, thy_isa::specs::Step::memory_by, thy_isa::specs::Step::console_by, thy_isa::specs::Step::memory_served, thy_isa::specs::Step::console_served, thy_isa::specs::Step::served, thy_isa::specs::Step::finished, thy_isa::specs::Step::step, thy_isa::specs::Step::advanced, thy_block::specs::LittleEndian::number_bytes))]
 
-ghost use Rattle.std.specs.Prelude.{◌≡◌, ◌+◌, ◌<◌, ◌≤◌, ◌^◌, ◌++◌, length, take, drop};
+ghost use Rattle.std.specs.Prelude.{◌≡◌, true, false, ◌+◌, ◌<◌, ◌≤◌, ◌^◌, ◌++◌, length, take, drop};
 ghost use Rattle.thy_block.specs.Bytes.{bytes_of, room_of, written};
-ghost use Rattle.thy_block.specs.LittleEndian.{number_bytes};
+ghost use Rattle.thy_block.specs.LittleEndian.{number_at, number_bytes};
+ghost use Rattle.thy_isa.specs.Extending.{extended};
 ghost use Rattle.thy_isa.specs.declared.state.Effect.TheVariants.{Read, Write, Environment};
 ghost use Rattle.thy_isa.specs.declared.state.Reservation.TheVariants.{Nothing};
 ghost use Rattle.thy_isa.specs.declared.state.Status.TheVariants.{Trapped};
@@ -11,36 +12,39 @@ ghost use Rattle.thy_isa.specs.Access.{IsAtomic};
 ghost use Rattle.thy_isa.specs.Effects.{size_of, after, word_effect};
 ghost use Rattle.thy_isa.specs.Regs.{regs_with};
 ghost use Rattle.thy_isa.specs.Reservations.{reserving};
-ghost use Rattle.thy_isa.specs.Step.{state_of, call_state_of, cause_number, within, performed, advanced, step};
+ghost use Rattle.thy_isa.specs.Step.{state_of, is_running, call_state_of, cause_number, within, performed, advanced, step};
 ghost use Rattle.thy_plain.specs.Machine.{setting_of};
-ghost use Rattle.thy_plain.specs.Window.{IsWindow};
+ghost use Rattle.thy_plain.specs.Window.{HasWords, IsWindow};
 
 use crate::setup::Setup;
-use crate::window::{offset_of, word_offset};
+use crate::window::{far_offset, far_word, near_offset, near_word};
 use thy_block::{Bytes, is_inside};
-use thy_decoded::{DecodedWords, holds, operated};
+use thy_decoded::{DecodedWords, Found, holds};
 use thy_isa::{
-    Call, CallState, Cause, Effect, Extend, Instr, MachState, Reg, Reservation, Status, Width,
-    after, bytes_in, call, cause_number, extended, front_of, is_reserved, is_running, modified,
-    number, reservation, reserve, word, write_past,
+    Call, CallState, Cause, Effect, Extend, MachState, Reg, Reservation, Status, Width, after, alu,
+    bytes_in, call, cause_number, extended, front_of, is_reserved, is_running, modified, number,
+    reservation, reserve, word, word_effect, write_past,
 };
 
 /// The register of an environment call's result.
 const A0: u8 = 10;
 
 // What is rare is called, and takes no reference to what the loop over steps has in registers; the rest becomes a part of that loop.
+// A function that ends a step answers whether the program still runs, so the loop needs no test of the status.
 
 /// Ends the program by a trap, which changes nothing else.
 #[inline(never)]
-fn trap(state: &mut MachState, cause: Cause)
+fn trap(state: &mut MachState, cause: Cause) -> bool
     requires { state.old.count < 2 ^ 63 }
-    ensures { state.new ≡ record state.old {
+    ensures state { state.new ≡ record state.old {
       count = state.old.count + 1;
       status = Trapped (cause_number cause);
     } }
+    ensures runs { result ≡ false }
 {
     state.status = Status::Trapped(cause_number(cause));
     state.count += 1;
+    false
 }
 
 /// Writes the low bytes of a number from index `at` on.
@@ -147,30 +151,34 @@ fn serve(state: &mut MachState, setup: &Setup)
 
 /// The instruction after a store-conditional that failed.
 #[inline(never)]
-fn fail(state: &mut MachState, rd: Reg, pc: u64)
+fn fail(state: &mut MachState, rd: Reg, pc: u64) -> bool
     requires { state.old.count < 2 ^ 63 }
-    ensures { state.new ≡ record state.old {
+    ensures state { state.new ≡ record state.old {
       pc = pc;
       regs = regs_with state.old.regs rd 1;
       count = state.old.count + 1;
       other = reserving (Nothing 0) state.old.other;
     } }
+    ensures runs { result ≡ true }
 {
     state.regs.set(rd, 1);
     reserve(&mut state.other, Reservation::Nothing(0));
     state.pc = pc;
     state.count += 1;
+    true
 }
 
 /// Does what an atomic instruction does, to a state that runs. It is illegal with one hart, and traps if its address is no
 /// multiple of its width.
 #[inline(never)]
-fn perform_atomic(state: &mut MachState, setup: &Setup, effect: Effect)
+fn perform_atomic(state: &mut MachState, setup: &Setup, effect: Effect) -> bool
     requires count { state.old.count < 2 ^ 63 }
     requires atomic { IsAtomic effect }
+    requires runs { is_running state.old.status ≡ true }
     ensures state { state_of state.new ≡ performed (setting_of setup.now) (state_of state.old)
         (within setup.now.base (length (bytes_of state.old.memory)) state.old.other effect) }
     ensures room { room_of state.old.console ≤ room_of state.new.console }
+    ensures runs { result ≡ is_running state.new.status }
 {
     let size = state.memory.len() as u64;
     match state.other {
@@ -178,15 +186,16 @@ fn perform_atomic(state: &mut MachState, setup: &Setup, effect: Effect)
         Some(_) => match effect {
             Effect::Reserve { rd, width, pc, at } => {
                 if at % bytes_in(width) != 0 {
-                    trap(state, Cause::LoadMisaligned);
+                    trap(state, Cause::LoadMisaligned)
                 } else if is_inside(setup.base, size, at, bytes_in(width)) {
                     let value = number(state.memory.as_slice(), (at - setup.base) as usize, width);
                     state.regs.set(rd, extended(width, Extend::Sign, value));
                     reserve(&mut state.other, reservation(width, at));
                     state.pc = pc;
                     state.count += 1;
+                    true
                 } else {
-                    trap(state, Cause::LoadAccess);
+                    trap(state, Cause::LoadAccess)
                 }
             }
             Effect::Conditional {
@@ -197,7 +206,7 @@ fn perform_atomic(state: &mut MachState, setup: &Setup, effect: Effect)
                 value,
             } => {
                 if at % bytes_in(width) != 0 {
-                    trap(state, Cause::StoreMisaligned);
+                    trap(state, Cause::StoreMisaligned)
                 } else if is_inside(setup.base, size, at, bytes_in(width)) {
                     if is_reserved(front_of(&state.other), width, at) {
                         write_number(&mut state.memory, (at - setup.base) as usize, width, value);
@@ -206,11 +215,12 @@ fn perform_atomic(state: &mut MachState, setup: &Setup, effect: Effect)
                         reserve(&mut state.other, Reservation::Nothing(0));
                         state.pc = pc;
                         state.count += 1;
+                        true
                     } else {
-                        fail(state, rd, pc);
+                        fail(state, rd, pc)
                     }
                 } else {
-                    trap(state, Cause::StoreAccess);
+                    trap(state, Cause::StoreAccess)
                 }
             }
             Effect::Modify {
@@ -222,7 +232,7 @@ fn perform_atomic(state: &mut MachState, setup: &Setup, effect: Effect)
                 value,
             } => {
                 if at % bytes_in(width) != 0 {
-                    trap(state, Cause::StoreMisaligned);
+                    trap(state, Cause::StoreMisaligned)
                 } else if is_inside(setup.base, size, at, bytes_in(width)) {
                     let from = (at - setup.base) as usize;
                     let old = number(state.memory.as_slice(), from, width);
@@ -236,8 +246,9 @@ fn perform_atomic(state: &mut MachState, setup: &Setup, effect: Effect)
                     write_past(&mut state.other, at, bytes_in(width));
                     state.pc = pc;
                     state.count += 1;
+                    true
                 } else {
-                    trap(state, Cause::StoreAccess);
+                    trap(state, Cause::StoreAccess)
                 }
             }
             _ => unreachable!(),
@@ -247,30 +258,75 @@ fn perform_atomic(state: &mut MachState, setup: &Setup, effect: Effect)
 
 /// Continues at `pc`.
 #[inline(always)]
-fn jump(state: &mut MachState, pc: u64)
+fn jump(state: &mut MachState, pc: u64) -> bool
     requires { state.old.count < 2 ^ 63 }
-    ensures { state.new ≡ record state.old {
+    ensures state { state.new ≡ record state.old {
       pc = pc;
       count = state.old.count + 1;
     } }
+    ensures runs { result ≡ true }
 {
     state.pc = pc;
     state.count += 1;
+    true
 }
 
 /// Sets a register and continues at `pc`.
 #[inline(always)]
-fn set(state: &mut MachState, rd: Reg, pc: u64, value: u64)
+fn set(state: &mut MachState, rd: Reg, pc: u64, value: u64) -> bool
     requires { state.old.count < 2 ^ 63 }
-    ensures { state.new ≡ record state.old {
+    ensures state { state.new ≡ record state.old {
       pc = pc;
       regs = regs_with state.old.regs rd value;
       count = state.old.count + 1;
     } }
+    ensures runs { result ≡ true }
 {
     state.regs.set(rd, value);
     state.pc = pc;
     state.count += 1;
+    true
+}
+
+/// The number of `width` bytes from index `at` on, extended to 64 bits. One of 8 bytes is whole.
+#[inline(always)]
+#[tactic(auto, unfolding(thy_isa::specs::Extending::extended))]
+fn loaded(bytes: &[u8], at: usize, width: Width, extend: Extend) -> u64
+    requires { at + size_of width ≤ length bytes.now }
+    ensures { result ≡ extended width extend (number_at (size_of width) bytes.now at) }
+{
+    if let Width::Double = width {
+        number(bytes, at, Width::Double)
+    } else {
+        let value = number(bytes, at, width);
+        extended(width, extend, value)
+    }
+}
+
+/// Loads a number from any address, or traps if it is outside memory.
+#[inline(never)]
+fn load_far(
+    state: &mut MachState,
+    setup: &Setup,
+    rd: Reg,
+    width: Width,
+    extend: Extend,
+    pc: u64,
+    at: u64,
+) -> bool
+    requires count { state.old.count < 2 ^ 63 }
+    requires runs { is_running state.old.status ≡ true }
+    ensures state { state_of state.new ≡ performed (setting_of setup.now) (state_of state.old)
+        (within setup.now.base (length (bytes_of state.old.memory)) state.old.other (Read rd width extend pc at)) }
+    ensures room { room_of state.old.console ≤ room_of state.new.console }
+    ensures runs { result ≡ is_running state.new.status }
+{
+    if let Some(from) = far_offset(setup.base, &state.memory, at, width) {
+        let value = loaded(state.memory.as_slice(), from, width, extend);
+        set(state, rd, pc, value)
+    } else {
+        trap(state, Cause::LoadAccess)
+    }
 }
 
 /// Loads a number from an address, or traps if it is outside memory.
@@ -283,52 +339,81 @@ fn load(
     extend: Extend,
     pc: u64,
     at: u64,
-)
+) -> bool
     requires count { state.old.count < 2 ^ 63 }
     requires window { IsWindow setup.now.base (length (bytes_of state.old.memory)) setup.now.window }
+    requires runs { is_running state.old.status ≡ true }
     ensures state { state_of state.new ≡ performed (setting_of setup.now) (state_of state.old)
         (within setup.now.base (length (bytes_of state.old.memory)) state.old.other (Read rd width extend pc at)) }
     ensures room { room_of state.old.console ≤ room_of state.new.console }
+    ensures runs { result ≡ is_running state.new.status }
 {
-    if let Some(from) = offset_of(setup, &state.memory, at, width) {
-        let value = number(state.memory.as_slice(), from, width);
-        state.regs.set(rd, extended(width, extend, value));
-        state.pc = pc;
-        state.count += 1;
+    if let Some(from) = near_offset(setup, &state.memory, at, width) {
+        let value = loaded(state.memory.as_slice(), from, width, extend);
+        set(state, rd, pc, value)
     } else {
-        trap(state, Cause::LoadAccess);
+        load_far(state, setup, rd, width, extend, pc, at)
+    }
+}
+
+/// Stores a number at any address, or traps if it is outside memory.
+#[inline(never)]
+fn store_far(
+    state: &mut MachState,
+    setup: &Setup,
+    width: Width,
+    pc: u64,
+    at: u64,
+    value: u64,
+) -> bool
+    requires count { state.old.count < 2 ^ 63 }
+    requires runs { is_running state.old.status ≡ true }
+    ensures state { state_of state.new ≡ performed (setting_of setup.now) (state_of state.old)
+        (within setup.now.base (length (bytes_of state.old.memory)) state.old.other (Write width pc at value)) }
+    ensures room { room_of state.old.console ≤ room_of state.new.console }
+    ensures runs { result ≡ is_running state.new.status }
+{
+    if let Some(to) = far_offset(setup.base, &state.memory, at, width) {
+        write_number(&mut state.memory, to, width, value);
+        write_past(&mut state.other, at, bytes_in(width));
+        jump(state, pc)
+    } else {
+        trap(state, Cause::StoreAccess)
     }
 }
 
 /// Stores a number at an address, or traps if it is outside memory.
 #[inline(always)]
-fn store(state: &mut MachState, setup: &Setup, width: Width, pc: u64, at: u64, value: u64)
+fn store(state: &mut MachState, setup: &Setup, width: Width, pc: u64, at: u64, value: u64) -> bool
     requires count { state.old.count < 2 ^ 63 }
     requires window { IsWindow setup.now.base (length (bytes_of state.old.memory)) setup.now.window }
+    requires runs { is_running state.old.status ≡ true }
     ensures state { state_of state.new ≡ performed (setting_of setup.now) (state_of state.old)
         (within setup.now.base (length (bytes_of state.old.memory)) state.old.other (Write width pc at value)) }
     ensures room { room_of state.old.console ≤ room_of state.new.console }
+    ensures runs { result ≡ is_running state.new.status }
 {
-    if let Some(to) = offset_of(setup, &state.memory, at, width) {
+    if let Some(to) = near_offset(setup, &state.memory, at, width) {
         write_number(&mut state.memory, to, width, value);
         write_past(&mut state.other, at, bytes_in(width));
-        state.pc = pc;
-        state.count += 1;
+        jump(state, pc)
     } else {
-        trap(state, Cause::StoreAccess);
+        store_far(state, setup, width, pc, at, value)
     }
 }
 
 /// Does what an instruction does, to a state that runs. A load or a store outside memory traps: this is tested where
 /// each is done, so that an effect is matched only once.
 #[inline(always)]
-fn perform(state: &mut MachState, setup: &Setup, effect: Effect)
+fn perform(state: &mut MachState, setup: &Setup, effect: Effect) -> bool
     requires count { state.old.count < 2 ^ 63 }
     requires room { setup.now.room ≤ room_of state.old.console }
     requires window { IsWindow setup.now.base (length (bytes_of state.old.memory)) setup.now.window }
+    requires runs { is_running state.old.status ≡ true }
     ensures state { state_of state.new ≡ performed (setting_of setup.now) (state_of state.old)
         (within setup.now.base (length (bytes_of state.old.memory)) state.old.other effect) }
     ensures room { room_of state.old.console ≤ room_of state.new.console }
+    ensures runs { result ≡ is_running state.new.status }
 {
     match effect {
         Effect::Next { pc } => jump(state, pc),
@@ -346,55 +431,111 @@ fn perform(state: &mut MachState, setup: &Setup, effect: Effect)
             width,
             value,
         } => store(state, setup, width, pc, at, value),
-        Effect::Reserve { .. } | Effect::Conditional { .. } | Effect::Modify { .. } => {
-            perform_atomic(state, setup, effect);
-        }
+        Effect::Reserve { .. } | Effect::Conditional { .. } | Effect::Modify { .. } =>
+            perform_atomic(state, setup, effect),
         Effect::Fail { rd, pc } => fail(state, rd, pc),
-        Effect::Environment => serve(state, setup),
+        Effect::Environment => {
+            serve(state, setup);
+            is_running(state.status)
+        }
         Effect::Trap(cause) => trap(state, cause),
     }
 }
 
 /// Does what any word does that was fetched at the program counter, by its effect.
 #[inline(never)]
-fn perform_rarely(state: &mut MachState, setup: &Setup, decoded: &mut DecodedWords, word: u32)
+fn perform_rarely(state: &mut MachState, setup: &Setup, word: u32) -> bool
     requires count { state.old.count < 2 ^ 63 }
     requires room { setup.now.room ≤ room_of state.old.console }
     requires window { IsWindow setup.now.base (length (bytes_of state.old.memory)) setup.now.window }
+    requires runs { is_running state.old.status ≡ true }
     ensures state { state_of state.new ≡ performed (setting_of setup.now) (state_of state.old)
         (within setup.now.base (length (bytes_of state.old.memory)) state.old.other (word_effect word state.old.pc state.old.regs)) }
     ensures room { room_of state.old.console ≤ room_of state.new.console }
+    ensures runs { result ≡ is_running state.new.status }
 {
-    let effect = decoded.effect(word, state.pc, &state.regs);
-    perform(state, setup, effect);
+    let effect = word_effect(word, state.pc, &state.regs);
+    perform(state, setup, effect)
 }
 
-/// Does what a word does that was fetched at the program counter. The most frequent instructions are done here; no effect is
-/// made of them.
+/// Does what a word does that was fetched at the program counter. The frequent instructions are done here; no effect is made of
+/// them.
 #[inline(always)]
-#[tactic(auto, unfolding(thy_isa::specs::Effects::effect_of, thy_isa::specs::Step::performed, thy_isa::specs::Step::within, thy_isa::specs::Step::read_by, thy_isa::specs::Step::memory_by, thy_isa::specs::Step::console_by, thy_isa::specs::Step::finished))]
-fn perform_word(state: &mut MachState, setup: &Setup, decoded: &mut DecodedWords, word: u32)
+#[tactic(auto, unfolding(thy_decoded::specs::Found::instr_by, thy_isa::specs::Arith::alu_of, thy_isa::specs::Effects::effect_of, thy_isa::specs::Step::performed, thy_isa::specs::Step::within, thy_isa::specs::Step::read_by, thy_isa::specs::Step::memory_by, thy_isa::specs::Step::console_by, thy_isa::specs::Step::finished))]
+fn perform_word(state: &mut MachState, setup: &Setup, decoded: &mut DecodedWords, word: u32) -> bool
     requires count { state.old.count < 2 ^ 63 }
     requires room { setup.now.room ≤ room_of state.old.console }
     requires window { IsWindow setup.now.base (length (bytes_of state.old.memory)) setup.now.window }
+    requires runs { is_running state.old.status ≡ true }
     ensures state { state_of state.new ≡ performed (setting_of setup.now) (state_of state.old)
         (within setup.now.base (length (bytes_of state.old.memory)) state.old.other (word_effect word state.old.pc state.old.regs)) }
     ensures room { room_of state.old.console ≤ room_of state.new.console }
+    ensures runs { result ≡ is_running state.new.status }
 {
     let pc = state.pc;
-    let Some(instr) = decoded.instr(word) else {
-        return perform_rarely(state, setup, decoded, word);
-    };
-    match *instr {
-        Instr::OpImm { op, rd, rs1, imm } => {
-            let value = operated(op, state.regs.get(rs1), imm);
-            set(state, rd, after(pc), value);
+    let found = decoded.found(word, pc);
+    match *found {
+        Found::AddImm { rd, rs1, imm } => {
+            let value = state.regs.get(rs1).wrapping_add(imm);
+            set(state, rd, after(pc), value)
         }
-        Instr::Op { op, rd, rs1, rs2 } => {
-            let value = operated(op, state.regs.get(rs1), state.regs.get(rs2));
-            set(state, rd, after(pc), value);
+        Found::SllImm { rd, rs1, imm } => {
+            let value = state.regs.get(rs1) << (imm & 63);
+            set(state, rd, after(pc), value)
         }
-        Instr::Load {
+        Found::XorImm { rd, rs1, imm } => {
+            let value = state.regs.get(rs1) ^ imm;
+            set(state, rd, after(pc), value)
+        }
+        Found::SrlImm { rd, rs1, imm } => {
+            let value = state.regs.get(rs1) >> (imm & 63);
+            set(state, rd, after(pc), value)
+        }
+        Found::OrImm { rd, rs1, imm } => {
+            let value = state.regs.get(rs1) | imm;
+            set(state, rd, after(pc), value)
+        }
+        Found::AndImm { rd, rs1, imm } => {
+            let value = state.regs.get(rs1) & imm;
+            set(state, rd, after(pc), value)
+        }
+        Found::OpImm { op, rd, rs1, imm } => {
+            let value = alu(op, state.regs.get(rs1), imm);
+            set(state, rd, after(pc), value)
+        }
+        Found::Add { rd, rs1, rs2 } => {
+            let value = state.regs.get(rs1).wrapping_add(state.regs.get(rs2));
+            set(state, rd, after(pc), value)
+        }
+        Found::Sub { rd, rs1, rs2 } => {
+            let value = state.regs.get(rs1).wrapping_sub(state.regs.get(rs2));
+            set(state, rd, after(pc), value)
+        }
+        Found::Sll { rd, rs1, rs2 } => {
+            let value = state.regs.get(rs1) << (state.regs.get(rs2) & 63);
+            set(state, rd, after(pc), value)
+        }
+        Found::Xor { rd, rs1, rs2 } => {
+            let value = state.regs.get(rs1) ^ state.regs.get(rs2);
+            set(state, rd, after(pc), value)
+        }
+        Found::Srl { rd, rs1, rs2 } => {
+            let value = state.regs.get(rs1) >> (state.regs.get(rs2) & 63);
+            set(state, rd, after(pc), value)
+        }
+        Found::Or { rd, rs1, rs2 } => {
+            let value = state.regs.get(rs1) | state.regs.get(rs2);
+            set(state, rd, after(pc), value)
+        }
+        Found::And { rd, rs1, rs2 } => {
+            let value = state.regs.get(rs1) & state.regs.get(rs2);
+            set(state, rd, after(pc), value)
+        }
+        Found::Op { op, rd, rs1, rs2 } => {
+            let value = alu(op, state.regs.get(rs1), state.regs.get(rs2));
+            set(state, rd, after(pc), value)
+        }
+        Found::Load {
             width,
             extend,
             rd,
@@ -402,9 +543,9 @@ fn perform_word(state: &mut MachState, setup: &Setup, decoded: &mut DecodedWords
             imm,
         } => {
             let at = state.regs.get(rs1).wrapping_add(imm);
-            load(state, setup, rd, width, extend, after(pc), at);
+            load(state, setup, rd, width, extend, after(pc), at)
         }
-        Instr::Store {
+        Found::Store {
             width,
             rs1,
             rs2,
@@ -412,9 +553,9 @@ fn perform_word(state: &mut MachState, setup: &Setup, decoded: &mut DecodedWords
         } => {
             let at = state.regs.get(rs1).wrapping_add(imm);
             let value = state.regs.get(rs2);
-            store(state, setup, width, after(pc), at, value);
+            store(state, setup, width, after(pc), at, value)
         }
-        Instr::Branch {
+        Found::Branch {
             cond,
             rs1,
             rs2,
@@ -422,49 +563,74 @@ fn perform_word(state: &mut MachState, setup: &Setup, decoded: &mut DecodedWords
         } => {
             let target = pc.wrapping_add(imm);
             if !holds(cond, state.regs.get(rs1), state.regs.get(rs2)) {
-                jump(state, after(pc));
+                jump(state, after(pc))
             } else if target % 4 == 0 {
-                jump(state, target);
+                jump(state, target)
             } else {
-                perform_rarely(state, setup, decoded, word);
+                perform_rarely(state, setup, word)
             }
         }
-        Instr::Lui { rd, imm } => set(state, rd, after(pc), imm),
-        Instr::Auipc { rd, imm } => set(state, rd, after(pc), pc.wrapping_add(imm)),
-        Instr::Jal { rd, imm } => {
+        Found::Lui { rd, imm } => set(state, rd, after(pc), imm),
+        Found::Auipc { rd, imm } => set(state, rd, after(pc), pc.wrapping_add(imm)),
+        Found::Jal { rd, imm } => {
             let target = pc.wrapping_add(imm);
             if target % 4 == 0 {
-                set(state, rd, target, after(pc));
+                set(state, rd, target, after(pc))
             } else {
-                perform_rarely(state, setup, decoded, word);
+                perform_rarely(state, setup, word)
             }
         }
-        Instr::Jalr { .. }
-        | Instr::Fence
-        | Instr::FenceI
-        | Instr::Ecall
-        | Instr::Ebreak
-        | Instr::LoadReserved { .. }
-        | Instr::StoreConditional { .. }
-        | Instr::AtomicOp { .. } => perform_rarely(state, setup, decoded, word),
+        Found::Jalr { rd, rs1, imm } => {
+            let sum = state.regs.get(rs1).wrapping_add(imm);
+            let target = sum - sum % 2;
+            if target % 4 == 0 {
+                set(state, rd, target, after(pc))
+            } else {
+                perform_rarely(state, setup, word)
+            }
+        }
+        Found::Other => perform_rarely(state, setup, word),
+    }
+}
+
+/// Executes the instruction at the program counter of a state that runs, wherever that is.
+#[inline(never)]
+fn advance_far(state: &mut MachState, setup: &Setup) -> bool
+    requires count { state.old.count < 2 ^ 63 }
+    requires room { setup.now.room ≤ room_of state.old.console }
+    requires window { IsWindow setup.now.base (length (bytes_of state.old.memory)) setup.now.window }
+    requires runs { is_running state.old.status ≡ true }
+    ensures state { state_of state.new ≡ advanced (setting_of setup.now) (state_of state.old) }
+    ensures room { room_of state.old.console ≤ room_of state.new.console }
+    ensures runs { result ≡ is_running state.new.status }
+{
+    match far_word(setup.base, &state.memory, state.pc) {
+        Err(cause) => trap(state, cause),
+        Ok(at) => {
+            let word = word(state.memory.as_slice(), at);
+            perform_rarely(state, setup, word)
+        }
     }
 }
 
 /// Executes the instruction at the program counter of a state that runs.
 #[inline(always)]
-fn advance(state: &mut MachState, setup: &Setup, decoded: &mut DecodedWords)
+pub(crate) fn advance(state: &mut MachState, setup: &Setup, decoded: &mut DecodedWords) -> bool
     requires count { state.old.count < 2 ^ 63 }
     requires room { setup.now.room ≤ room_of state.old.console }
     requires window { IsWindow setup.now.base (length (bytes_of state.old.memory)) setup.now.window }
+    requires words { HasWords setup.now.base (length (bytes_of state.old.memory)) setup.now.words }
+    requires runs { is_running state.old.status ≡ true }
     ensures state { state_of state.new ≡ advanced (setting_of setup.now) (state_of state.old) }
     ensures room { room_of state.old.console ≤ room_of state.new.console }
+    ensures runs { result ≡ is_running state.new.status }
 {
-    match word_offset(setup, &state.memory, state.pc) {
-        Err(cause) => trap(state, cause),
-        Ok(at) => {
+    match near_word(setup, &state.memory, state.pc) {
+        Some(at) => {
             let word = word(state.memory.as_slice(), at);
-            perform_word(state, setup, decoded, word);
+            perform_word(state, setup, decoded, word)
         }
+        None => advance_far(state, setup),
     }
 }
 
@@ -474,6 +640,7 @@ pub(crate) fn take_step(state: &mut MachState, setup: &Setup, decoded: &mut Deco
     requires count { state.old.count < 2 ^ 63 }
     requires room { setup.now.room ≤ room_of state.old.console }
     requires window { IsWindow setup.now.base (length (bytes_of state.old.memory)) setup.now.window }
+    requires words { HasWords setup.now.base (length (bytes_of state.old.memory)) setup.now.words }
     ensures state { state_of state.new ≡ step (setting_of setup.now) (state_of state.old) }
     ensures room { room_of state.old.console ≤ room_of state.new.console }
     ensures size { length (bytes_of state.new.memory) ≡ length (bytes_of state.old.memory) }

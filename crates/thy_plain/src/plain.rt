@@ -1,5 +1,5 @@
 //! The machine.
-ghost use Rattle.std.specs.Prelude.{◌≡◌, ◌+◌, ◌<◌, ◌≤◌, ◌^◌, length, IfOk};
+ghost use Rattle.std.specs.Prelude.{◌≡◌, true, ◌+◌, ◌<◌, ◌≤◌, ◌^◌, length, IfOk};
 ghost use Rattle.thy_block.specs.Bytes.{bytes_of};
 ghost use Rattle.thy_block.specs.Geometry.{program_size};
 ghost use Rattle.thy_elf.specs.Image.{contents_of};
@@ -7,10 +7,10 @@ ghost use Rattle.thy_isa.specs.Step.{state_of, is_running};
 ghost use Rattle.thy_isa.specs.Storable.{IsStorable};
 ghost use Rattle.thy_plain.specs.Machine.{in_state, loaded, stepped, stepped_by, after_steps, StopsAt};
 
-use crate::advance::take_step;
+use crate::advance::{advance, take_step};
 use crate::setup::Setup;
 use crate::start::state_over;
-use crate::window::window_of;
+use crate::window::{window_of, words_of};
 use std::alloc::{AllocError, Global};
 use std::marker::Model;
 use thy_block::{Bytes, Geometry};
@@ -32,14 +32,15 @@ impl Model for Plain {
     ghost use Rattle.thy_block.specs.Bytes.{bytes_of, room_of};
     ghost use Rattle.thy_isa.specs.Step.{state_of};
     ghost use Rattle.thy_plain.specs.Machine.{Machine, setting_of};
-    ghost use Rattle.thy_plain.specs.Window.{IsWindow};
+    ghost use Rattle.thy_plain.specs.Window.{HasWords, IsWindow};
 
     ghost Value = { Machine };
 
     ghost view = { λ p. record { setting = setting_of p.setup; state = state_of p.state } };
 
     ghost invariant = { λ p. (p.setup.room ≤ room_of p.state.console)
-        × IsWindow p.setup.base (length (bytes_of p.state.memory)) p.setup.window };
+        × IsWindow p.setup.base (length (bytes_of p.state.memory)) p.setup.window
+        × HasWords p.setup.base (length (bytes_of p.state.memory)) p.setup.words };
 }
 
 impl Plain {
@@ -59,14 +60,15 @@ impl Plain {
         let base = geometry.numbers().base;
         let memory = image.memory.duplicate(alloc)?;
         let console = Bytes::with_room(alloc, room as usize)?;
-        let window = window_of(base, memory.len() as u64);
+        let size = memory.len() as u64;
         Ok(Plain {
             state: state_over(image.entry, image.floor, memory, console, geometry),
             setup: Setup {
                 base,
                 input,
                 room,
-                window,
+                window: window_of(base, size),
+                words: words_of(base, size),
             },
             decoded: DecodedWords::new(),
         })
@@ -86,7 +88,7 @@ impl Plain {
         let memory = state.memory.duplicate(alloc)?;
         let mut console = Bytes::with_room(alloc, room as usize)?;
         console.extend(state.console.as_slice())?;
-        let window = window_of(base, memory.len() as u64);
+        let size = memory.len() as u64;
         Ok(Plain {
             state: MachState {
                 pc: state.pc,
@@ -104,7 +106,8 @@ impl Plain {
                 base,
                 input,
                 room,
-                window,
+                window: window_of(base, size),
+                words: words_of(base, size),
             },
             decoded: DecodedWords::new(),
         })
@@ -136,17 +139,31 @@ impl Plain {
         }
     }
 
+    /// Takes a step of hart 0, while the program runs. It answers whether it still does.
+    #[inline(always)]
+    #[tactic(auto, unfolding(thy_isa::specs::Step::step))]
+    fn advance(&mut self) -> bool
+        requires count { self.old.state.count < 2 ^ 63 }
+        requires runs { is_running self.old.state.status ≡ true }
+        ensures state { self.new ≡ stepped self.old }
+        ensures runs { result ≡ is_running self.new.state.status }
+    {
+        advance(&mut self.state, &self.setup, &mut self.decoded)
+    }
+
     /// Takes steps until the program no longer runs, or `limit` steps are done. Returns how many it took. All are hart 0's.
     pub fn run(&mut self, limit: u64) -> u64
         requires { self.old.state.count + limit < 2 ^ 63 }
         ensures stops { StopsAt self.old limit result }
         ensures state { self.new ≡ after_steps result self.old }
     {
+        if !self.is_running() {
+            return 0;
+        }
         for done in 0..limit {
-            if !self.is_running() {
-                return done;
+            if !self.advance() {
+                return done + 1;
             }
-            self.step();
         }
         limit
     }

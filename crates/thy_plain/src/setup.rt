@@ -13,4 +13,6 @@ pub(crate) struct Setup {
     pub(crate) room: u64,
     /// Each offset from the base below this number has 8 bytes of program memory (`window_of`).
     pub(crate) window: u64,
+    /// How many words of program memory can be fetched with no further test (`words_of`).
+    pub(crate) words: u64,
 }

@@ -11,6 +11,9 @@ returns-in-CopyFirst-clause-cache g c = search rules
 pub returns-in-CopyFirst-clause-store : goal.returns-in-CopyFirst-clause-store
 returns-in-CopyFirst-clause-store g c = search rules
 
+pub returns-in-CopyFirst-clause-made : goal.returns-in-CopyFirst-clause-made
+returns-in-CopyFirst-clause-made g c = search rules
+
 pub returns-in-CopyFirst-clause-dirty : goal.returns-in-CopyFirst-clause-dirty
 returns-in-CopyFirst-clause-dirty g c = search rules
 

@@ -20,6 +20,17 @@ act_fetched-moved-requires-clause-count g c =
     let acts = moved-on t x d h k Nothing c.fetch.result c.in-Taken.field-0 c.in-Taken.is (ap (λ st. hand_by st i) c.requires.stage) refl (c.fetch.ensures.acts c.args.free c.args.under_way) in
     omega (arith, c.requires.count, ap (λ (y : CpuState). y.count) (IsActed-stays t x d h k acts).cpu)
 
+pub act_fetched-moved-requires-clause-alone : goal.act_fetched-moved-requires-clause-alone
+act_fetched-moved-requires-clause-alone g c = λ yes.
+    let t = given c.args.input.now c.args.free c.args.under_way in
+    let i = c.args.self.now.hand in
+    let h : HartState = hart_state_of c.args.self.now in
+    let k : HartState = hart_state_of c.fetch.new.self in
+    let x = c.args.cache.now in
+    let d = c.fetch.new.cache in
+    let acts = moved-on t x d h k Nothing c.fetch.result c.in-Taken.field-0 c.in-Taken.is (ap (λ st. hand_by st i) c.requires.stage) refl (c.fetch.ensures.acts c.args.free c.args.under_way) in
+    ap (λ (y : CpuState). y.other) (IsActed-stays t x d h k acts).cpu ∙ c.requires.alone yes
+
 pub act_fetched-moved-requires-clause-going : goal.act_fetched-moved-requires-clause-going
 act_fetched-moved-requires-clause-going g c =
     let t = given c.args.input.now c.args.free c.args.under_way in

@@ -21,6 +21,16 @@ retire_next-requires-clause-count g c =
     let acts = moved-on t c.args.cache.now c.load.new.cache h k hand c.load.result c.in-Taken.field-0 c.in-Taken.is (ap (λ st. hand_by st i) c.requires.stage) refl (c.load.ensures.acts t) in
     omega (arith, c.requires.count, ap (λ (x : CpuState). x.count) (IsActed-stays t c.args.cache.now c.load.new.cache h k acts).cpu)
 
+pub retire_next-requires-clause-alone : goal.retire_next-requires-clause-alone
+retire_next-requires-clause-alone g c = λ yes.
+    let i = c.args.self.now.hand in
+    let hand : Hand = Reading (load_of i) (span_of i.access) (span 0 0) in
+    let t = given [] 0 false in
+    let h : HartState = hart_state_of c.args.self.now in
+    let k : HartState = hart_state_of c.load.new.self in
+    let acts = moved-on t c.args.cache.now c.load.new.cache h k hand c.load.result c.in-Taken.field-0 c.in-Taken.is (ap (λ st. hand_by st i) c.requires.stage) refl (c.load.ensures.acts t) in
+    ap (λ (x : CpuState). x.other) (IsActed-stays t c.args.cache.now c.load.new.cache h k acts).cpu ∙ c.requires.alone yes
+
 pub retire_next-requires-clause-going : goal.retire_next-requires-clause-going
 retire_next-requires-clause-going g c =
     let i = c.args.self.now.hand in

@@ -30,6 +30,21 @@ retire_next-requires-clause-count g c =
     let store = moved-on t x d k l hand c.store.result c.in-Taken.field-0 c.in-Taken.is (ap (λ st. hand_by st j) (c.room.ensures.stage c.in-Moved.is)) refl (c.store.ensures.acts t) in
     omega (arith, c.requires.count, ap (λ (y : CpuState). y.count) (IsActed-stays t x x h k room).cpu, ap (λ (y : CpuState). y.count) (IsActed-stays t x d k l store).cpu)
 
+pub retire_next-requires-clause-alone : goal.retire_next-requires-clause-alone
+retire_next-requires-clause-alone g c = λ yes.
+    let t = given [] c.args.free c.args.under_way in
+    let i = c.args.self.now.hand in
+    let h : HartState = hart_state_of c.args.self.now in
+    let k : HartState = hart_state_of c.room.new.self in
+    let l : HartState = hart_state_of c.store.new.self in
+    let x = c.args.cache.now in
+    let d = c.store.new.cache in
+    let room = subst (λ (s : HartStep). IsActed t x x h k (Taken s)) c.in-Moved.is (c.room.ensures.acts []) in
+    let j = c.room.new.self.hand in
+    let hand : Hand = Writing (store_of j) (span_of j.access) 0 in
+    let store = moved-on t x d k l hand c.store.result c.in-Taken.field-0 c.in-Taken.is (ap (λ st. hand_by st j) (c.room.ensures.stage c.in-Moved.is)) refl (c.store.ensures.acts t) in
+    ap (λ (y : CpuState). y.other) (IsActed-stays t x d k l store).cpu ∙ ap (λ (y : CpuState). y.other) (IsActed-stays t x x h k room).cpu ∙ c.requires.alone yes
+
 pub retire_next-requires-clause-going : goal.retire_next-requires-clause-going
 retire_next-requires-clause-going g c =
     let t = given [] c.args.free c.args.under_way in

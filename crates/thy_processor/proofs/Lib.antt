@@ -1,0 +1,2 @@
+pub mod ProcessorLaws
+pub mod BankLaws
