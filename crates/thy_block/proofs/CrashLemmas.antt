@@ -1,9 +1,9 @@
 -- What a power cut may leave after each call.
-use Rattle.std.proofs.Common.{◌≡◌, ℕ, true, List, [], ◌∷◌, length, Contains, refl, sym, ◌∙◌, ap}
+use Rattle.std.proofs.Common.{◌≡◌, ℕ, Bool, true, false, List, [], ◌∷◌, length, Contains, refl, sym, ◌∙◌, ap, inl}
 use Rattle.std.proofs.lemmas.List.{ext_get_or}
 use Rattle.std.proofs.lemmas.List.Elements.{Contains-push, Contains-append_left}
 use Rattle.thy_block.specs.declared.block.Block.{Block}
-use Rattle.thy_block.specs.Device.{Device, Crash, HoldsNoMore, HasFailed, IsFramed, zero_block, block_at, queued_for, applied, possible, cut_to}
+use Rattle.thy_block.specs.Device.{Device, Crash, HoldsNoMore, HasFailed, HasFailedToSettle, IsFramed, Wear, CutsWear, zero_block, block_at, queued_for, applied, possible, cut_to}
 use Rattle.thy_block.proofs.DeviceLemmas.{CrashAt-possible, CrashAt-landed, length-applied, Contains-applied}
 
 -- the block that has landed is possible
@@ -37,6 +37,9 @@ Crash-no_more {old} {new} {g} no_more same c = record {
 pub Crash-failed : {old new : Device} {g : List Block} → HasFailed old new → IsFramed old new → Crash new g → Crash old g
 Crash-failed failed framed c = Crash-no_more failed.no_more framed.blocks c
 
+pub Crash-unsettled : {old new : Device} {g : List Block} → HasFailedToSettle old new → IsFramed old new → Crash new g → Crash old g
+Crash-unsettled failed framed c = Crash-no_more failed.no_more framed.blocks c
+
 -- nothing queued for a place: a cut leaves there what a read gives
 pub block_at-settled : (n : Device) (g : List Block) (x : ℕ) → queued_for n.queue x ≡ [] → Crash n g → block_at g x ≡ block_at n.image x
 block_at-settled n g x none c = CrashAt-landed n x (block_at g x) none (c.each x)
@@ -50,6 +53,11 @@ pub Crash-of_empty : (n : Device) (g : List Block) → n.queue ≡ [] → Crash 
 Crash-of_empty n g e c = same_images g n.image c.same_length
     (λ x. block_at-settled n g x (ap (λ q. queued_for q x) e) c)
 
+-- a cut may leave the wear, whether or not the device is up
+pub CutsWear-same : (down : Bool) (wear : Wear) → CutsWear down wear wear
+CutsWear-same true wear = inl refl
+CutsWear-same false wear = refl
+
 -- nothing else can be left of a device whose power was cut already
-pub Crash-cut_to : (n : Device) (pick : ℕ) (g h : List Block) → Crash (cut_to n pick g) h → h ≡ g
-Crash-cut_to n pick g h c = Crash-of_empty (cut_to n pick g) h refl c
+pub Crash-cut_to : (n : Device) (pick : ℕ) (g h : List Block) (wear : Wear) → Crash (cut_to n pick g wear) h → h ≡ g
+Crash-cut_to n pick g h wear c = Crash-of_empty (cut_to n pick g wear) h refl c

@@ -114,9 +114,9 @@ pub no_more-drained : (n : Device) → HoldsNoMore n (drained n)
 no_more-drained n = no_more-landed 1 n
 
 -- a barrier makes nothing more possible
-pub no_more-settled : (n : Device) → HoldsNoMore n (settled n)
-no_more-settled n x b left =
-    CrashAt-more n (settled n) x x b refl
+pub no_more-settled : (count : ℕ) (n : Device) → HoldsNoMore n (settled count n)
+no_more-settled count n x b left =
+    CrashAt-more n (settled count n) x x b refl
     (λ c h. subst (λ (q : List Write). Contains (block_at n.image x ∷ queued_for q x) c) (append-nil n.queue) (Contains-landed n.image n.queue [] x c h))
     left
 
@@ -223,8 +223,8 @@ pub newest-drained : (n : Device) (x : ℕ) → x < length n.image → newest (d
 newest-drained n x l = newest-landed 1 n x l
 
 -- a barrier keeps every read
-pub newest-settled : (n : Device) (x : ℕ) → x < length n.image → newest (settled n) x ≡ newest n x
-newest-settled n x l = block_at-applied n.image n.queue x l
+pub newest-settled : (count : ℕ) (n : Device) (x : ℕ) → x < length n.image → newest (settled count n) x ≡ newest n x
+newest-settled count n x l = block_at-applied n.image n.queue x l
 
 -- a read after a write, at its place
 pub newest-written_to : (n : Device) (at : ℕ) (block : Block) → newest (written_to n at block) at ≡ block
@@ -247,8 +247,8 @@ length-landed k n = length-applied n.image (take k n.queue)
 pub length-drained : (n : Device) → length (drained n).image ≡ length n.image
 length-drained n = length-landed 1 n
 
-pub length-settled : (n : Device) → length (settled n).image ≡ length n.image
-length-settled n = length-applied n.image n.queue
+pub length-settled : (count : ℕ) (n : Device) → length (settled count n).image ≡ length n.image
+length-settled count n = length-applied n.image n.queue
 
 pub length-written_to : (n : Device) (at : ℕ) (block : Block) → length (written_to n at block).image ≡ length n.image
 length-written_to n at block = length-landed (surplus n) n

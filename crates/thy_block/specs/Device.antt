@@ -1,6 +1,6 @@
 -- Part of the claim.
 -- What a block device holds, what each call makes of it, and what a power cut may leave.
-use Rattle.std.specs.Prelude.{◌≡◌, ◌≢◌, ◌⊎◌, ℕ, ◌+◌, ◌-◌, ◌*◌, ◌==◌, nat_lt, if◌then◌else◌, Bool, true, false, List, [], ◌∷◌, ◌++◌, length, take, drop, replicate, slice_index_or, slice_set, Contains, Result, MatchResult}
+use Rattle.std.specs.Prelude.{◌≡◌, ◌≢◌, ◌⊎◌, ℕ, ◌+◌, ◌-◌, ◌*◌, ◌≤◌, ◌==◌, ◌&&◌, not, nat_lt, if◌then◌else◌, Bool, true, false, List, [], ◌∷◌, ◌++◌, length, take, drop, replicate, slice_index_or, slice_set, Contains, Result, MatchResult}
 use Rattle.std.specs.Borrow.{GName}
 use Rattle.thy_block.specs.declared.block.Block.{Block}
 use Rattle.thy_block.specs.declared.nvm.Shape.{Shape}
@@ -12,6 +12,15 @@ use Rattle.thy_block.specs.Counts.{Rose, RoseByOne, next}
 -- a block of zeros
 unfoldable pub zero_block : Block
 zero_block = record { 0 = replicate 64 0 }
+
+-- What a device says of the writes that its barriers make of its own accord. One that levels moves a block, by two writes, once
+-- `every` writes were made; it says how many were made since its last move, and how often it has moved.
+pub data Wear : Type 0 where
+  -- its barriers make none
+  Plain : Wear
+  Levels : (every since moves : ℕ) → Wear
+  -- it says nothing of them
+  Unsaid : Wear
 
 -- what a device holds
 pub record Device : Type 0 where
@@ -37,6 +46,9 @@ pub record Device : Type 0 where
   pub lent : List GName
   -- a cut leaves each of its blocks whole; of any other device it leaves each aligned word whole, and may tear a block
   pub whole : Bool
+  -- how many writes it has taken since the last fit, with those that its barriers made; the count saturates
+  pub writes : ℕ
+  pub wear : Wear
 
 -- a queued write
 abbrev pub write_of : ℕ → Block → Write
@@ -98,6 +110,56 @@ pub record IsOneWordApart (a b : Block) : Type 0 where
   pub word : ℕ
   pub others : (i : ℕ) → i ≢ word → word_bytes a i ≡ word_bytes b i
 
+-- ---- what is counted
+
+-- what a device says of its wear after a write
+abbrev pub worn : Wear → Wear
+worn Plain = Plain
+worn (Levels every since moves) = Levels every (next since) moves
+worn Unsaid = Unsaid
+
+-- what it says after a fit
+abbrev pub unworn : Wear → Wear
+unworn Plain = Plain
+unworn (Levels every since moves) = Levels every 0 0
+unworn Unsaid = Unsaid
+
+-- what it says after a move
+abbrev pub moved_on : Wear → Wear
+moved_on Plain = Plain
+moved_on (Levels every since moves) = Levels every 0 (next moves)
+moved_on Unsaid = Unsaid
+
+-- enough writes were made for a move
+abbrev pub is_worn : Wear → Bool
+is_worn Plain = false
+is_worn (Levels every since moves) = not (nat_lt since every)
+is_worn Unsaid = false
+
+-- a device says what its barriers write
+abbrev pub says : Wear → Bool
+says Plain = true
+says (Levels every since moves) = true
+says Unsaid = false
+
+-- the next barrier moves a block; a move can change two words of a block, so a device that may tear one moves none
+abbrev pub moves_next : Device → Bool
+moves_next n = is_worn n.wear && n.whole
+
+-- the count after a barrier, of a device that says what its barriers write
+abbrev pub own_count : Device → ℕ
+own_count n = if moves_next n then next (next n.writes) else n.writes
+
+-- a count after a barrier, by what is said of it: the device's own, or no less than before
+abbrev pub CountsBy : Wear → ℕ → ℕ → ℕ → Type 0
+CountsBy Plain before own count = count ≡ own
+CountsBy (Levels every since moves) before own count = count ≡ own
+CountsBy Unsaid before own count = before ≤ count
+
+-- this is the count after a barrier
+abbrev pub CountsOwn : Device → ℕ → Type 0
+CountsOwn n count = CountsBy n.wear n.writes (own_count n) count
+
 -- ---- what calls make of it
 
 -- the oldest k writes have landed
@@ -108,9 +170,18 @@ landed k n = record n { image = applied n.image (take k n.queue); queue = drop k
 abbrev pub drained : Device → Device
 drained n = landed 1 n
 
--- a device after a barrier: every write has landed
-abbrev pub settled : Device → Device
-settled n = record n { image = applied n.image n.queue; queue = [] }
+-- a device after a barrier: every write has landed, and this is the count
+abbrev pub settled : ℕ → Device → Device
+settled count n = record n {
+  image = applied n.image n.queue;
+  queue = [];
+  writes = count;
+  wear = if moves_next n then moved_on n.wear else n.wear;
+}
+
+-- a device after a barrier that made no write of its own
+abbrev pub at_rest : Device → Device
+at_rest n = settled n.writes n
 
 -- how many writes have to land before one more is queued
 abbrev pub surplus : Device → ℕ
@@ -125,16 +196,23 @@ abbrev pub written_to : Device → ℕ → Block → Device
 written_to n at block = record n {
   image = applied n.image (take (surplus n) n.queue);
   queue = drop (surplus n) n.queue ++ write_of at block ∷ [];
+  writes = next n.writes;
+  wear = worn n.wear;
 }
 
--- after a cut that was given this pick and left this image
-abbrev pub cut_to : Device → ℕ → List Block → Device
-cut_to n pick g = record n {
+-- a device with these counts
+abbrev pub counting : ℕ → Wear → Device → Device
+counting writes wear n = record n { writes = writes; wear = wear }
+
+-- a device after a cut that was given this pick and left this image and this wear
+abbrev pub cut_to : Device → ℕ → List Block → Wear → Device
+cut_to n pick g wear = record n {
   image = g;
   queue = [];
   left = n.left ++ g ∷ [];
   picks = n.picks ++ pick ∷ [];
   down = false;
+  wear = wear;
 }
 
 -- after a fit: the start and then zeros, and no cut yet
@@ -151,16 +229,37 @@ fitted shape start n = record {
   fits = next n.fits;
   lent = n.lent;
   whole = n.whole;
+  writes = 0;
+  wear = unworn n.wear;
 }
 
 -- a device that is reached through one loan more
 abbrev pub lent_by : GName → Device → Device
 lent_by name n = record n { lent = name ∷ n.lent }
 
+-- a cut leaves the wear of a device that is up; of one that is down it may complete a move that failed
+abbrev pub CutsWear : Bool → Wear → Wear → Type 0
+CutsWear false old new = new ≡ old
+CutsWear true old new = (new ≡ old) ⊎ (new ≡ moved_on old)
+
 -- a cut leaves an image that it may leave, and keeps it and the pick
 pub record IsCut (pick : ℕ) (old new : Device) : Type 0 where
   pub crash : Crash old new.image
-  pub device : new ≡ cut_to old pick new.image
+  pub wear : CutsWear old.down old.wear new.wear
+  pub device : new ≡ cut_to old pick new.image new.wear
+
+-- a device after a barrier, whatever the barrier counted
+abbrev pub Settles : Device → Device → Type 0
+Settles old new = new ≡ settled new.writes old
+
+-- a device after a barrier that succeeded
+pub record IsSettled (old new : Device) : Type 0 where
+  pub count : CountsOwn old new.writes
+  pub device : Settles old new
+
+-- what a device may be after the same call is counted alike: it says what its barriers write, or both counts are the same
+abbrev pub CountAlike : Device → Device → Device → Type 0
+CountAlike n u v = (says n.wear ≡ true) ⊎ (u.writes ≡ v.writes)
 
 -- what only a fit and a cut change, or nothing does, such as whether blocks land whole
 pub record IsFramed (old new : Device) : Type 0 where
@@ -177,15 +276,29 @@ pub record IsFramed (old new : Device) : Type 0 where
 abbrev pub HoldsNoMore : Device → Device → Type 0
 HoldsNoMore old new = (x : ℕ) (b : Block) → CrashAt new x b → CrashAt old x b
 
+-- a call counted nothing
+pub record CountsNothing (old new : Device) : Type 0 where
+  pub writes : new.writes ≡ old.writes
+  pub wear : new.wear ≡ old.wear
+
 -- a device after a call that failed
 pub record HasFailed (old new : Device) : Type 0 where
   pub down : new.down ≡ true
   pub no_more : HoldsNoMore old new
+  pub counts : CountsNothing old new
+
+-- a device after a barrier that failed: the barrier may have made writes of its own
+pub record HasFailedToSettle (old new : Device) : Type 0 where
+  pub down : new.down ≡ true
+  pub no_more : HoldsNoMore old new
+  pub writes : old.writes ≤ new.writes
+  pub wear : new.wear ≡ old.wear
 
 -- after a write that failed: no place may hold more than if the block had been queued
 pub record HasFailedToWrite (at : ℕ) (block : Block) (old new : Device) : Type 0 where
   pub down : new.down ≡ true
   pub no_more : HoldsNoMore (with_queued at block old) new
+  pub counts : CountsNothing old new
 
 -- how many calls have failed since the last fit or cut: none, or one, because a device that is down is neither read nor
 -- written
@@ -199,10 +312,6 @@ CountsFault result old new = MatchResult result (λ _. new ≡ old) (λ _. Rose 
 -- the count stays if a call succeeds, and rose by one if it fails
 abbrev pub CountsOneFault : {T E : Type 0} → Result T E → ℕ → ℕ → Type 0
 CountsOneFault result old new = MatchResult result (λ _. new ≡ old) (λ _. RoseByOne old new)
-
--- the count of writes has one more if a write succeeds, and stays if it fails
-abbrev pub CountsWrite : {T E : Type 0} → Result T E → ℕ → ℕ → Type 0
-CountsWrite result old new = MatchResult result (λ _. new ≡ next old) (λ _. new ≡ old)
 
 -- after a fit that failed: it was counted; if it was out of memory nothing has changed, except that it may have been
 -- counted

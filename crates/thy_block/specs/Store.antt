@@ -57,6 +57,10 @@ abbrev pub HasStored : Stored → ℕ → Block → Holding → Holding → Type
 HasStored Done b block old new = IsStored b block old new
 HasStored CopyFirst b block old new = IsCopiedFirst b old new
 
+-- stores of blocks by number, block and answer: from a store and a device before one to those after it
+abbrev pub StoresOver : Type 0 → Type 0 → Type 1
+StoresOver S N = ℕ → Block → Stored → S → N → S → N → Type 0
+
 -- a plain list of blocks: always ready, with room for `2 ^ 64 - 1` stores
 abbrev pub flat_list : List Block → Holding
 flat_list blocks = record { blocks = blocks; faults = 0; free = 2 ^ 64 - 1; ready = true; open_page = None; owed = 0 }

@@ -1,6 +1,6 @@
 //! The non-volatile memory: a block device with a queue of writes, whose power can be cut.
-ghost use Rattle.std.specs.Prelude.{◌≡◌, ◌<◌, ◌≤◌, false, ℕ, length, IfOk, OnOk, OnErr, IfErr, slice_index_or, []};
-ghost use Rattle.thy_block.specs.Device.{Device, newest, block_at, written_to, drained, settled, fitted, IsCut, IsFramed, HasFailed, HasFailedToWrite, HasFailedToFit, CountsFault, CountsWrite};
+ghost use Rattle.std.specs.Prelude.{◌≡◌, ◌<◌, ◌≤◌, false, length, IfOk, OnOk, OnErr, IfErr, slice_index_or, []};
+ghost use Rattle.thy_block.specs.Device.{Device, newest, block_at, written_to, drained, fitted, IsCut, IsSettled, IsFramed, HasFailed, HasFailedToSettle, HasFailedToWrite, HasFailedToFit, CountsFault};
 
 use crate::Block;
 use std::alloc::{AllocError, Global};
@@ -55,9 +55,6 @@ pub trait Nvm {
     /// What the device holds.
     ghost device: { Self → Device };
 
-    /// How many writes a device has taken since it was fitted.
-    ghost writes: { Self → ℕ };
-
     /// Makes the device anew: the blocks of `start`, which it takes over, and then zeros, an empty queue, no kept images
     /// and picks, and no writes. The call is counted, also if it fails; only one that is out of memory may go uncounted.
     fn fit(&mut self, alloc: Global, shape: &Shape, start: Vec<Block>) -> Result<(), FitError>
@@ -65,9 +62,7 @@ pub trait Nvm {
         requires queue { 0 < shape.now.queue }
         requires start { length start.items ≤ shape.now.blocks }
         ensures ok { OnOk result (device self.new ≡ fitted shape.now start.items (device self.old)) }
-        ensures err { IfErr result (λ e. HasFailedToFit e (device self.old) (device self.new)) }
-        ensures no_writes { OnOk result (writes self.new ≡ 0) }
-        ensures same_writes { OnErr result (writes self.new ≡ writes self.old) };
+        ensures err { IfErr result (λ e. HasFailedToFit e (device self.old) (device self.new)) };
 
     /// How many writes are queued.
     fn queued(&self) -> u64
@@ -80,7 +75,7 @@ pub trait Nvm {
 
     /// How many writes have succeeded since the last fit, those that a barrier made too.
     fn writes(&self) -> u64
-        ensures { result ≡ writes self.now };
+        ensures { result ≡ (device self.now).writes };
 
     /// The newest block queued for a place, else the one that has landed there.
     fn read(&mut self, at: u64) -> Result<Block, NvmError>
@@ -90,8 +85,7 @@ pub trait Nvm {
         ensures same { OnOk result (device self.new ≡ device self.old) }
         ensures err { OnErr result (HasFailed (device self.old) (device self.new)) }
         ensures frame { IsFramed (device self.old) (device self.new) }
-        ensures cause { CountsFault result (device self.old).faults (device self.new).faults }
-        ensures same_writes { writes self.new ≡ writes self.old };
+        ensures cause { CountsFault result (device self.old).faults (device self.new).faults };
 
     /// Queues a block for a place. If the queue is full, its oldest write lands first.
     fn write(&mut self, at: u64, block: &Block) -> Result<(), NvmError>
@@ -100,8 +94,7 @@ pub trait Nvm {
         ensures ok { OnOk result (device self.new ≡ written_to (device self.old) at block.now) }
         ensures err { OnErr result (HasFailedToWrite at block.now (device self.old) (device self.new)) }
         ensures frame { IsFramed (device self.old) (device self.new) }
-        ensures cause { CountsFault result (device self.old).faults (device self.new).faults }
-        ensures counted { CountsWrite result (writes self.old) (writes self.new) };
+        ensures cause { CountsFault result (device self.old).faults (device self.new).faults };
 
     /// Lets the oldest queued write land.
     fn drain(&mut self) -> Result<(), NvmError>
@@ -110,24 +103,22 @@ pub trait Nvm {
         ensures ok { OnOk result (device self.new ≡ drained (device self.old)) }
         ensures err { OnErr result (HasFailed (device self.old) (device self.new)) }
         ensures frame { IsFramed (device self.old) (device self.new) }
-        ensures cause { CountsFault result (device self.old).faults (device self.new).faults }
-        ensures same_writes { writes self.new ≡ writes self.old };
+        ensures cause { CountsFault result (device self.old).faults (device self.new).faults };
 
-    /// Lets every queued write land, in order. A device may write more of its own accord, and may count that.
+    /// Lets every queued write land, in order. A device may write more of its own accord, which counts too: its wear says how
+    /// much, or nothing is known but that the count is no less.
     fn barrier(&mut self) -> Result<(), NvmError>
         requires { (device self.old).down ≡ false }
-        ensures ok { OnOk result (device self.new ≡ settled (device self.old)) }
-        ensures err { OnErr result (HasFailed (device self.old) (device self.new)) }
+        ensures ok { OnOk result (IsSettled (device self.old) (device self.new)) }
+        ensures err { OnErr result (HasFailedToSettle (device self.old) (device self.new)) }
         ensures frame { IsFramed (device self.old) (device self.new) }
-        ensures cause { CountsFault result (device self.old).faults (device self.new).faults }
-        ensures no_fewer_writes { writes self.old ≤ writes self.new };
+        ensures cause { CountsFault result (device self.old).faults (device self.new).faults };
 
     /// Cuts the power. A device may choose by the pick what is left. A copy of that is kept, and so is the pick; the
     /// device is up again.
     fn cut(&mut self, pick: u64)
         requires { length (device self.old).left < (device self.old).left_room }
-        ensures cut { IsCut pick (device self.old) (device self.new) }
-        ensures same_writes { writes self.new ≡ writes self.old };
+        ensures cut { IsCut pick (device self.old) (device self.new) };
 
     /// The block at a place of the kept image `i`.
     fn kept(&self, i: u64, at: u64) -> Block
@@ -142,8 +133,6 @@ impl<N: Nvm> Nvm for &mut N {
     ghost use Rattle.thy_block.specs.Device.{lent_by};
 
     ghost device = { λ loan. lent_by loan.ghost_name (N.device loan.now) };
-
-    ghost writes = { λ loan. N.writes loan.now };
 
     fn fit(&mut self, alloc: Global, shape: &Shape, start: Vec<Block>) -> Result<(), FitError> {
         (**self).fit(alloc, shape, start)

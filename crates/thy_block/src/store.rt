@@ -1,7 +1,7 @@
 //! Stores of blocks: what a cache loads from and stores to.
 ghost use Rattle.std.specs.Prelude.{◌≡◌, ◌<◌, true, length, IfOk, OnOk};
 ghost use Rattle.thy_block.specs.Device.{block_at, CountsOneFault};
-ghost use Rattle.thy_block.specs.Store.{Holding, IsKeptByLoad, HasStored};
+ghost use Rattle.thy_block.specs.Store.{Holding, IsKeptByLoad, HasStored, StoresOver};
 
 use crate::{Block, NvmError};
 
@@ -29,6 +29,9 @@ pub trait BlockStore<N> {
     /// From a store and a device before one load to those after it, one that fails too.
     ghost loads: { Self → N → Self → N → Type 0 };
 
+    /// What a store of a block makes that succeeds and returns this.
+    ghost stores: { StoresOver Self N };
+
     /// What every call keeps, one that fails too: a relation from an earlier store and device to
     /// later ones, over any number of calls.
     ghost stays: { Self → N → Self → N → Type 0 };
@@ -49,6 +52,7 @@ pub trait BlockStore<N> {
         requires ready { (holding self.old nvm.old).ready ≡ true }
         requires room { 0 < (holding self.old nvm.old).free }
         ensures ok { IfOk result (λ stored. HasStored stored b block.now (holding self.old nvm.old) (holding self.new nvm.new)) }
+        ensures made { IfOk result (λ stored. stores b block.now stored self.old nvm.old self.new nvm.new) }
         ensures once { once self.old nvm.old self.new nvm.new }
         ensures cause { CountsOneFault result (holding self.old nvm.old).faults (holding self.new nvm.new).faults };
 
@@ -64,6 +68,8 @@ pub trait BlockStore<N> {
 
 /// A plain list of blocks, with no device below it. Every store is done, and no call fails.
 impl BlockStore<()> for Vec<Block> {
+    ghost use Rattle.std.specs.Prelude.{slice_set};
+    ghost use Rattle.thy_block.specs.declared.store.Stored.TheVariants.{Done};
     ghost use Rattle.thy_block.specs.Store.{flat_list, ChangesOne};
 
     ghost holding = { λ list nothing. flat_list list.items };
@@ -71,6 +77,8 @@ impl BlockStore<()> for Vec<Block> {
     ghost once = { λ a m b n. ChangesOne a.items b.items };
 
     ghost loads = { λ a m b n. b.items ≡ a.items };
+
+    ghost stores = { λ b block stored list m new n. (stored ≡ Done) × (new.items ≡ slice_set list.items b block) };
 
     ghost stays = { λ a m b n. Unit {0} };
 

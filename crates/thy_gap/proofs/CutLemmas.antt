@@ -5,11 +5,11 @@ use Rattle.std.proofs.lemmas.Bool.{cases_eq, cases_lt, ne_eqb}
 use Rattle.std.proofs.lemmas.List.{map-append}
 use Rattle.std.proofs.lemmas.List.Elements.{All-push}
 use Rattle.thy_block.specs.declared.block.Block.{Block}
-use Rattle.thy_block.specs.Device.{Device, IsCrashOf, CrashAt, Crash, IsCut, block_at, cut_to}
+use Rattle.thy_block.specs.Device.{Device, IsCrashOf, CrashAt, Crash, CutsWear, IsCut, Wear, block_at, cut_to}
 use Rattle.thy_gap.specs.declared.registers.Registers.{Registers}
 use Rattle.thy_gap.specs.Lines.{IsWhole, place, source, moved, registers_block, registers_of, registers_in}
 use Rattle.thy_gap.specs.Seen.{unmap, unmapped, seen}
-use Rattle.thy_gap.specs.Levelled.{IsCopied, IsQuiet, HasRegisters, IsLevelled}
+use Rattle.thy_gap.specs.Levelled.{IsCopied, IsQuiet, HasRegisters, IsLevelled, looks, wear_over}
 use Rattle.thy_gap.proofs.LineLemmas.{whole-moved, place-moved_line, place-other_line}
 use Rattle.thy_gap.proofs.RegisterLemmas.{registers_of-block, IsOfRegisters-in_hand, IsOfRegisters-cases}
 use Rattle.thy_gap.proofs.SeenLemmas.{length-unmap, block_at-unmap, block_at-unmap_past, unmap-is, possible-seen, zero_left}
@@ -27,6 +27,14 @@ registers-left r cuts n g i c =
       | inl e ↦ inl (are ∙ ap (registers_of r.lines) e ∙ registers_of-block r r.lines i.whole refl)
       | inr t ↦ inr (are ∙ ap (registers_of r.lines) t.0 ∙ registers_of-block (moved r) r.lines (whole-moved r i.whole) refl, t.1)
     ]
+
+-- a cut of a device that is up leaves the registers in hand
+pub registers-quiet : (r : Registers) (cuts : ℕ) (n : Device) (g : List Block) → IsLevelled r cuts n → IsQuiet r n → Crash n g → registers_in g ≡ r
+registers-quiet r cuts n g i q c =
+    let lines : length g - 2 ≡ r.lines = omega (arith, c.same_length, i.blocks) in
+    ap (λ n. registers_of n (block_at g (n + 1))) lines
+    ∙ ap (registers_of r.lines) (q.in_hand (block_at g (r.lines + 1)) (c.each (r.lines + 1)))
+    ∙ registers_of-block r r.lines i.whole refl
 
 -- an image that a cut may leave has its own registers in the block of registers
 pub block-left : (r : Registers) (cuts : ℕ) (n : Device) (g : List Block) → IsLevelled r cuts n → Crash n g
@@ -85,10 +93,10 @@ Crash-seen r cuts n g i c =
 
 -- after a cut it is levelled by the registers of the image that was left
 pub IsLevelled-cut : (r : Registers) (cuts pick : ℕ) (old : Device) (g : List Block) → IsLevelled r cuts old → Crash old g
-    → IsLevelled (registers_in g) (cuts + 1) (cut_to old pick g)
-IsLevelled-cut r cuts pick old g i c =
+    → (wear : Wear) → IsLevelled (registers_in g) (cuts + 1) (cut_to old pick g wear)
+IsLevelled-cut r cuts pick old g i c wear =
     let s : Registers = registers_in g in
-    let n : Device = cut_to old pick g in
+    let n : Device = cut_to old pick g wear in
     let w : IsWhole s = whole-left r cuts old g i c in
     let lines : r.lines ≡ s.lines = omega (arith, c.same_length, i.blocks) in
     let q : IsQuiet s n = rest-quiet s n refl (block-left r cuts old g i c) in
@@ -104,9 +112,9 @@ IsLevelled-cut r cuts pick old g i c =
     }
 
 -- a cut of the inner device is a cut of its lines
-pub seen-cut : (r : Registers) (cuts pick : ℕ) (old : Device) (g : List Block) → IsLevelled r cuts old → Crash old g
-    → seen (registers_in g) (cut_to old pick g) ≡ cut_to (seen r old) pick (unmapped g)
-seen-cut r cuts pick old g i c =
+pub seen-cut : (r : Registers) (cuts pick : ℕ) (old : Device) (g : List Block) (wear : Wear) → IsLevelled r cuts old → Crash old g
+    → seen (registers_in g) (cut_to old pick g wear) ≡ cut_to (seen r old) pick (unmapped g) wear
+seen-cut r cuts pick old g wear i c =
     let lines : r.lines ≡ (registers_in g).lines = omega (arith, c.same_length, i.blocks) in
     let some : (r.lines == 0) ≡ false = ne_eqb r.lines 0 (λ e. omega (arith, e, i.whole.start)) in
     let some' : ((registers_in g).lines == 0) ≡ false = ap (λ n. n == 0) (sym lines) ∙ some in
@@ -118,12 +126,27 @@ seen-cut r cuts pick old g i c =
     ap (λ t. if t then [] else old.picks ++ pick ∷ []) some' ∙ ap (λ t. (if t then [] else old.picks) ++ pick ∷ []) (sym some) in
     let room : (if (registers_in g).lines == 0 then 0 else old.left_room) ≡ (if r.lines == 0 then 0 else old.left_room) =
     ap (λ t. if t then 0 else old.left_room) (some' ∙ sym some) in
-    ap (λ (l : List (List Block)). record (seen (registers_in g) (cut_to old pick g)) { left = l }) left
-    ∙ ap (λ (l : List ℕ). record (cut_to (seen r old) pick (unmapped g)) { picks = l; left_room = if (registers_in g).lines == 0 then 0 else old.left_room }) picks
-    ∙ ap (λ (k : ℕ). record (cut_to (seen r old) pick (unmapped g)) { left_room = k }) room
+    ap (λ (l : List (List Block)). record (seen (registers_in g) (cut_to old pick g wear)) { left = l }) left
+    ∙ ap (λ (l : List ℕ). record (cut_to (seen r old) pick (unmapped g) wear) { picks = l; left_room = if (registers_in g).lines == 0 then 0 else old.left_room }) picks
+    ∙ ap (λ (k : ℕ). record (cut_to (seen r old) pick (unmapped g) wear) { left_room = k }) room
 
-pub IsCut-seen : (r : Registers) (cuts pick : ℕ) (old new : Device) → IsLevelled r cuts old → IsCut pick old new
-    → IsCut pick (seen r old) (seen (registers_in new.image) new) × IsLevelled (registers_in new.image) (cuts + 1) new
-IsCut-seen r cuts pick old new i c =
-    subst (λ (n : Device). IsCut pick (seen r old) (seen (registers_in new.image) n) × IsLevelled (registers_in new.image) (cuts + 1) n) (sym c.device)
-    (record { crash = Crash-seen r cuts old new.image i c.crash; device = seen-cut r cuts pick old new.image i c.crash }, IsLevelled-cut r cuts pick old new.image i c.crash)
+-- with these counts, if a cut may leave them
+pub IsCut-seen : (every since moves later more : ℕ) (r : Registers) (cuts pick : ℕ) (old new : Device) → IsLevelled r cuts old → IsCut pick old new
+    → CutsWear old.down (wear_over old.wear every since moves) (wear_over new.wear every later more)
+    → IsCut pick (looks every since moves r old) (looks every later more (registers_in new.image) new)
+IsCut-seen every since moves later more r cuts pick old new i c wear =
+    let g : List Block = new.image in
+    let after : Wear = wear_over new.wear every later more in
+    let crash : Crash (seen r old) (unmapped g) = Crash-seen r cuts old g i c.crash in
+    record {
+      crash = record { same_length = crash.same_length; each = crash.each };
+      wear = wear;
+      device =
+          ap (λ (n : Device). record (seen (registers_in g) n) { wear = after }) c.device
+          ∙ ap (λ (n : Device). record n { wear = after }) (seen-cut r cuts pick old g new.wear i c.crash);
+    }
+
+pub IsLevelled-after_cut : (r : Registers) (cuts pick : ℕ) (old new : Device) → IsLevelled r cuts old → IsCut pick old new
+    → IsLevelled (registers_in new.image) (cuts + 1) new
+IsLevelled-after_cut r cuts pick old new i c =
+    subst (IsLevelled (registers_in new.image) (cuts + 1)) (sym c.device) (IsLevelled-cut r cuts pick old new.image i c.crash new.wear)

@@ -5,12 +5,12 @@ use Rattle.std.proofs.lemmas.Bool.{true≢false}
 use Rattle.std.proofs.lemmas.List.Elements.{All-drop, All-push, All-nil}
 use Rattle.thy_block.specs.declared.block.Block.{Block}
 use Rattle.thy_block.specs.declared.nvm.Write.{Write}
-use Rattle.thy_block.specs.Device.{Device, IsFramed, HasFailed, HasFailedToWrite, HoldsNoMore, CrashAt, write_of, landed, settled, surplus, with_queued, written_to}
+use Rattle.thy_block.specs.Device.{Device, IsFramed, HasFailed, HasFailedToWrite, HoldsNoMore, CrashAt, Wear, write_of, landed, settled, surplus, with_queued, written_to}
 use Rattle.thy_block.proofs.DeviceLemmas.{no_more-landed, no_more-settled, no_more-written_to_other, CrashAt-elsewhere}
 use Rattle.thy_gap.specs.declared.registers.Registers.{Registers}
 use Rattle.thy_gap.specs.Lines.{IsWhole, place, line_at, source}
 use Rattle.thy_gap.specs.Seen.{unmapped, seen}
-use Rattle.thy_gap.specs.Levelled.{IsOfRegisters, IsQuiet, HasRegisters, IsLevelled}
+use Rattle.thy_gap.specs.Levelled.{IsOfRegisters, IsQuiet, HasRegisters, IsLevelled, looks}
 use Rattle.thy_gap.proofs.LineLemmas.{place-within, line_at-place}
 use Rattle.thy_gap.proofs.RegisterLemmas.{IsOfRegisters-in_hand, IsCopied-no_more}
 use Rattle.thy_gap.proofs.SeenLemmas.{length-unmap, no_more-seen, seen-with_queued}
@@ -23,10 +23,10 @@ IsQuiet-landed r n k q = record {
   in_hand = λ b h. q.in_hand b (no_more-landed k n (r.lines + 1) b h);
 }
 
-pub IsQuiet-settled : (r : Registers) (n : Device) → IsQuiet r n → IsQuiet r (settled n)
-IsQuiet-settled r n q = record {
+pub IsQuiet-settled : (r : Registers) (count : ℕ) (n : Device) → IsQuiet r n → IsQuiet r (settled count n)
+IsQuiet-settled r count n q = record {
   lines = All-nil (λ (w : Write). is_some (line_at r w.at) ≡ true);
-  in_hand = λ b h. q.in_hand b (no_more-settled n (r.lines + 1) b h);
+  in_hand = λ b h. q.in_hand b (no_more-settled count n (r.lines + 1) b h);
 }
 
 pub IsQuiet-written : (r : Registers) (n : Device) (x : ℕ) (block : Block) → IsWhole r → x < r.lines → IsQuiet r n → IsQuiet r (written_to n (place r x) block)
@@ -81,20 +81,22 @@ IsLevelled-failed_to_fit r cuts k old new i f failed =
     IsLevelled-parts r cuts old new i f.blocks f.left f.left_room failed.down
     (λ b h. IsOfRegisters-no_more r old new b (i.registers b (failed.no_more (r.lines + 1) b h)) failed.no_more)
 
-pub IsLevelled-counted : (r : Registers) (cuts k : ℕ) (old : Device) → IsLevelled r cuts old → IsLevelled r cuts (record old { fits = k })
-IsLevelled-counted r cuts k old i = record {
+-- whatever it counts
+pub IsLevelled-counted : (r : Registers) (cuts fits writes : ℕ) (wear : Wear) (old : Device) → IsLevelled r cuts old
+    → IsLevelled r cuts (record old { fits = fits; writes = writes; wear = wear })
+IsLevelled-counted r cuts fits writes wear old i = record {
   whole = i.whole;
   blocks = i.blocks;
-  registers = λ b h. IsOfRegisters-no_more r old (record old { fits = k }) b (i.registers b h) (λ x c h. h);
+  registers = λ b h. IsOfRegisters-no_more r old (record old { fits = fits; writes = writes; wear = wear }) b (i.registers b h) (λ x c h. h);
   quiet = λ up. record { lines = (i.quiet up).lines; in_hand = (i.quiet up).in_hand };
   left = i.left;
   cuts_are = i.cuts_are;
   room = i.room;
 }
 
-pub IsLevelled-failed : (r : Registers) (cuts : ℕ) (old new : Device) → IsLevelled r cuts old → IsFramed old new → HasFailed old new → IsLevelled r cuts new
-IsLevelled-failed r cuts old new i f failed =
-    IsLevelled-down r cuts old new i f failed.down (λ b h. IsOfRegisters-no_more r old new b (i.registers b (failed.no_more (r.lines + 1) b h)) failed.no_more)
+pub IsLevelled-failed : (r : Registers) (cuts : ℕ) (old new : Device) → IsLevelled r cuts old → IsFramed old new → new.down ≡ true → HoldsNoMore old new → IsLevelled r cuts new
+IsLevelled-failed r cuts old new i f down no_more =
+    IsLevelled-down r cuts old new i f down (λ b h. IsOfRegisters-no_more r old new b (i.registers b (no_more (r.lines + 1) b h)) no_more)
 
 pub IsLevelled-failed_to_write : (r : Registers) (cuts : ℕ) (old new : Device) (x : ℕ) (block : Block)
     → IsLevelled r cuts old → x < r.lines → old.down ≡ false → IsFramed old new → HasFailedToWrite (place r x) block old new → IsLevelled r cuts new
@@ -114,8 +116,9 @@ no_more-queued_seen r old new x block w l no_more =
     (no_more-seen r (with_queued (place r x) block old) new w (λ y b _. no_more (place r y) b))
 
 -- what only a fit and a cut change is seen to stay, also where registers have moved
-pub IsFramed-moved : (r s : Registers) (old new : Device) → s.lines ≡ r.lines → IsFramed old new → IsFramed (seen r old) (seen s new)
-IsFramed-moved r s old new e f = record {
+pub IsFramed-moved : (every since moves later more : ℕ) (r s : Registers) (old new : Device) → s.lines ≡ r.lines → IsFramed old new
+    → IsFramed (looks every since moves r old) (looks every later more s new)
+IsFramed-moved every since moves later more r s old new e f = record {
   blocks = length-unmap s new.image ∙ e ∙ sym (length-unmap r old.image);
   left = ap (λ n. if n == 0 then [] else map unmapped new.left) e ∙ ap (λ (l : List (List Block)). if r.lines == 0 then [] else map unmapped l) f.left;
   picks = ap (λ n. if n == 0 then [] else new.picks) e ∙ ap (λ (l : List ℕ). if r.lines == 0 then [] else l) f.picks;
@@ -126,13 +129,6 @@ IsFramed-moved r s old new e f = record {
   whole = f.whole;
 }
 
-pub IsFramed-seen : (r : Registers) (old new : Device) → IsFramed old new → IsFramed (seen r old) (seen r new)
-IsFramed-seen r old new f = IsFramed-moved r r old new refl f
-
--- a call that failed is seen to fail; before a fit there are no lines
-pub HasFailed-seen : (r : Registers) (old new : Device) → IsWhole r → HasFailed old new → HasFailed (seen r old) (seen r new)
-HasFailed-seen r old new w failed = record { down = failed.down; no_more = no_more-seen r old new w (λ x b _. failed.no_more (place r x) b) }
-
-pub HasFailedToWrite-seen : (r : Registers) (old new : Device) (x : ℕ) (block : Block) → IsWhole r → x < r.lines
-    → HasFailedToWrite (place r x) block old new → HasFailedToWrite x block (seen r old) (seen r new)
-HasFailedToWrite-seen r old new x block w l failed = record { down = failed.down; no_more = no_more-queued_seen r old new x block w l failed.no_more }
+pub IsFramed-seen : (every since moves later more : ℕ) (r : Registers) (old new : Device) → IsFramed old new
+    → IsFramed (looks every since moves r old) (looks every later more r new)
+IsFramed-seen every since moves later more r old new f = IsFramed-moved every since moves later more r r old new refl f

@@ -8,3 +8,4 @@ pub mod RoundLemmas
 pub mod SeenLemmas
 pub mod SoundLemmas
 pub mod TurnLemmas
+pub mod WearLemmas

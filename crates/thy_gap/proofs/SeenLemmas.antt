@@ -8,7 +8,8 @@ use Rattle.std.proofs.lemmas.List.Elements.{All-head, All-tail, Contains-push}
 use Rattle.std.proofs.lemmas.Option.{none-some}
 use Rattle.thy_block.specs.declared.block.Block.{Block}
 use Rattle.thy_block.specs.declared.nvm.Write.{Write}
-use Rattle.thy_block.specs.Device.{Device, IsCrashOf, CrashAt, zero_block, write_of, block_at, queued_for, newest_over, applied, possible, newest, landed, settled, surplus, with_queued, written_to, HoldsNoMore}
+use Rattle.thy_block.specs.Counts.{next}
+use Rattle.thy_block.specs.Device.{Device, IsCrashOf, CrashAt, zero_block, write_of, block_at, queued_for, newest_over, applied, possible, newest, landed, moved_on, moves_next, settled, surplus, with_queued, worn, written_to, HoldsNoMore}
 use Rattle.thy_block.proofs.DeviceLemmas.{same_as_only, CrashAt-possible, CrashAt-only, block_at-set, queued_for-append, newest_over-append, applied-append}
 use Rattle.thy_gap.specs.declared.registers.Registers.{Registers}
 use Rattle.thy_gap.specs.Lines.{IsWhole, place, line_at}
@@ -220,8 +221,10 @@ seen-landed r n k w len all =
     (unmap-applied r n.image (take k n.queue) w len ∙ ap (applied (unmap r n.image)) (take-unmap_queue r k n.queue all))
     (drop-unmap_queue r k n.queue all)
 
-pub seen-settled : (r : Registers) (n : Device) → IsWhole r → length n.image ≡ r.lines + 2 → seen r (settled n) ≡ settled (seen r n)
-seen-settled r n w len = seen-changed r n (applied n.image n.queue) [] (applied (unmap r n.image) (unmap_queue r n.queue)) [] (unmap-applied r n.image n.queue w len) refl
+pub seen-settled : (r : Registers) (count : ℕ) (n : Device) → IsWhole r → length n.image ≡ r.lines + 2 → seen r (settled count n) ≡ settled count (seen r n)
+seen-settled r count n w len =
+    let m : Device = record n { writes = count; wear = if moves_next n then moved_on n.wear else n.wear } in
+    seen-changed r m (applied n.image n.queue) [] (applied (unmap r n.image) (unmap_queue r n.queue)) [] (unmap-applied r n.image n.queue w len) refl
 
 -- a write of a line that is queued is seen to be
 pub seen-with_queued : (r : Registers) (n : Device) (x : ℕ) (b : Block) → IsWhole r → x < r.lines
@@ -240,12 +243,13 @@ pub seen-written : (r : Registers) (n : Device) (x : ℕ) (b : Block)
     → seen r (written_to n (place r x) b) ≡ written_to (seen r n) x b
 seen-written r n x b w l len all =
     let k : ℕ = surplus n in
+    let m : Device = record n { writes = next n.writes; wear = worn n.wear } in
     let queued : unmap_queue r (drop k n.queue ++ write_of (place r x) b ∷ []) ≡ drop k (unmap_queue r n.queue) ++ write_of x b ∷ [] =
     unmap_queue-append r (drop k n.queue) (write_of (place r x) b ∷ [])
     ∙ ap (λ q. q ++ (write_to (line_at r (place r x)) b ++ [])) (drop-unmap_queue r k n.queue all)
     ∙ ap (λ o. drop k (unmap_queue r n.queue) ++ (write_to o b ++ [])) (line_at-place r x w l) in
-    seen-changed r n (applied n.image (take k n.queue)) (drop k n.queue ++ write_of (place r x) b ∷ [])
+    seen-changed r m (applied n.image (take k n.queue)) (drop k n.queue ++ write_of (place r x) b ∷ [])
     (applied (unmap r n.image) (take k (unmap_queue r n.queue))) (drop k (unmap_queue r n.queue) ++ write_of x b ∷ [])
     (unmap-applied r n.image (take k n.queue) w len ∙ ap (applied (unmap r n.image)) (take-unmap_queue r k n.queue all))
     queued
-    ∙ ap (λ j. record (seen r n) { image = applied (unmap r n.image) (take j (unmap_queue r n.queue)); queue = drop j (unmap_queue r n.queue) ++ write_of x b ∷ [] }) (sym (surplus-seen r n all))
+    ∙ ap (λ j. record (seen r m) { image = applied (unmap r n.image) (take j (unmap_queue r n.queue)); queue = drop j (unmap_queue r n.queue) ++ write_of x b ∷ [] }) (sym (surplus-seen r n all))

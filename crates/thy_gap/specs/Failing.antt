@@ -1,7 +1,7 @@
 -- Before and after a move that fails.
 use Rattle.std.specs.Prelude.{◌≡◌, ◌≢◌, ℕ, ◌+◌, true, false, [], length}
 use Rattle.thy_block.specs.declared.block.Block.{Block}
-use Rattle.thy_block.specs.Device.{Device, CrashAt, block_at}
+use Rattle.thy_block.specs.Device.{Device, HoldsNoMore, CrashAt, block_at, with_queued}
 use Rattle.thy_gap.specs.declared.registers.Registers.{Registers}
 use Rattle.thy_gap.specs.Lines.{IsWhole, registers_block}
 use Rattle.thy_gap.specs.Levelled.{IsOfRegisters}
@@ -14,6 +14,11 @@ pub record IsAtRest (r : Registers) (n : Device) : Type 0 where
   pub empty : n.queue ≡ []
   pub lands_whole : n.whole ≡ true
   pub in_hand : block_at n.image (r.lines + 1) ≡ registers_block r
+
+-- after a write and a barrier of which one failed: no place may hold more than if the block had been queued
+pub record HasFailedToPut (at : ℕ) (block : Block) (old new : Device) : Type 0 where
+  pub down : new.down ≡ true
+  pub no_more : HoldsNoMore (with_queued at block old) new
 
 -- after a move that failed: no line may hold anything new, and registers that have moved imply that the line was
 -- copied

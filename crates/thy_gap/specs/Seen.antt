@@ -26,7 +26,7 @@ abbrev pub unmap_queue : Registers → List Write → List Write
 unmap_queue r [] = []
 unmap_queue r (w ∷ ws) = write_to (line_at r w.at) w.block ++ unmap_queue r ws
 
--- the device of lines that an inner device means; before a fit it is empty
+-- the device of lines that an inner device means, with its counts; before a fit it is empty
 abbrev pub seen : Registers → Device → Device
 seen r n = record n {
   image = unmap r n.image;

@@ -1,9 +1,11 @@
 //! A device whose lines wander over an inner one.
-ghost use Rattle.std.specs.Prelude.{◌≡◌, ◌+◌, ◌^◌, ◌<◌, ◌≤◌, false, length, IfOk, OnOk, OnErr, IfErr, slice_index_or, []};
-ghost use Rattle.thy_block.specs.Device.{newest, block_at, written_to, drained, settled, fitted, IsCut, IsFramed, HasFailed, HasFailedToWrite, HasFailedToFit, CountsFault, CountsWrite};
-ghost use Rattle.thy_gap.specs.Levelled.{over as levelled_over, shown, first_image, inner_fitted, IsOver, HasFitted, HasWritten, is_due as due_by, HasMovedIfDue, settled_and_moved, HasCut, counted_on};
+ghost use Rattle.std.specs.Prelude.{◌≡◌, ◌+◌, ◌^◌, ◌<◌, ◌≤◌, false, length, IfOk, OnOk, OnErr, IfErr, MatchResult, slice_index_or, []};
+ghost use Rattle.thy_block.specs.Device.{newest, block_at, written_to, drained, fitted, IsCut, IsSettled, IsFramed, HasFailed, HasFailedToSettle, HasFailedToWrite, HasFailedToFit, CountsFault};
+ghost use Rattle.thy_block.specs.Counts.{next};
+ghost use Rattle.thy_gap.specs.Levelled.{over as levelled_over, shown, first_image, inner_fitted, IsOver, HasFitted, HasWritten, is_due as due_by, HasMovedIfDue, settled_and_moved, HasCut, counted_on, moves_on};
+ghost use Rattle.thy_gap.specs.Moving.{with_counts_of};
 ghost use Rattle.thy_gap.specs.Lines.{place as place_of_line};
-ghost use Rattle.thy_gap.specs.Meaning.{ImageMeansSeen, CrashMeansSeen, LeftMeansSeen};
+ghost use Rattle.thy_gap.specs.Meaning.{ImageMeansSeen, CrashMeansSeen, LeftMeansSeen, RegistersMeanMoves};
 
 use crate::Registers;
 use crate::moving::{move_line, registers_kept};
@@ -23,6 +25,8 @@ pub struct Gap<N: Nvm> {
     registers: Registers,
     // How many writes succeeded since the last move of a line, or the fit. Saturates.
     since: u64,
+    // How often a line has moved since the fit. Saturates.
+    moves: u64,
     // How many cuts there were since the last fit.
     cuts: u64,
 }
@@ -32,9 +36,9 @@ impl<N: Nvm> Model for Gap<N> {
 
     ghost Value = { Levelled N };
 
-    ghost view = { λ g. record { inner = g.inner; every = g.every; registers = g.registers; since = g.since; cuts = g.cuts } };
+    ghost view = { λ g. record { inner = g.inner; every = g.every; registers = g.registers; since = g.since; moves = g.moves; cuts = g.cuts } };
 
-    ghost invariant = { λ g. IsSoundGap g.every g.registers g.since g.cuts (N.device g.inner) };
+    ghost invariant = { λ g. IsSoundGap g.every g.registers g.since g.moves g.cuts (N.device g.inner) };
 }
 
 impl<N: Nvm> Gap<N> {
@@ -49,6 +53,7 @@ impl<N: Nvm> Gap<N> {
             every,
             registers: Registers::none(),
             since: 0,
+            moves: 0,
             cuts: 0,
         }
     }
@@ -81,6 +86,7 @@ impl<N: Nvm> Gap<N> {
         ensures image { ImageMeansSeen (N.device self.now.inner) (shown N.device self.now) }
         ensures crash { CrashMeansSeen (N.device self.now.inner) (shown N.device self.now) }
         ensures left { LeftMeansSeen (N.device self.now.inner) (shown N.device self.now) }
+        ensures moves { RegistersMeanMoves (N.device self.now.inner) (shown N.device self.now) self.now.moves }
     {
         let _ = &self.cuts;
     }
@@ -107,6 +113,18 @@ fn counted_on(before: Registers, left: Registers, since: u64) -> u64
     if left.gap == before.gap { since } else { 0 }
 }
 
+/// How often a line has moved after a cut, by the registers before it and in the image that it left: once more if the cut
+/// completed a move.
+fn moves_on(before: Registers, left: Registers, moves: u64) -> u64
+    ensures { result ≡ moves_on before left moves }
+{
+    if left.gap == before.gap {
+        moves
+    } else {
+        moves.saturating_add(1)
+    }
+}
+
 /// Whether a barrier moves a line after this number of writes: it is what was asked for or more, and the device's blocks land
 /// whole.
 fn is_due<N: Nvm>(inner: &N, since: u64, every: u64) -> bool
@@ -117,14 +135,11 @@ fn is_due<N: Nvm>(inner: &N, since: u64, every: u64) -> bool
 
 /// The lines are a device, over every inner device that keeps the laws of devices: through cuts, and after a failure of
 /// any call of the inner one, in the middle of a move too. A call that failed leaves registers and counts, and a fit that
-/// failed is one that failed of the inner device. How many writes of its own a barrier makes is only tested.
+/// failed is one that failed of the inner device.
 impl<N: Nvm> Nvm for Gap<N> {
     ghost use Rattle.thy_gap.specs.Levelled.{shown};
 
     ghost device = { shown N.device };
-
-    /// The writes of the inner device, with those that move lines.
-    ghost writes = { λ g. N.writes g.inner };
 
     fn fit(&mut self, alloc: Global, shape: &Shape, start: Vec<Block>) -> Result<(), FitError>
         requires blocks { 0 < shape.now.blocks }
@@ -136,8 +151,6 @@ impl<N: Nvm> Nvm for Gap<N> {
         ensures stays { OnErr result (IsOver self.old self.new) }
         ensures err { IfErr result (λ e. HasFailedToFit e (shown N.device self.old) (shown N.device self.new)) }
         ensures inner_err { IfErr result (λ e. HasFailedToFit e (N.device self.old.inner) (N.device self.new.inner)) }
-        ensures no_writes { OnOk result (N.writes self.new.inner ≡ 0) }
-        ensures same_writes { OnErr result (N.writes self.new.inner ≡ N.writes self.old.inner) }
     {
         let Some(blocks) = shape.blocks.checked_add(2) else {
             return Err(FitError::Memory(AllocError));
@@ -159,6 +172,7 @@ impl<N: Nvm> Nvm for Gap<N> {
         }
         self.registers = Registers::unmoved(shape.blocks);
         self.since = 0;
+        self.moves = 0;
         self.cuts = 0;
         Ok(())
     }
@@ -187,7 +201,6 @@ impl<N: Nvm> Nvm for Gap<N> {
         ensures err { OnErr result (HasFailed (shown N.device self.old) (shown N.device self.new)) }
         ensures frame { IsFramed (shown N.device self.old) (shown N.device self.new) }
         ensures cause { CountsFault result (shown N.device self.old).faults (shown N.device self.new).faults }
-        ensures same_writes { N.writes self.new.inner ≡ N.writes self.old.inner }
         ensures stays { IsOver self.old self.new }
     {
         self.inner.read(self.registers.place(at))
@@ -200,8 +213,7 @@ impl<N: Nvm> Nvm for Gap<N> {
         ensures err { OnErr result (HasFailedToWrite at block.now (shown N.device self.old) (shown N.device self.new)) }
         ensures frame { IsFramed (shown N.device self.old) (shown N.device self.new) }
         ensures cause { CountsFault result (shown N.device self.old).faults (shown N.device self.new).faults }
-        ensures counted { CountsWrite result (N.writes self.old.inner) (N.writes self.new.inner) }
-        ensures since { CountsWrite result self.old.since self.new.since }
+        ensures since { MatchResult result (λ _. self.new.since ≡ next self.old.since) (λ _. self.new.since ≡ self.old.since) }
         ensures registers { HasWritten self.new.since self.old self.new }
     {
         self.inner.write(self.registers.place(at), block)?;
@@ -216,7 +228,6 @@ impl<N: Nvm> Nvm for Gap<N> {
         ensures err { OnErr result (HasFailed (shown N.device self.old) (shown N.device self.new)) }
         ensures frame { IsFramed (shown N.device self.old) (shown N.device self.new) }
         ensures cause { CountsFault result (shown N.device self.old).faults (shown N.device self.new).faults }
-        ensures same_writes { N.writes self.new.inner ≡ N.writes self.old.inner }
         ensures stays { IsOver self.old self.new }
     {
         self.inner.drain()
@@ -226,15 +237,17 @@ impl<N: Nvm> Nvm for Gap<N> {
     /// move that succeeded or that a cut completed, or the fit, and the inner device's blocks land whole.
     fn barrier(&mut self) -> Result<(), NvmError>
         requires { (shown N.device self.old).down ≡ false }
-        ensures ok { OnOk result (shown N.device self.new ≡ settled (shown N.device self.old)) }
-        ensures err { OnErr result (HasFailed (shown N.device self.old) (shown N.device self.new)) }
+        ensures ok { OnOk result (IsSettled (shown N.device self.old) (shown N.device self.new)) }
+        ensures err { OnErr result (HasFailedToSettle (shown N.device self.old) (shown N.device self.new)) }
         ensures frame { IsFramed (shown N.device self.old) (shown N.device self.new) }
         ensures cause { CountsFault result (shown N.device self.old).faults (shown N.device self.new).faults }
-        ensures no_fewer_writes { N.writes self.old.inner ≤ N.writes self.new.inner }
         ensures moves { OnOk result (HasMovedIfDue (due_by (N.device self.old.inner) self.old.since self.old.every) self.old self.new) }
-        ensures inner { OnOk result (N.device self.new.inner ≡ settled_and_moved self.old (N.device self.old.inner)) }
+        ensures inner { let n = N.device self.old.inner in let m = N.device self.new.inner in
+            OnOk result (m ≡ with_counts_of m (settled_and_moved self.old n)) }
         ensures stays { OnErr result (IsOver self.old self.new) }
     {
+        // A count that can be read fits its type, so that it grows where it is said to.
+        let _ = self.inner.writes();
         self.inner.barrier()?;
         let due = is_due(&self.inner, self.since, self.every);
         if !due {
@@ -243,6 +256,7 @@ impl<N: Nvm> Nvm for Gap<N> {
         move_line(&mut self.inner, &self.registers)?;
         self.registers = self.registers.moved();
         self.since = 0;
+        self.moves = self.moves.saturating_add(1);
         Ok(())
     }
 
@@ -253,11 +267,11 @@ impl<N: Nvm> Nvm for Gap<N> {
         ensures cut { IsCut pick (shown N.device self.old) (shown N.device self.new) }
         ensures inner { IsCut pick (N.device self.old.inner) (N.device self.new.inner) }
         ensures registers { HasCut (N.device self.new.inner).image self.old self.new }
-        ensures same_writes { N.writes self.new.inner ≡ N.writes self.old.inner }
     {
         self.inner.cut(pick);
         let registers = registers_kept(&self.inner, self.registers.lines, self.cuts);
         self.since = counted_on(self.registers, registers, self.since);
+        self.moves = moves_on(self.registers, registers, self.moves);
         self.registers = registers;
         self.cuts += 1;
     }

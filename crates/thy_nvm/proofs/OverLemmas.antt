@@ -4,7 +4,7 @@ use Rattle.std.proofs.lemmas.Bool.{cases_lt, lt-ltb}
 use Rattle.std.proofs.lemmas.List.{get_or_default, get_or_past}
 use Rattle.thy_block.specs.declared.block.Block.{Block}
 use Rattle.thy_block.specs.declared.nvm.Write.{Write}
-use Rattle.thy_block.specs.Device.{Crash, IsCrashOf, CrashAt, zero_block, block_at, queued_for, newest_over, applied, newest, landed, settled, surplus, written_to, write_of}
+use Rattle.thy_block.specs.Device.{Crash, IsCrashOf, CrashAt, zero_block, block_at, queued_for, newest_over, applied, newest, landed, at_rest, surplus, written_to, write_of}
 use Rattle.thy_block.proofs.CrashLemmas.{Crash-image}
 use Rattle.thy_write_queue.specs.Held.{Held, device_of, as_device, put_at}
 use Rattle.thy_write_queue.specs.Merged.{merged, is_marked, AreMarked}
@@ -176,7 +176,7 @@ over-landed k held ms below same marked =
     (merged-applied ms held.image below (take k held.queue) same (AreMarked-take ms k held.queue marked))
 
 pub over-settled : (held : Held) (ms : List Bool) (below : List Block) → length held.image ≡ length ms → AreMarked ms held.queue
-    → over_below (as_device settled held) ms below ≡ as_device settled (over_below held ms below)
+    → over_below (as_device at_rest held) ms below ≡ as_device at_rest (over_below held ms below)
 over-settled held ms below same marked =
     ap (λ i. record { image = i; queue = []; room = held.room }) (merged-applied ms held.image below held.queue same marked)
 

@@ -10,7 +10,7 @@ use Rattle.thy_block.specs.Bytes.{written}
 use Rattle.thy_block.specs.Device.{Device, word_bytes, IsMadeOf, Crash, IsCut, zero_block, block_at, queued_for, possible, cut_to}
 use Rattle.thy_block.specs.Lcg.{lcg_next, lcg_draw}
 use Rattle.thy_block.proofs.BlockLemmas.{overwritten-long}
-use Rattle.thy_block.proofs.CrashLemmas.{Contains-stands, Crash-of_blocks}
+use Rattle.thy_block.proofs.CrashLemmas.{Contains-stands, Crash-of_blocks, CutsWear-same}
 use Rattle.thy_block.proofs.MadeLemmas.{IsMadeOf-one}
 use Rattle.thy_block.proofs.WrittenLemmas.{drop-written, take-written_behind, take-drop_take}
 use Rattle.thy_write_queue.specs.Held.{Held, device_of, put_at}
@@ -286,7 +286,7 @@ Crash-made held g same made = record {
 
 -- a device that leaves the image of its pick is cut
 pub IsCut-picked : (pick : ℕ) (n old new : Device) → n ≡ old → Crash n (picked n.whole pick n.image n.queue)
-    → new ≡ cut_to old pick (picked old.whole pick old.image old.queue) → IsCut pick old new
+    → new ≡ cut_to old pick (picked old.whole pick old.image old.queue) old.wear → IsCut pick old new
 IsCut-picked pick n old new same left e =
     subst (IsCut pick old) (sym e)
-    (record { crash = subst (λ (d : Device). Crash d (picked d.whole pick d.image d.queue)) same left; device = refl })
+    (record { crash = subst (λ (d : Device). Crash d (picked d.whole pick d.image d.queue)) same left; wear = CutsWear-same old.down old.wear; device = refl })

@@ -12,9 +12,10 @@ use Rattle.thy_nvm.specs.declared.call_faults.Fault.TheVariants.{Undone, Late}
 use Rattle.thy_nvm.specs.Calls.{Calls, no_calls, counted, next_fault}
 use Rattle.thy_nvm.specs.Kept.{Cuts, no_cuts}
 
--- the device that lies in these parts, is up or down, has these counts of faults and fits, and whose blocks land whole or not
-abbrev pub device_in : Held → Cuts → Bool → ℕ → ℕ → Bool → Device
-device_in held cuts down faults fits whole = record (device_of held) {
+-- the device that lies in these parts, is up or down, has these counts of faults and fits, whose blocks land whole or not, and
+-- which has taken this number of writes
+abbrev pub device_in : Held → Cuts → Bool → ℕ → ℕ → Bool → ℕ → Device
+device_in held cuts down faults fits whole writes = record (device_of held) {
   left = cuts.left;
   picks = cuts.picks;
   left_room = cuts.room;
@@ -22,22 +23,21 @@ device_in held cuts down faults fits whole = record (device_of held) {
   faults = faults;
   fits = fits;
   whole = whole;
+  writes = writes;
 }
 
--- a device in memory, with its counts of writes and calls, and which of the calls fail
+-- a device in memory, with its count of calls, and which of these fail
 pub record InMemory : Type 0 where
   pub device : Device
-  -- how many writes it has taken since it was fitted; it saturates
-  pub writes : ℕ
   pub calls : Calls
 
-abbrev pub in_memory : Device → ℕ → Calls → InMemory
-in_memory device writes calls = record { device = device; writes = writes; calls = calls }
+abbrev pub in_memory : Device → Calls → InMemory
+in_memory device calls = record { device = device; calls = calls }
 
 -- a device before it is fitted, whose blocks land whole or not, whose calls of these numbers will do nothing, and of those
 -- fail late
 abbrev pub fresh_device : Bool → List ℕ → List ℕ → InMemory
-fresh_device whole failing late = in_memory (device_in nothing (no_cuts 0 0) false 0 0 whole) 0 (no_calls failing late)
+fresh_device whole failing late = in_memory (device_in nothing (no_cuts 0 0) false 0 0 whole 0) (no_calls failing late)
 
 -- a device in memory after a call that changes its meaning to this
 abbrev pub with_device : InMemory → Device → InMemory
@@ -49,7 +49,7 @@ on_device call m = with_device m (call m.device)
 
 -- a device in memory after a fit
 abbrev pub refitted : Shape → List Block → InMemory → InMemory
-refitted shape start m = record m { device = fitted shape start m.device; writes = 0 }
+refitted shape start m = with_device m (fitted shape start m.device)
 
 -- after a fit for which there was not enough memory
 abbrev pub fit_refused : InMemory → InMemory
@@ -66,11 +66,11 @@ pub record IsFresh (shape : Shape) (start : List Block) (held : Held) (cuts : Cu
 
 -- a device in memory after a write
 abbrev pub written : ℕ → Block → InMemory → InMemory
-written at block m = record m { device = written_to m.device at block; writes = next m.writes }
+written at block m = with_device m (written_to m.device at block)
 
--- the meaning of a device after a write
+-- the meaning of a device after a write that fails late: it is queued, and not counted
 abbrev pub with_write : ℕ → Block → Device → Device
-with_write at block n = written_to n at block
+with_write at block n = record (written_to n at block) { writes = n.writes; wear = n.wear }
 
 -- after the older half of a queue, rounded down, has landed
 abbrev pub half_settled : Device → Device

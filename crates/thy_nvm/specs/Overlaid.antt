@@ -11,11 +11,9 @@ use Rattle.thy_nvm.specs.Pick.{picked}
 
 pub record Overlaid : Type 0 where
   pub device : Device
-  -- how many writes it has taken; it saturates
-  pub writes : ℕ
 
-abbrev pub overlaid : Device → ℕ → Overlaid
-overlaid device writes = record { device = device; writes = writes }
+abbrev pub overlaid : Device → Overlaid
+overlaid device = record { device = device }
 
 -- a ring whose blocks count where they are marked; elsewhere those below do
 abbrev pub over_below : Held → List Bool → List Block → Held
@@ -25,15 +23,15 @@ over_below held marks below = record held { image = merged marks held.image belo
 abbrev pub left_of : ℕ → InMemory → ℕ → Overlaid
 left_of pick m cuts =
     overlaid (device_in (record { image = picked m.device.whole pick m.device.image m.device.queue; queue = []; room = m.device.queue_room })
-    (no_cuts (length m.device.image) cuts) false 0 0 m.device.whole) 0
+    (no_cuts (length m.device.image) cuts) false 0 0 m.device.whole 0)
 
--- an overlay after a call that writes nothing
+-- an overlay after a call
 abbrev pub on_overlay : (Device → Device) → Overlaid → Overlaid
 on_overlay call o = record o { device = call o.device }
 
 -- an overlay after a write
 abbrev pub written_over : ℕ → Block → Overlaid → Overlaid
-written_over at block o = overlaid (written_to o.device at block) (next o.writes)
+written_over at block = on_overlay (λ n. written_to n at block)
 
 -- after a block was put at a place, whatever is queued
 abbrev pub put_in : ℕ → Block → Device → Device

@@ -88,7 +88,7 @@ landing whole held = record (device_of held) { whole = whole }
 
 -- a device after its power was cut with this pick
 abbrev pub cut_device : ℕ → Device → Device
-cut_device pick n = cut_to n pick (picked n.whole pick n.image n.queue)
+cut_device pick n = cut_to n pick (picked n.whole pick n.image n.queue) n.wear
 
 -- a device in memory after its power was cut with this pick
 abbrev pub cut_by : ℕ → InMemory → InMemory

@@ -25,8 +25,6 @@ impl ChosenNvm {
 impl Nvm for ChosenNvm {
     ghost device = { λ it. it.nvm.device };
 
-    ghost writes = { λ it. it.nvm.writes };
-
     fn fit(&mut self, alloc: Global, shape: &Shape, start: Vec<Block>) -> Result<(), FitError> {
         self.nvm.fit(alloc, shape, start)
     }

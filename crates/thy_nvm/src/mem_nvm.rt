@@ -2,7 +2,7 @@
 ghost use Rattle.std.specs.Prelude.{◌≡◌, ◌+◌, ◌<◌, ◌≤◌, ◌^◌, true, false, length, is_err, is_some, IfOk, IfSome, OnOk, OnErr, IfErr, slice_index_or, []};
 ghost use Rattle.thy_block.specs.declared.nvm.Write.{Write as Written};
 ghost use Rattle.thy_block.specs.Counts.{Rose};
-ghost use Rattle.thy_block.specs.Device.{Device, newest, block_at, written_to, drained, settled, fitted, IsCut, IsFramed, HasFailed, HasFailedToWrite, HasFailedToFit, CountsFault, CountsWrite};
+ghost use Rattle.thy_block.specs.Device.{Device, newest, block_at, written_to, drained, at_rest, fitted, IsCut, IsSettled, IsFramed, HasFailed, HasFailedToSettle, HasFailedToWrite, HasFailedToFit, CountsFault};
 ghost use Rattle.thy_nvm.specs.DeviceInMemory.{InMemory, fresh_device, with_device, on_device, IsFit, IsFresh, written, with_write, half_settled, failed, left_after, IsCall};
 ghost use Rattle.thy_nvm.specs.Pick.{cut_by};
 ghost use Rattle.thy_write_queue.specs.Held.{as_device, held_by};
@@ -44,7 +44,7 @@ impl Model for MemNvm {
 
     ghost Value = { InMemory };
 
-    ghost view = { λ m. in_memory (device_in m.ring m.kept m.down m.faults m.fits m.whole) m.writes m.calls };
+    ghost view = { λ m. in_memory (device_in m.ring m.kept m.down m.faults m.fits m.whole m.writes) m.calls };
 
     ghost invariant = { λ m. m.kept.size ≡ length m.ring.image };
 }
@@ -136,8 +136,7 @@ impl MemNvm {
     pub(crate) fn cut_as_chosen(&mut self, pick: u64, choices: &mut Choices)
         requires room { length self.old.device.left < self.old.device.left_room }
         requires torn { self.old.device.whole ≡ false }
-        ensures cut { IsCut pick self.old.device self.new.device }
-        ensures same_writes { self.new.writes ≡ self.old.writes }
+        ensures { IsCut pick self.old.device self.new.device }
     {
         leave_chosen(&mut self.ring, choices);
         self.kept.keep(self.ring.image(), pick);
@@ -227,7 +226,7 @@ impl MemNvm {
     /// Lets every write land, unless the call has a fault.
     fn barrier_unless(&mut self, fault: Option<Fault>) -> Result<(), NvmError>
         ensures fails { is_err result ≡ is_some fault }
-        ensures leaves { self.new ≡ left_after fault (on_device settled) half_settled self.old }
+        ensures leaves { self.new ≡ left_after fault (on_device at_rest) half_settled self.old }
         ensures cause { CountsFault result self.old.device.faults self.new.device.faults }
     {
         match fault {
@@ -270,8 +269,6 @@ fn fresh(alloc: Global, shape: &Shape, start: Vec<Block>) -> Result<(Ring, Kept)
 impl Nvm for MemNvm {
     ghost device = { λ m. m.device };
 
-    ghost writes = { λ m. m.writes };
-
     /// Fails only if memory runs out, and is not one of the calls that are numbered.
     fn fit(&mut self, alloc: Global, shape: &Shape, start: Vec<Block>) -> Result<(), FitError>
         requires blocks { 0 < shape.now.blocks }
@@ -280,8 +277,6 @@ impl Nvm for MemNvm {
         ensures exact { IsFit shape.now start.items self.old result self.new }
         ensures ok { OnOk result (self.new.device ≡ fitted shape.now start.items self.old.device) }
         ensures err { IfErr result (λ e. HasFailedToFit e self.old.device self.new.device) }
-        ensures no_writes { OnOk result (self.new.writes ≡ 0) }
-        ensures same_writes { OnErr result (self.new.writes ≡ self.old.writes) }
     {
         self.fits = self.fits.saturating_add(1);
         match fresh(alloc, shape, start) {
@@ -317,7 +312,6 @@ impl Nvm for MemNvm {
         ensures err { OnErr result (HasFailed self.old.device self.new.device) }
         ensures frame { IsFramed self.old.device self.new.device }
         ensures cause { CountsFault result self.old.device.faults self.new.device.faults }
-        ensures same_writes { self.new.writes ≡ self.old.writes }
     {
         let fault = self.calls.next();
         self.read_unless(fault, at)
@@ -331,7 +325,6 @@ impl Nvm for MemNvm {
         ensures err { OnErr result (HasFailedToWrite at block.now self.old.device self.new.device) }
         ensures frame { IsFramed self.old.device self.new.device }
         ensures cause { CountsFault result self.old.device.faults self.new.device.faults }
-        ensures counted { CountsWrite result self.old.writes self.new.writes }
     {
         let fault = self.calls.next();
         self.write_unless(fault, at, block)
@@ -345,7 +338,6 @@ impl Nvm for MemNvm {
         ensures err { OnErr result (HasFailed self.old.device self.new.device) }
         ensures frame { IsFramed self.old.device self.new.device }
         ensures cause { CountsFault result self.old.device.faults self.new.device.faults }
-        ensures same_writes { self.new.writes ≡ self.old.writes }
     {
         let fault = self.calls.next();
         self.drain_unless(fault)
@@ -354,12 +346,11 @@ impl Nvm for MemNvm {
     /// Makes no write of its own.
     fn barrier(&mut self) -> Result<(), NvmError>
         requires { self.old.device.down ≡ false }
-        ensures exact { IsCall (on_device settled) half_settled self.old result self.new }
-        ensures ok { OnOk result (self.new.device ≡ settled self.old.device) }
-        ensures err { OnErr result (HasFailed self.old.device self.new.device) }
+        ensures exact { IsCall (on_device at_rest) half_settled self.old result self.new }
+        ensures ok { OnOk result (IsSettled self.old.device self.new.device) }
+        ensures err { OnErr result (HasFailedToSettle self.old.device self.new.device) }
         ensures frame { IsFramed self.old.device self.new.device }
         ensures cause { CountsFault result self.old.device.faults self.new.device.faults }
-        ensures no_fewer_writes { self.old.writes ≤ self.new.writes }
     {
         let fault = self.calls.next();
         self.barrier_unless(fault)
@@ -369,7 +360,6 @@ impl Nvm for MemNvm {
         requires { length self.old.device.left < self.old.device.left_room }
         ensures exact { self.new ≡ cut_by pick self.old }
         ensures cut { IsCut pick self.old.device self.new.device }
-        ensures same_writes { self.new.writes ≡ self.old.writes }
     {
         leave(&mut self.ring, pick, self.whole);
         self.kept.keep(self.ring.image(), pick);

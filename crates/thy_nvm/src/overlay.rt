@@ -1,7 +1,7 @@
 //! A device over the image of another.
 ghost use Rattle.std.specs.Prelude.{◌≡◌, ◌<◌, ◌≤◌, false, ℕ, length, Ok, Err, IfOk, OnOk, OnErr, IfErr};
 ghost use Rattle.thy_block.specs.Counts.{next};
-ghost use Rattle.thy_block.specs.Device.{Crash, block_at, newest, written_to, drained, settled, fitted, cut_to, IsCut, IsFramed, HasFailed, HasFailedToWrite, HasFailedToFit, CountsFault, CountsWrite};
+ghost use Rattle.thy_block.specs.Device.{Crash, block_at, newest, written_to, drained, at_rest, fitted, IsCut, IsSettled, Plain, IsFramed, HasFailed, HasFailedToSettle, HasFailedToWrite, HasFailedToFit, CountsFault};
 ghost use Rattle.thy_block.specs.declared.nvm.FitError.TheVariants.{Failed};
 ghost use Rattle.thy_nvm.specs.Overlaid.{left_of, on_overlay, put_in, written_over, fit_failed};
 ghost use Rattle.thy_nvm.specs.Pick.{cut_device};
@@ -76,7 +76,7 @@ impl<'a> Model for Overlay<'a> {
 
     ghost Value = { Overlaid };
 
-    ghost view = { λ o. overlaid (device_in (over_below o.ring o.marks.items o.below.now) o.kept o.down o.faults o.faults o.whole) o.writes };
+    ghost view = { λ o. overlaid (device_in (over_below o.ring o.marks.items o.below.now) o.kept o.down o.faults o.faults o.whole o.writes) };
 
     ghost invariant = { λ o. IsSoundOverlay o.ring o.marks.items o.below.now o.kept.size };
 }
@@ -154,8 +154,6 @@ impl<'a> Overlay<'a> {
 impl<'a> Nvm for Overlay<'a> {
     ghost device = { λ o. o.device };
 
-    ghost writes = { λ o. o.writes };
-
     /// Fails: `of` alone makes this device.
     fn fit(&mut self, alloc: Global, shape: &Shape, start: Vec<Block>) -> Result<(), FitError>
         requires blocks { 0 < shape.now.blocks }
@@ -165,8 +163,6 @@ impl<'a> Nvm for Overlay<'a> {
         ensures leaves { self.new ≡ on_overlay fit_failed self.old }
         ensures ok { OnOk result (self.new.device ≡ fitted shape.now start.items self.old.device) }
         ensures err { IfErr result (λ e. HasFailedToFit e self.old.device self.new.device) }
-        ensures no_writes { OnOk result (self.new.writes ≡ 0) }
-        ensures same_writes { OnErr result (self.new.writes ≡ self.old.writes) }
     {
         let _ = (alloc, shape, start);
         self.down = true;
@@ -196,7 +192,6 @@ impl<'a> Nvm for Overlay<'a> {
         ensures err { OnErr result (HasFailed self.old.device self.new.device) }
         ensures frame { IsFramed self.old.device self.new.device }
         ensures cause { CountsFault result self.old.device.faults self.new.device.faults }
-        ensures same_writes { self.new.writes ≡ self.old.writes }
     {
         Ok(self.block(at))
     }
@@ -210,7 +205,6 @@ impl<'a> Nvm for Overlay<'a> {
         ensures err { OnErr result (HasFailedToWrite at block.now self.old.device self.new.device) }
         ensures frame { IsFramed self.old.device self.new.device }
         ensures cause { CountsFault result self.old.device.faults self.new.device.faults }
-        ensures counted { CountsWrite result self.old.writes self.new.writes }
     {
         self.write_over(at, block);
         Ok(())
@@ -225,7 +219,6 @@ impl<'a> Nvm for Overlay<'a> {
         ensures err { OnErr result (HasFailed self.old.device self.new.device) }
         ensures frame { IsFramed self.old.device self.new.device }
         ensures cause { CountsFault result self.old.device.faults self.new.device.faults }
-        ensures same_writes { self.new.writes ≡ self.old.writes }
     {
         self.land_oldest();
         Ok(())
@@ -234,12 +227,11 @@ impl<'a> Nvm for Overlay<'a> {
     fn barrier(&mut self) -> Result<(), NvmError>
         requires { self.old.device.down ≡ false }
         ensures exact { result ≡ Ok tt }
-        ensures leaves { self.new ≡ on_overlay settled self.old }
-        ensures ok { OnOk result (self.new.device ≡ settled self.old.device) }
-        ensures err { OnErr result (HasFailed self.old.device self.new.device) }
+        ensures leaves { self.new ≡ on_overlay at_rest self.old }
+        ensures ok { OnOk result (IsSettled self.old.device self.new.device) }
+        ensures err { OnErr result (HasFailedToSettle self.old.device self.new.device) }
         ensures frame { IsFramed self.old.device self.new.device }
         ensures cause { CountsFault result self.old.device.faults self.new.device.faults }
-        ensures no_fewer_writes { self.old.writes ≤ self.new.writes }
     {
         self.land_all();
         Ok(())
@@ -250,7 +242,6 @@ impl<'a> Nvm for Overlay<'a> {
         requires { length self.old.device.left < self.old.device.left_room }
         ensures exact { self.new ≡ on_overlay (cut_device pick) self.old }
         ensures cut { IsCut pick self.old.device self.new.device }
-        ensures same_writes { self.new.writes ≡ self.old.writes }
     {
         take_up_all(&mut self.ring, &mut self.marks, self.below);
         leave(&mut self.ring, pick, self.whole);
@@ -295,7 +286,8 @@ impl<'a> Overlay<'a> {
 
     /// Lets every queued write land, in order.
     fn land_all(&mut self)
-        ensures { self.new ≡ on_overlay settled self.old }
+        ensures leaves { self.new ≡ on_overlay at_rest self.old }
+        ensures plain { self.old.device.wear ≡ Plain }
     {
         self.ring.settle();
     }

@@ -3,7 +3,7 @@ use Rattle.std.specs.Prelude.{ℕ, ◌<◌, true, false, List, [], length, slice
 use Rattle.circular_buffer.specs.Buffer.{Buffer}
 use Rattle.thy_block.specs.declared.block.Block.{Block}
 use Rattle.thy_block.specs.declared.nvm.Write.{Write}
-use Rattle.thy_block.specs.Device.{Device, block_at, possible, surplus, fitted}
+use Rattle.thy_block.specs.Device.{Device, Plain, block_at, possible, surplus, fitted}
 
 pub record Held : Type 0 where
   -- the blocks without the queued writes
@@ -17,7 +17,7 @@ pub record Held : Type 0 where
 abbrev pub nothing : Held
 nothing = record { image = []; queue = []; room = 0 }
 
--- a device whose blocks land whole, which holds these, has kept nothing, and was never fitted
+-- a plain device whose blocks land whole, which holds these, has kept nothing, and was never fitted or written
 abbrev pub device_of : Held → Device
 device_of r = record {
   image = r.image;
@@ -31,6 +31,8 @@ device_of r = record {
   fits = 0;
   lent = [];
   whole = true;
+  writes = 0;
+  wear = Plain;
 }
 
 -- the image, the queue and the room of a device

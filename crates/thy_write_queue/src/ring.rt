@@ -1,6 +1,6 @@
 //! The ring.
 ghost use Rattle.std.specs.Prelude.{◌≡◌, ◌<◌, ◌≤◌, ◌-◌, ◌^◌, ◌++◌, length, replicate, slice_index_or, IfOk, IfSome};
-ghost use Rattle.thy_block.specs.Device.{zero_block, queued_for, newest, written_to, drained, settled};
+ghost use Rattle.thy_block.specs.Device.{zero_block, queued_for, newest, written_to, drained, at_rest};
 ghost use Rattle.thy_block.specs.declared.nvm.Write.{Write as Written};
 ghost use Rattle.thy_write_queue.specs.Lowest.{IsLowestOf};
 ghost use Rattle.thy_write_queue.specs.Held.{nothing, device_of, as_device, made, choice_at, put_at, unqueued};
@@ -143,7 +143,7 @@ impl Ring {
 
     /// Lets every queued write land, in order.
     pub fn settle(&mut self)
-        ensures { self.new ≡ as_device settled self.old }
+        ensures { self.new ≡ as_device at_rest self.old }
     {
         apply_all_in(&mut self.image, &mut self.queue);
     }

@@ -1,6 +1,6 @@
 use Rattle.std.proofs.Common.{◌∙◌, ap, sym}
 use Rattle.std.proofs.lemmas.Result.{on_ok_weaker, on_err_weaker}
-use Rattle.thy_gap.specs.Seen.{seen}
+use Rattle.thy_gap.specs.Levelled.{looks}
 use Rattle.thy_gap.proofs.SoundLemmas.{either, fitted_where_queued, drain_seen, sound_drained, sound_failed, failed_seen}
 use Rattle.thy_gap.proofs.gap.GapNvm.drain.Goals as goal
 
@@ -15,7 +15,7 @@ returns-clause-ok g c =
     let l = fitted_where_queued c.self.invariant (rw (sym c.self.view_is) at c.requires.queued) in
     rw (sym c.self.view_is)
     (on_ok_weaker c.drain.result
-    (λ e. ap (seen c.self.inside.registers) e ∙ drain_seen c.self.invariant l (rw (sym c.self.view_is) at c.requires.up))
+    (λ e. ap (looks c.self.inside.every c.self.inside.since c.self.inside.moves c.self.inside.registers) e ∙ drain_seen c.self.invariant l (rw (sym c.self.view_is) at c.requires.up))
     c.drain.ensures.ok)
 
 pub returns-clause-err : goal.returns-clause-err

@@ -2,7 +2,7 @@ use Rattle.std.proofs.lemmas.Grind.{common_steps}
 use Rattle.std.proofs.Common.{◌∙◌, ap, sym, arith}
 use Rattle.thy_block.specs.Device.{written_to}
 use Rattle.thy_block.proofs.BasicLemmas.{OnErr-of}
-use Rattle.thy_gap.specs.Seen.{seen}
+use Rattle.thy_gap.specs.Levelled.{looks}
 use Rattle.thy_gap.proofs.SoundLemmas.{line_seen, place_inside, write_seen, sound_written, sound_failed_to_write, failed_to_write_seen}
 use Rattle.thy_gap.proofs.gap.GapNvm.write.Goals as goal
 
@@ -36,8 +36,9 @@ pub returns-clause-ok : goal.returns-clause-ok
 returns-clause-ok g c =
     let l = line_seen c.self.invariant c.args.at (rw (sym c.self.view_is) at c.requires.place) in
     rw (sym c.self.view_is)
-    (ap (seen c.self.inside.registers) (c.in_ok-write.ensures.ok ∙ ap (λ x. written_to (g.N.Nvm.device c.self.inside.inner) x c.args.block.now) c.place.ensures)
-    ∙ write_seen c.self.invariant c.args.at c.args.block.now l (rw (sym c.self.view_is) at c.requires.up))
+    (ap (looks c.self.inside.every _ c.self.inside.moves c.self.inside.registers)
+    (c.in_ok-write.ensures.ok ∙ ap (λ x. written_to (g.N.Nvm.device c.self.inside.inner) x c.args.block.now) c.place.ensures)
+    ∙ write_seen c.self.invariant c.args.at c.args.block.now _ (grind (arith, common_steps)) l (rw (sym c.self.view_is) at c.requires.up))
 
 pub returns-clause-since : goal.returns-clause-since
 returns-clause-since g c = grind (arith, common_steps)

@@ -12,4 +12,4 @@ returns c =
     let e : over_below c.drain.new.self s.marks.items s.below.now ≡ as_device drained (over_below s.ring s.marks.items s.below.now)
     = ap (λ r. over_below r s.marks.items s.below.now) c.drain.ensures
     ∙ over-landed 1 s.ring s.marks.items s.below.now c.self.invariant.blocks c.self.invariant.marked in
-    ap (λ r. overlaid (device_in r s.kept s.down s.faults s.faults s.whole) s.writes) e ∙ ap (on_overlay drained) c.self.view_is
+    ap (λ r. overlaid (device_in r s.kept s.down s.faults s.faults s.whole s.writes)) e ∙ ap (on_overlay drained) c.self.view_is

@@ -65,10 +65,10 @@ returns-clause-left c =
     ∙ over-left c.lands_whole-whole.result pick q ms below c.queue_as.ensures.blocks c.queue_as.ensures.marked
     ∙ ap (λ h. left_by c.lands_whole-whole.result pick h) same
     ∙ ap (λ w. left_by w pick (held_by device)) c.lands_whole-whole.ensures in
-    ap (λ h. overlaid (device_in h c.clear.new.self false 0 0 c.lands_whole-whole.result) 0) leaves
-    ∙ ap (λ w. overlaid (device_in (left_by device.whole pick (held_by device)) c.clear.new.self false 0 0 w) 0) c.lands_whole-whole.ensures
-    ∙ ap (λ k. overlaid (device_in (left_by device.whole pick (held_by device)) k false 0 0 device.whole) 0) c.clear.ensures
-    ∙ ap (λ (p : Shape). overlaid (device_in (left_by device.whole pick (held_by device)) (no_cuts s.kept.size p.cuts) false 0 0 device.whole) 0) c.spare.view_is
+    ap (λ h. overlaid (device_in h c.clear.new.self false 0 0 c.lands_whole-whole.result 0)) leaves
+    ∙ ap (λ w. overlaid (device_in (left_by device.whole pick (held_by device)) c.clear.new.self false 0 0 w 0)) c.lands_whole-whole.ensures
+    ∙ ap (λ k. overlaid (device_in (left_by device.whole pick (held_by device)) k false 0 0 device.whole 0)) c.clear.ensures
+    ∙ ap (λ (p : Shape). overlaid (device_in (left_by device.whole pick (held_by device)) (no_cuts s.kept.size p.cuts) false 0 0 device.whole 0)) c.spare.view_is
 
 pub returns-clause-crash : goal.returns-clause-crash
 returns-clause-crash c =

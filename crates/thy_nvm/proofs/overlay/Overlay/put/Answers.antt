@@ -54,4 +54,4 @@ returns c =
     = ap (λ m. over_below c.put_over.new.ring m below) (back ∙ taken)
     ∙ ap (λ h. over_below h (slice_set s.marks.items at true) below) c.put_over.ensures.ring
     ∙ over-put s.ring s.marks.items below at block c.self.invariant.blocks inside in
-    ap (λ h. overlaid (device_in h s.kept s.down s.faults s.faults s.whole) s.writes) e ∙ ap (on_overlay (put_in at block)) c.self.view_is
+    ap (λ h. overlaid (device_in h s.kept s.down s.faults s.faults s.whole s.writes)) e ∙ ap (on_overlay (put_in at block)) c.self.view_is

@@ -75,6 +75,6 @@ returns c =
     ∙ over-written r ms below at block (c.take_up.ensures.blocks ∙ c.self.invariant.blocks ∙ sym long) marked
     ∙ ap (as_device (λ n. written_to n at block))
     (same_held (over_below r ms below) (over_below s.ring s.marks.items below) image c.take_up.ensures.queue c.take_up.ensures.room) in
-    ap (λ h. overlaid (device_in h s.kept s.down s.faults s.faults s.whole) c.one_more-self-inside.result) e
-    ∙ ap (λ n. overlaid (device_in (as_device (λ n. written_to n at block) (over_below s.ring s.marks.items below)) s.kept s.down s.faults s.faults s.whole) n) c.one_more-self-inside.ensures
+    ap (λ h. overlaid (device_in h s.kept s.down s.faults s.faults s.whole c.one_more-self-inside.result)) e
+    ∙ ap (λ n. overlaid (device_in (as_device (λ n. written_to n at block) (over_below s.ring s.marks.items below)) s.kept s.down s.faults s.faults s.whole n)) c.one_more-self-inside.ensures
     ∙ ap (written_over at block) c.self.view_is

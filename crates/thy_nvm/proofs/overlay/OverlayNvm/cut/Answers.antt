@@ -68,15 +68,15 @@ returns-clause-exact c =
     ∙ leaves in
     let kept : c.keep.new.self ≡ with_cut s.kept pick (left_by s.whole pick all_of).image
     = c.keep.ensures ∙ ap (with_cut s.kept pick) (c.image.ensures ∙ ap (λ (h : Held). h.image) leaves) in
-    ap (λ h. overlaid (device_in h c.keep.new.self false s.faults s.faults s.whole) s.writes) over
-    ∙ ap (λ k. overlaid (device_in (left_by s.whole pick all_of) k false s.faults s.faults s.whole) s.writes) kept
+    ap (λ h. overlaid (device_in h c.keep.new.self false s.faults s.faults s.whole s.writes)) over
+    ∙ ap (λ k. overlaid (device_in (left_by s.whole pick all_of) k false s.faults s.faults s.whole s.writes)) kept
     ∙ ap (on_overlay (cut_device pick)) c.self.view_is
 
 pub returns-clause-cut : goal.returns-clause-cut
 returns-clause-cut c =
     let s = c.self.inside in
     let held : Held = over_below s.ring s.marks.items s.below.now in
-    let n : Device = device_in held s.kept s.down s.faults s.faults s.whole in
+    let n : Device = device_in held s.kept s.down s.faults s.faults s.whole s.writes in
     let image = c.take_up_all.ensures.image ∙ ap (λ m. merged m s.ring.image s.below.now) c.deref_mut.ensures.value in
     let taken : c.take_up_all.new.ring ≡ held = same_held c.take_up_all.new.ring held image c.take_up_all.ensures.queue c.take_up_all.ensures.room in
     let left : Crash (landing s.whole held) (left_by s.whole c.args.pick held).image
