@@ -9,7 +9,7 @@ use Rattle.thy_layout.specs.declared.bad_image.BadImage.{BadImage}
 use Rattle.thy_layout.specs.Commit.{commit_of, is_zero}
 use Rattle.thy_layout.specs.declared.layout_version.LayoutVersion.{LayoutVersion}
 use Rattle.thy_layout.specs.declared.layout_version.LayoutVersion.TheVariants.{VersionOne, VersionTwo}
-use Rattle.thy_view.specs.Action.{Rest, FailsTo, IsBootAction, Asks, AsksBy, ActsBy, after}
+use Rattle.thy_view.specs.Action.{Rest, FailsTo, IsBootAction, Asks, AsksBy, ActsBy, IsAfter}
 use Rattle.thy_view.specs.Booting.{boot_did}
 use Rattle.thy_view.specs.Dram.{ActsOnDram}
 use Rattle.thy_view.specs.declared.round.Round.{Round}
@@ -249,9 +249,9 @@ module _ {C : Type 0} (F : FillingOf C) (laws : IsFilling F) where
     nearer (Refusing bad) is = is
 
   -- a read leaves the device as it was
-  after_read : (r : ReadStage) (n : Device) (b : Booting) (c : C) → after (read_action F b c r) n ≡ n
-  after_read Unread n b c = refl
-  after_read r n b c = refl
+  after_read : (r : ReadStage) (n new : Device) (b : Booting) (c : C) → IsAfter (read_action F b c r) n new → new ≡ n
+  after_read Unread n new b c left = left
+  after_read r n new b c left = left
 
   pub takes_read : {T : Type 0} (result : Result T NvmError) (s : State) (r : ReadStage) (n : Device) (b : Booting) (c : C) (m : Device) (d : Booting) (e : C)
       → b.stage ≡ Reads r → IsBoot F b → HasRead F n b c
@@ -259,7 +259,7 @@ module _ {C : Type 0} (F : FillingOf C) (laws : IsFilling F) where
       → Takes (read_action F b c r) result n m → TakesStep F result s n b c m d e
   takes_read (Ok x) s r n b c m d e is boot h goes fills block same_boot same_control t = record {
     steps = subst (λ (q : Stage). StepsAt F q s n b c m d e) (sym is)
-        (coe 1 0 (i. ReadsOn F r n b c ((t.ok ∙ after_read r n b c) i) (goes i) e) (reads_on r n b c e is boot h block fills));
+        (coe 1 0 (i. ReadsOn F r n b c (after_read r n m b c t.ok i) (goes i) e) (reads_on r n b c e is boot h block fills));
     fits = subst (λ (y : Booting). IsBoot F y) (sym goes) (fits_read r n b is boot block);
     boot = tt;
     control = tt;

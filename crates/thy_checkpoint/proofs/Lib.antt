@@ -8,7 +8,6 @@ pub mod LoadLemmas
 pub mod MigrationLemmas
 pub mod SafeLemmas
 pub mod FoundLemmas
-pub mod CountLemmas
 pub mod ActLemmas
 pub mod StartLemmas
 pub mod ItemLemmas

@@ -6,7 +6,7 @@ use Rattle.std.proofs.lemmas.List.Elements.{Contains-append_cases}
 use Rattle.std.proofs.lemmas.List.FromFn.{length-range_with_len}
 use Rattle.thy_block.specs.declared.block.Block.{Block}
 use Rattle.thy_block.specs.declared.parameters.Parameters.{Parameters}
-use Rattle.thy_block.specs.Device.{Device, block_at, newest, settled}
+use Rattle.thy_block.specs.Device.{Device, block_at, newest}
 use Rattle.thy_block.specs.Geometry.{IsInRange, memory_blocks}
 use Rattle.thy_block.proofs.BasicLemmas.{all_none, not_first, Contains-range}
 use Rattle.thy_block.proofs.DeviceLemmas.{newest-empty}

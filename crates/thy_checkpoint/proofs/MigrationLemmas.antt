@@ -2,7 +2,7 @@
 use Rattle.std.proofs.Common.{◌≡◌, ◌≢◌, ℕ, List, [], ◌∷◌, length, Contains, Option, Some, None, sym, subst, inl, inr, arith, ◌+◌, ◌<◌, true, refl, ◌∙◌, ap}
 use Rattle.std.proofs.lemmas.List.Elements.{Contains-push_cases}
 use Rattle.thy_block.specs.declared.block.Block.{Block}
-use Rattle.thy_block.specs.Device.{Device, IsOneWordApart, IsFramed, block_at, newest, settled, drained, written_to}
+use Rattle.thy_block.specs.Device.{Device, IsOneWordApart, IsFramed, Settles, block_at, newest, at_rest, drained, written_to}
 use Rattle.thy_block.specs.declared.mark.Mark.{Mark}
 use Rattle.thy_block.proofs.DeviceLemmas.{newest-settled, newest-drained, newest-written_to_other, length-settled}
 use Rattle.thy_layout.specs.Saved.{IsIssued, next_image}
@@ -15,7 +15,7 @@ use Rattle.thy_layout.specs.Commit.{commit_of, epoch_of, commit_magic}
 use Rattle.thy_layout.specs.declared.layout_version.LayoutVersion.TheVariants.{VersionTwo}
 use Rattle.thy_layout.proofs.CommitLemmas.{one_word-between, nothing-stated, one_word-first}
 use Rattle.thy_layout.proofs.ReadBackLemmas.{commit_fault-commit_of, is_zero-commit_of}
-use Rattle.thy_view.specs.Action.{after, FailsTo}
+use Rattle.thy_view.specs.Action.{IsLeftBy, FailsTo}
 use Rattle.thy_view.specs.Origin.{Origin, at}
 use Rattle.thy_view.specs.Safe.{ceiling}
 use Rattle.thy_view.specs.declared.round.Round.{Round}
@@ -99,13 +99,13 @@ module _ {C : Type 0} (F : FillingOf C) (laws : IsFilling F) (o : Origin) (can :
       )
       by_round Confirm inside keeps made stood = (made.commit, stood.1)
 
-    pub load_moves : Move o ly (standing_in_boot o (Loads r) g n)
-        (standing_in_boot o (loads_on (next_round ws.blocks r)) (images_after f (Loads r) n g) (after (round_action ws r) n))
-    load_moves = then_stands (next_round ws.blocks r) (rounds_move o ly (start_mark o) ws r g.before g.next None n may_load) where
+    pub load_moves : (new : Device) → IsLeftBy (round_action ws r) n new
+        → Move o ly (standing_in_boot o (Loads r) g n) (standing_in_boot o (loads_on (next_round ws.blocks r)) (images_after f (Loads r) n g) new)
+    load_moves new left = then_stands (next_round ws.blocks r) (rounds_move o ly (start_mark o) ws r g.before g.next None n new may_load left) where
       then_stands : (x : Option Round)
           → Move o ly (standing_in_boot o (Loads r) g n)
-          (standing_then x (after (round_action ws r) n) g.before (made_after ws.commit r n g.next) None (start_mark o))
-          → Move o ly (standing_in_boot o (Loads r) g n) (standing_in_boot o (loads_on x) (images_after f (Loads r) n g) (after (round_action ws r) n))
+          (standing_then x new g.before (made_after ws.commit r n g.next) None (start_mark o))
+          → Move o ly (standing_in_boot o (Loads r) g n) (standing_in_boot o (loads_on x) (images_after f (Loads r) n g) new)
       then_stands (Some q) move = move
       then_stands None move = move
 
@@ -132,8 +132,10 @@ module _ {C : Type 0} (F : FillingOf C) (laws : IsFilling F) where
       each = λ y not_commit inside not_slot. newest-written_to_other n x block y (other y not_commit not_slot) (omega (arith, inside, sized));
     }
 
-    pub settled-alike : ReadsAlike l commit n (settled n)
-    settled-alike = record { each = λ y not_commit inside not_slot. newest-settled n y (omega (arith, inside, sized)) }
+    pub settled-alike : (new : Device) → Settles n new → ReadsAlike l commit n new
+    settled-alike new e = record {
+      each = λ y not_commit inside not_slot. ap (λ (m : Device). newest m y) e ∙ newest-settled new.writes n y (omega (arith, inside, sized));
+    }
 
     pub drained-alike : ReadsAlike l commit n (drained n)
     drained-alike = record { each = λ y not_commit inside not_slot. newest-drained n y (omega (arith, inside, sized)) }
@@ -236,16 +238,16 @@ module _ {C : Type 0} (F : FillingOf C) (laws : IsFilling F) where
     then_stands commit m Confirm x = refl
     then_stands commit m r x = refl
 
-    pub migration_moves : (r : Round) → IsMigrating F o r g n b c → IsKeeping o lay (standing_in_boot o (Migrates r) g n)
-        → Move o lay (standing_in_boot o (Migrates r) g n) (standing_in_boot o (migrated_by F r b).stage (images_after f (Migrates r) n g) (after (round_action w r) n))
-    migration_moves r is keeps =
-        let x : Device = after (round_action w r) n in
+    pub migration_moves : (r : Round) (x : Device) → IsLeftBy (round_action w r) n x → IsMigrating F o r g n b c
+        → IsKeeping o lay (standing_in_boot o (Migrates r) g n)
+        → Move o lay (standing_in_boot o (Migrates r) g n) (standing_in_boot o (migrated_by F r b).stage (images_after f (Migrates r) n g) x)
+    migration_moves r x left is keeps =
         let old : Standing = standing n (saved_in r g.before g.next) (Some is.m) (Some is.m) in
         subst (λ (k : Option Mark). Move o lay (standing n (saved_in r g.before g.next) k k) (standing_in_boot o (migrated_by F r b).stage
         (record { before = renewed_image r g; kept = k; next = made_after (commit_of (epoch_kept k)) r n g.next }) x)) (sym is.kept)
         (subst (λ (a : Standing). Move o lay old a) (then_stands (commit_of is.m.epoch) is.m r x)
         (subst (λ (e : ℕ). Move o lay old (standing_then (next_round w.blocks r) x g.before (made_after (commit_of e) r n g.next) (Some is.m) is.m)) is.epoch
-        (rounds_move o lay is.m w r g.before g.next (Some is.m) n (may_take r is keeps))))
+        (rounds_move o lay is.m w r g.before g.next (Some is.m) n x (may_take r is keeps) left)))
 
     pub migration_fails : (r : Round) → IsMigrating F o r g n b c → IsKeeping o lay (standing_in_boot o (Migrates r) g n) → (new : Device)
         → FailsTo (round_action w r) n new → IsFramed n new → Move o lay (standing_in_boot o (Migrates r) g n) (standing_after_fault o (Migrates r) g new)
@@ -256,24 +258,30 @@ module _ {C : Type 0} (F : FillingOf C) (laws : IsFilling F) where
     -- ---- where the boot is then
 
     -- after an action of a migration the device reads as before, but for the slot and the commit block
-    alike : (r : Round) → IsInRound w.blocks r → length n.image ≡ lay.image_blocks → ReadsAlike lay new_commit n (after (round_action w r) n)
-    alike (Write k) inside sized = written-alike lay new_commit n sized (w.place k) (w.block k) (λ y not_commit not_slot. not_slot k inside)
-    alike Commit inside sized = written-alike lay new_commit n sized 1 new_commit (λ y not_commit not_slot. not_commit)
-    alike r inside sized = settled-alike lay new_commit n sized
+    alike : (r : Round) (new : Device) → IsInRound w.blocks r → length n.image ≡ lay.image_blocks → IsLeftBy (round_action w r) n new
+        → ReadsAlike lay new_commit n new
+    alike (Write k) new inside sized left =
+        subst (ReadsAlike lay new_commit n) (sym left)
+        (written-alike lay new_commit n sized (w.place k) (w.block k) (λ y not_commit not_slot. not_slot k inside))
+    alike Commit new inside sized left =
+        subst (ReadsAlike lay new_commit n) (sym left) (written-alike lay new_commit n sized 1 new_commit (λ y not_commit not_slot. not_commit))
+    alike r new inside sized left = settled-alike lay new_commit n sized new left
 
-    issued_then : (r : Round) (is : IsMigrating F o r g n b c)
-        → AreIssuedThen lay.image_blocks (renewed_parts F b) new_commit (next_round w.blocks r) (after (round_action w r) n) (F.loads c n)
-    issued_then r is =
-        rounds_issue lay.image_blocks (renewed_parts F b) new_commit (placed_anew F laws b c same g.before is.listed is.version) r n (F.loads c n) is.there is.issued
+    issued_then : (r : Round) (new : Device) → IsLeftBy (round_action w r) n new → (is : IsMigrating F o r g n b c)
+        → AreIssuedThen lay.image_blocks (renewed_parts F b) new_commit (next_round w.blocks r) new (F.loads c n)
+    issued_then r new left is =
+        rounds_issue lay.image_blocks (renewed_parts F b) new_commit (placed_anew F laws b c same g.before is.listed is.version) r n new (F.loads c n) is.there
+        is.issued left
 
-    migrates_to : (r : Round) (is : IsMigrating F o r g n b c) → length n.image ≡ lay.image_blocks → (images : BootImages) (q : Round)
-        → images.before ≡ g.before → images.kept ≡ g.kept
-        → IsInRound w.blocks q × AreIssuedBefore lay.image_blocks (renewed_parts F b) new_commit q (after (round_action w r) n) (F.loads c n)
-        → IsMadeAnew o lay is.m new_commit (renewed_parts F b) q images.next (after (round_action w r) n)
-        → IsMigrating F o q images (after (round_action w r) n) (at_stage (Migrates q) b) c
-    migrates_to r is sized = goes-to o b c same g n r is sized (after (round_action w r) n) (alike r is.there sized)
+    migrates_to : (r : Round) (new : Device) → IsLeftBy (round_action w r) n new → (is : IsMigrating F o r g n b c) → length n.image ≡ lay.image_blocks
+        → (images : BootImages) (q : Round) → images.before ≡ g.before → images.kept ≡ g.kept
+        → IsInRound w.blocks q × AreIssuedBefore lay.image_blocks (renewed_parts F b) new_commit q new (F.loads c n)
+        → IsMadeAnew o lay is.m new_commit (renewed_parts F b) q images.next new
+        → IsMigrating F o q images new (at_stage (Migrates q) b) c
+    migrates_to r new left is sized = goes-to o b c same g n r is sized new (alike r new is.there sized left)
 
-    module _ (at-confirm : IsMigrating F o Confirm g n b c) (keeps : IsKeeping o lay (standing_in_boot o (Migrates Confirm) g n)) where
+    module _ (at-confirm : IsMigrating F o Confirm g n b c) (keeps : IsKeeping o lay (standing_in_boot o (Migrates Confirm) g n))
+        (new : Device) (settles : Settles n new) where
       abbrev made-there : IsAnew o lay at-confirm.m new_commit (renewed_parts F b) g.next
       made-there = at-confirm.made.0
 
@@ -286,8 +294,8 @@ module _ {C : Type 0} (F : FillingOf C) (laws : IsFilling F) where
       slot_now : slot_read F d ≡ slot_of (renewed_parts F b)
       slot_now = renewed-slot F laws b at-confirm.room
 
-      held : F.whole c (settled n) × (F.loads c (settled n) ≡ F.loads c n)
-      held = still o b c same g n Confirm at-confirm keeps.sized (settled n) (settled-alike lay new_commit n keeps.sized)
+      held : F.whole c new × (F.loads c new ≡ F.loads c n)
+      held = still o b c same g n Confirm at-confirm keeps.sized new (settled-alike lay new_commit n keeps.sized new settles)
 
       listed-now : HasListed F g.next d c
       listed-now = record {
@@ -302,20 +310,20 @@ module _ {C : Type 0} (F : FillingOf C) (laws : IsFilling F) where
         lists = subst (λ (s : List Block). F.lists new_commit s c) (sym slot_now) (the.lists c same at-confirm.listed.lists);
       }
 
-      state-now : state_by lay (slot_read F d) (F.loads c (settled n)) ≡ at o at-confirm.m.count
+      state-now : state_by lay (slot_read F d) (F.loads c new) ≡ at o at-confirm.m.count
       state-now =
-          ap (λ (s : List Block). state_by lay s (F.loads c (settled n))) slot_now
-          ∙ state_anew F laws b c same g.before at-confirm.listed at-confirm.version (F.loads c (settled n))
+          ap (λ (s : List Block). state_by lay s (F.loads c new)) slot_now
+          ∙ state_anew F laws b c same g.before at-confirm.listed at-confirm.version (F.loads c new)
           ∙ ap (state_by lay (slot_read F b)) held.1
           ∙ at-confirm.state
 
       epoch-now : epoch_of d.commit ≡ at-confirm.m.epoch
       epoch-now = epoch_anew F laws b c same g.before at-confirm.listed at-confirm.version ∙ at-confirm.epoch
 
-      image-now : (settled n).image ≡ g.next
-      image-now = at-confirm.made.1
+      image-now : new.image ≡ g.next
+      image-now = ap (λ (m : Device). m.image) settles ∙ at-confirm.made.1
 
-      restored-now : IsRestored F (settled n) d c
+      restored-now : IsRestored F new d c
       restored-now = record {
         listed = subst (λ (h : List Block). HasListed F h d c) (sym image-now) listed-now;
         whole = held.0;
@@ -324,13 +332,13 @@ module _ {C : Type 0} (F : FillingOf C) (laws : IsFilling F) where
             ∙ ap (At (epoch_of d.commit)) (sym state-now);
       }
 
-      after-confirm : IsRecovering F (record g { before = g.next }) (settled n) d c
+      after-confirm : IsRecovering F (record g { before = g.next }) new d c
       after-confirm = record {
         before_is = sym image-now;
         read = record {
           same_p = same;
-          sized = length-settled n ∙ keeps.sized;
-          settled = refl;
+          sized = ap (λ (m : Device). length m.image) settles ∙ length-settled new.writes n ∙ keeps.sized;
+          settled = ap (λ (m : Device). m.queue) settles;
           so_far = record {
             restored = restored-now;
             stated = ap (λ (h : List Block). block_at h 1) image-now ∙ made-there.commit_is
@@ -339,21 +347,23 @@ module _ {C : Type 0} (F : FillingOf C) (laws : IsFilling F) where
         };
       }
 
-    pub migrates_on : (r : Round) → IsMigrating F o r g n b c → IsKeeping o lay (standing_in_boot o (Migrates r) g n)
-        → IsSoundAt F o (migrated_by F r b).stage (images_after f (Migrates r) n g) (after (round_action w r) n) (migrated_by F r b) c
-    migrates_on (Write k) is keeps =
-        let new : Device = after (round_action w (Write k)) n in
+    pub migrates_on : (r : Round) (new : Device) → IsLeftBy (round_action w r) n new → IsMigrating F o r g n b c
+        → IsKeeping o lay (standing_in_boot o (Migrates r) g n)
+        → IsSoundAt F o (migrated_by F r b).stage (images_after f (Migrates r) n g) new (migrated_by F r b) c
+    migrates_on (Write k) new left is keeps =
         next_by (λ (q : Round). IsInRound w.blocks q × AreIssuedBefore lay.image_blocks (renewed_parts F b) new_commit q new (F.loads c n)
         → IsMigrating F o q g new (at_stage (Migrates q) b) c) k w.blocks
-        (λ more issued. migrates_to (Write k) is keeps.sized g (Write (k + 1)) refl refl issued tt)
-        (λ last issued. migrates_to (Write k) is keeps.sized g Settle refl refl issued tt) (issued_then (Write k) is)
-    migrates_on Settle is keeps =
-        subst (λ (epoch : ℕ). IsMigrating F o Commit (record g { next = next_image n (commit_of epoch) }) (settled n) (at_stage (Migrates Commit) b) c)
+        (λ more issued. migrates_to (Write k) new left is keeps.sized g (Write (k + 1)) refl refl issued tt)
+        (λ last issued. migrates_to (Write k) new left is keeps.sized g Settle refl refl issued tt) (issued_then (Write k) new left is)
+    migrates_on Settle new left is keeps =
+        subst (λ (epoch : ℕ). IsMigrating F o Commit (record g { next = next_image n (commit_of epoch) }) new (at_stage (Migrates Commit) b) c)
         (sym (ap epoch_kept is.kept ∙ sym is.epoch))
-        (migrates_to Settle is keeps.sized (record g { next = next_image n new_commit }) Commit refl refl (issued_then Settle is) (made is keeps, refl))
-    migrates_on Commit is keeps =
-        migrates_to Commit is keeps.sized g Confirm refl refl (issued_then Commit is) (is.made.0, next-written n new_commit ∙ is.made.1)
-    migrates_on Confirm is keeps = after-confirm is keeps
+        (migrates_to Settle new left is keeps.sized (record g { next = next_image n new_commit }) Commit refl refl (issued_then Settle new left is)
+        (made is keeps, ap (λ (m : Device). next_image m new_commit) left))
+    migrates_on Commit new left is keeps =
+        migrates_to Commit new left is keeps.sized g Confirm refl refl (issued_then Commit new left is)
+        (is.made.0, ap (λ (m : Device). (at_rest m).image) left ∙ next-written n new_commit ∙ is.made.1)
+    migrates_on Confirm new left is keeps = after-confirm is keeps new left
 
   -- ---- drains
 

@@ -3,14 +3,14 @@ use Rattle.std.proofs.Common.{◌≡◌, false, List, length, Option, Some, None
 use Rattle.std.proofs.lemmas.Bool.{ne_eqb}
 use Rattle.thy_block.specs.declared.block.Block.{Block}
 use Rattle.thy_block.specs.declared.parameters.Parameters.{Parameters}
-use Rattle.thy_block.specs.Device.{Device, IsFramed, HasFailed, settled}
+use Rattle.thy_block.specs.Device.{Device, IsFramed, HasFailed}
 use Rattle.thy_block.specs.declared.mark.Mark.{Mark}
 use Rattle.thy_layout.specs.Saved.{Kept, guarded, Saved}
 use Rattle.thy_layout.proofs.SparesLemmas.{Spares-failed}
 use Rattle.thy_isa.specs.Step.{State}
 use Rattle.thy_layout.specs.Layout.{looked_by, reading}
-use Rattle.thy_view.specs.Action.{Action, after, FailsTo, is_commit_write, doubt_after_fault}
-use Rattle.thy_view.proofs.ActionLemmas.{down-after, length-after}
+use Rattle.thy_view.specs.Action.{Action, FailsTo, is_commit_write, doubt_after_fault, IsAfter, IsLeftBy}
+use Rattle.thy_view.proofs.ActionLemmas.{down-after, length-after, after-is}
 use Rattle.thy_view.specs.Booting.{loading_view, boot_did}
 use Rattle.thy_view.specs.Origin.{Origin}
 use Rattle.thy_view.specs.Safe.{Safe}
@@ -119,25 +119,23 @@ module _ {C : Type 0} (F : FillingOf C) (laws : IsFilling F) where
     by_stage (Loads r) can l =
         let w : RoundWrites = first_writes (first_by F b.p s) in
         let q : Stage = loads_on (next_round w.blocks r) in
-        let x : Device = after (round_action w r) n in
-        let still : x.down ≡ false = down-after (round_action w r) n ∙ up in
+        let still : m.down ≡ false = down-after (round_action w r) n m l.device ∙ up in
         let going_q : IsGoing q = subst (λ (y : Booting). IsGoing y.stage) l.boot going in
-        let next : CanStepAt F q s x (at_stage q b) c
-        = load_on s b c x (next_round w.blocks r) start (λ y e. next_inside w.blocks r y e) (length-after (round_action w r) n ∙ can.sized) still going_q in (
+        let next : CanStepAt F q s m (at_stage q b) c
+        = load_on s b c m (next_round w.blocks r) start (λ y e. next_inside w.blocks r y e) (length-after (round_action w r) n m l.device ∙ can.sized) still going_q in (
           ap (λ (y : Booting). y.p) l.boot,
-          ap (λ (y : Device). y.down) l.device ∙ still,
-          coe 1 0 (i. CanStepAt F (l.boot i).stage s (l.device i) (l.boot i) (l.control i)) next,
+          still,
+          coe 1 0 (i. CanStepAt F (l.boot i).stage s m (l.boot i) (l.control i)) next,
         )
     by_stage (Migrates r) can l =
         let a : Action = round_action (renewing F b) r in
-        let x : Device = after a n in
-        let still : x.down ≡ false = down-after a n ∙ up in
+        let still : m.down ≡ false = down-after a n m l.device ∙ up in
         let going_q : IsGoing (migrated_by F r b).stage = subst (λ (y : Booting). IsGoing y.stage) l.boot going in
-        let next : CanStepAt F (migrated_by F r b).stage s x (migrated_by F r b) c
-        = migration_on s b c r x can.there (length-after a n ∙ can.sized) still going_q in (
+        let next : CanStepAt F (migrated_by F r b).stage s m (migrated_by F r b) c
+        = migration_on s b c r m can.there (length-after a n m l.device ∙ can.sized) still going_q in (
           ap (λ (y : Booting). y.p) l.boot ∙ same_geometry b r,
-          ap (λ (y : Device). y.down) l.device ∙ still,
-          coe 1 0 (i. CanStepAt F (l.boot i).stage s (l.device i) (l.boot i) (l.control i)) next,
+          still,
+          coe 1 0 (i. CanStepAt F (l.boot i).stage s m (l.boot i) (l.control i)) next,
         )
     by_stage (Over end) can l = absurd can
 
@@ -333,20 +331,21 @@ module _ {C : Type 0} (F : FillingOf C) (laws : IsFilling F) where
     abbrev ws : RoundWrites
     ws = first_writes (first_of F o)
 
-    load_outcome : F.p c ≡ o.geometry → (r : Round) → IsLoading F o r g n c → IsKeeping o (layout_for F o) (standing_in_boot o (Loads r) g n)
-        → Outcome o g n (Loads r) (after (round_action ws r) n) (at_stage (loads_on (next_round ws.blocks r)) b) c
-    load_outcome same r at k =
-        let m : Device = after (round_action ws r) n in
+    load_outcome : F.p c ≡ o.geometry → (r : Round) (m : Device) → IsAfter (round_action ws r) n m → IsLoading F o r g n c
+        → IsKeeping o (layout_for F o) (standing_in_boot o (Loads r) g n)
+        → Outcome o g n (Loads r) m (at_stage (loads_on (next_round ws.blocks r)) b) c
+    load_outcome same r m left at k =
         let q : Stage = loads_on (next_round ws.blocks r) in
         let h : BootImages = images_after f (Loads r) n g in
-        let move = load_moves F laws o starts g n r at.there k at.made at.stood in (
+        let move = load_moves F laws o starts g n r at.there k at.made at.stood m (after-is (round_action ws r) n m left) in (
           move,
           record {
             geometry = geometry;
             same_p = same;
             keeps = IsKeeping-move o (layout_for F o) (standing_in_boot o (Loads r) g n) (standing_in_boot o q h m) move k;
-            so_far = sound_then F laws o starts (at_stage q b) c h m at.fresh at.none (length-after (round_action ws r) n ∙ k.sized) (next_round ws.blocks r)
-                (rounds_write ws (layout_for F o).image_blocks r n (apart F laws o starts) k.sized at.there at.stood)
+            so_far = sound_then F laws o starts (at_stage q b) c h m at.fresh at.none (length-after (round_action ws r) n m left ∙ k.sized) (next_round ws.blocks r)
+                (rounds_write ws (layout_for F o).image_blocks r n m (apart F laws o starts) k.sized at.there at.stood
+                (after-is (round_action ws r) n m left))
                 (made_on F laws o starts g n r at.there k at.made at.stood);
           },
           load_shows o g.kept ws.blocks r (at_stage q b),
@@ -355,54 +354,55 @@ module _ {C : Type 0} (F : FillingOf C) (laws : IsFilling F) where
     load_outcome_is : F.p c ≡ o.geometry → (r : Round) (m : Device) (d : Booting) (e : C) → IsLoading F o r g n c
         → IsKeeping o (layout_for F o) (standing_in_boot o (Loads r) g n) → LoadsOn F o.start r n b c m d e → Outcome o g n (Loads r) m d e
     load_outcome_is same r m d e at k l =
-        let x : Device = after (round_action ws r) n in
         let q : Stage = loads_on (next_round ws.blocks r) in
-        let m_is : m ≡ x = l.device ∙ ap (λ (p : Parameters). after (round_action (first_writes (first_by F p o.start)) r) n) geometry in
+        let left : IsAfter (round_action ws r) n m
+        = subst (λ (p : Parameters). IsAfter (round_action (first_writes (first_by F p o.start)) r) n m) geometry l.device in
         let d_is : d ≡ at_stage q b = l.boot ∙ ap (λ (p : Parameters). at_stage (loads_on (next_round (first_writes (first_by F p o.start)).blocks r)) b) geometry in
-        coe 1 0 (i. Outcome o g n (Loads r) (m_is i) (d_is i) (l.control i)) (load_outcome same r at k)
+        coe 1 0 (i. Outcome o g n (Loads r) m (d_is i) (l.control i)) (load_outcome same r m left at k)
 
   -- an action of a migration
-  module _ (o : Origin) (g : BootImages) (n : Device) (c : C) (same : F.p c ≡ o.geometry) (r : Round) where
-    abbrev at_end : Booting → Device
-    at_end b = after (round_action (renewing F b) r) n
-
+  module _ (o : Origin) (g : BootImages) (n new : Device) (c : C) (same : F.p c ≡ o.geometry) (r : Round) where
     abbrev images : BootImages
     images = images_after (first_of F o) (Migrates r) n g
 
     -- where a migration stands after its action
     abbrev then_at : Booting → Standing
-    then_at b = standing_in_boot o (migrated_by F r b).stage images (at_end b)
+    then_at b = standing_in_boot o (migrated_by F r b).stage images new
 
     migration_shows : (b : Booting) → b.p ≡ o.geometry → IsKeeping o (layout_for F o) (then_at b)
-        → IsSoundAt F o (migrated_by F r b).stage images (at_end b) (migrated_by F r b) c
+        → IsSoundAt F o (migrated_by F r b).stage images new (migrated_by F r b) c
         → CoreStep o (seen_at o g.kept (Migrates r)) (boot_did (answer_of F (migrated_by F r b))) (seen_at o g.kept (migrated_by F r b).stage)
     migration_shows b geometry = by_round r where
-      by_round : (k : Round) → (let x : Device = after (round_action (renewing F b) k) n in
-          let h : BootImages = images_after (first_of F o) (Migrates k) n g in
-          IsKeeping o (layout_for F o) (standing_in_boot o (migrated_by F k b).stage h x) → IsSoundAt F o (migrated_by F k b).stage h x (migrated_by F k b) c
+      by_round : (k : Round) → (let h : BootImages = images_after (first_of F o) (Migrates k) n g in
+          IsKeeping o (layout_for F o) (standing_in_boot o (migrated_by F k b).stage h new) → IsSoundAt F o (migrated_by F k b).stage h new (migrated_by F k b) c
           → CoreStep o (seen_at o g.kept (Migrates k)) (boot_did (answer_of F (migrated_by F k b))) (seen_at o g.kept (migrated_by F k b).stage))
       by_round Confirm keeps sound =
-          shows F laws o (images_after (first_of F o) (Migrates Confirm) n g) (settled n) (migrated_by F Confirm b) c
+          shows F laws o (images_after (first_of F o) (Migrates Confirm) n g) new (migrated_by F Confirm b) c
           sound.before_is geometry keeps.meant sound.read (Over Restored) sound.read.so_far
       by_round k keeps sound = (boots o.start.count g.kept, inl refl)
 
-    migration_outcome : (b : Booting) → b.p ≡ o.geometry → IsKeeping o (layout_for F o) (standing_in_boot o (Migrates r) g n) → IsMigrating F o r g n b c
-        → Outcome o g n (Migrates r) (at_end b) (migrated_by F r b) c
-    migration_outcome b geometry k there =
-        let on = subst (λ (x : Booting). IsMigrating F o r g n x c
+    migration_outcome : (b : Booting) → b.p ≡ o.geometry → IsLeftBy (round_action (renewing F b) r) n new
+        → IsKeeping o (layout_for F o) (standing_in_boot o (Migrates r) g n) → IsMigrating F o r g n b c
+        → Outcome o g n (Migrates r) new (migrated_by F r b) c
+    migration_outcome b geometry left k there =
+        let on = subst (λ (x : Booting). IsLeftBy (round_action (renewing F x) r) n new → IsMigrating F o r g n x c
         → Move o (layout_for F o) (standing_in_boot o (Migrates r) g n) (then_at x)
-        × IsSoundAt F o (migrated_by F r x).stage images (at_end x) (migrated_by F r x) c) (as_geometry o b geometry)
-        (λ is. (migration_moves F laws o (first_of F o) b c same g n r is k, migrates_on F laws o (first_of F o) b c same g n r is k)) there in
+        × IsSoundAt F o (migrated_by F r x).stage images new (migrated_by F r x) c) (as_geometry o b geometry)
+        (λ acted is. (
+          migration_moves F laws o (first_of F o) b c same g n r new acted is k,
+          migrates_on F laws o (first_of F o) b c same g n r new acted is k,
+        )) left there in
         let keeps = IsKeeping-move o (layout_for F o) (standing_in_boot o (Migrates r) g n) (then_at b) on.0 k in (
           on.0,
           record { geometry = same_geometry F laws b r ∙ geometry; same_p = same; keeps = keeps; so_far = on.1 },
           migration_shows b geometry keeps on.1,
         )
 
-    pub migration_outcome_is : (b : Booting) (m : Device) (d : Booting) (e : C) → b.p ≡ o.geometry → IsKeeping o (layout_for F o) (standing_in_boot o (Migrates r) g n)
-        → IsMigrating F o r g n b c → MigratesOn F r n b c m d e → Outcome o g n (Migrates r) m d e
-    migration_outcome_is b m d e geometry k there l =
-        coe 1 0 (i. Outcome o g n (Migrates r) (l.device i) (l.boot i) (l.control i)) (migration_outcome b geometry k there)
+    pub migration_outcome_is : (b d : Booting) (e : C) → b.p ≡ o.geometry → IsKeeping o (layout_for F o) (standing_in_boot o (Migrates r) g n)
+        → IsMigrating F o r g n b c → MigratesOn F r n b c new d e → Outcome o g n (Migrates r) new d e
+    migration_outcome_is b d e geometry k there l =
+        coe 1 0 (i. Outcome o g n (Migrates r) new (l.boot i) (l.control i))
+        (migration_outcome b geometry (after-is (round_action (renewing F b) r) n new l.device) k there)
 
   pub steps_move : StepsMove F
   steps_move o g n b c m d e origin sound steps =
@@ -416,5 +416,5 @@ module _ {C : Type 0} (F : FillingOf C) (laws : IsFilling F) where
           → Outcome o g n q m d e
       by_stage (Reads r) at k on = read_outcome o starts g n b c sound.geometry r m d e at k on
       by_stage (Loads r) at k l = load_outcome_is o starts g n b c sound.geometry sound.same_p r m d e at k l
-      by_stage (Migrates r) at k l = migration_outcome_is o g n c sound.same_p r b m d e sound.geometry k at l
+      by_stage (Migrates r) at k l = migration_outcome_is o g n m c sound.same_p r b d e sound.geometry k at l
       by_stage (Over end) at k l = absurd l

@@ -6,7 +6,7 @@ use Rattle.std.proofs.lemmas.List.{length-map, ext_get_or, length-take, length-t
 use Rattle.std.proofs.lemmas.List.FromFn.{length-range_with_len, get_or-map-range_with_len, fill_by_all}
 use Rattle.thy_block.specs.declared.block.Block.{Block}
 use Rattle.thy_block.specs.Bytes.{written}
-use Rattle.thy_block.specs.Device.{block_at, zero_block, Device, write_of, applied, settled, drained, surplus, written_to}
+use Rattle.thy_block.specs.Device.{block_at, zero_block, Device, write_of, applied, drained, surplus, written_to, at_rest}
 use Rattle.thy_block.specs.declared.nvm.Write.{Write}
 use Rattle.thy_block.proofs.DeviceLemmas.{applied-append}
 use Rattle.thy_layout.specs.Saved.{next_image}
@@ -169,7 +169,7 @@ module _ {C : Type 0} (F : FillingOf C) (laws : IsFilling F) (b : Booting) (room
 -- ---- the image
 
 -- a write of the commit block, and all writes before it, make the next image
-pub next-written : (n : Device) (commit : Block) → (settled (written_to n 1 commit)).image ≡ next_image n commit
+pub next-written : (n : Device) (commit : Block) → (at_rest (written_to n 1 commit)).image ≡ next_image n commit
 next-written n commit =
     let w : List Write = write_of 1 commit ∷ [] in
     let first : List Write = take (surplus n) n.queue in
@@ -179,7 +179,7 @@ next-written n commit =
     ∙ ap (λ (q : List Write). applied n.image (q ++ w)) (take-append-drop (surplus n) n.queue)
     ∙ applied-append n.image n.queue w
 
-pub settled-drained : (n : Device) → (settled (drained n)).image ≡ (settled n).image
+pub settled-drained : (n : Device) → (at_rest (drained n)).image ≡ (at_rest n).image
 settled-drained n =
     sym (applied-append n.image (take 1 n.queue) (drop 1 n.queue)) ∙ ap (applied n.image) (take-append-drop 1 n.queue)
 

@@ -165,6 +165,8 @@ pub record IsFilling {C : Type 0} (F : FillingOf C) : Type 0 where
       → F.whole c n × (F.loads c n ≡ memory_in (layout_at F (F.p c)) n.image)
   -- a checkpoint of an older form is the same if it is written anew
   pub renews : (p : Parameters) (commit : Block) (slot : List Block) → IsOlder (layout_at F p) p commit slot → IsTheSame F p commit slot
+  -- a slot is listed in one way
+  pub lists_once : (c d e : C) (commit : Block) (slot : List Block) → ListsOn F commit slot c d → ListsOn F commit slot c e → d ≡ e
   -- a controller keeps what holds of it if the oldest write of its DRAM lands
   pub drain_p : (c : C) → F.p (F.drained c) ≡ F.p c
   pub drain_fresh : (c : C) → F.fresh c → F.fresh (F.drained c)

@@ -2,7 +2,6 @@ pub mod Filling
 pub mod Boot
 pub mod Migrating
 pub mod Loads
-pub mod Counts
 pub mod Left
 pub mod Reads
 pub mod Recovers

@@ -8,7 +8,7 @@ use Rattle.thy_block.specs.Places.{header_place}
 use Rattle.thy_isa.specs.Step.{State}
 use Rattle.thy_view.specs.declared.round.Round.{Round}
 use Rattle.thy_view.specs.Round.{RoundWrites, IsInRound}
-use Rattle.thy_view.specs.Action.{Action, after, FailsTo}
+use Rattle.thy_view.specs.Action.{Action, IsAfter, FailsTo}
 use Rattle.thy_checkpoint.specs.declared.boot_stage.Stage.{Stage}
 use Rattle.thy_checkpoint.specs.declared.boot_stage.Stage.TheVariants.{Loads, Over}
 use Rattle.thy_checkpoint.specs.declared.boot_stage.End.TheVariants.{Loaded}
@@ -51,7 +51,7 @@ pub record CanLoad {C : Type 0} (F : FillingOf C) (s : State) (r : Round) (n : D
 
 -- an action was taken, or it failed
 pub record Takes {T : Type 0} (action : Action) (result : Result T NvmError) (old new : Device) : Type 0 where
-  pub ok : OnOk result (new ≡ after action old)
+  pub ok : OnOk result (IsAfter action old new)
   pub err : OnErr result (FailsTo action old new)
   pub frame : IsFramed old new
   pub cause : CountsFault result old.faults new.faults

@@ -9,7 +9,7 @@ use Rattle.thy_view.specs.declared.round.Round.TheVariants.{Confirm}
 use Rattle.thy_view.specs.Issuing.{CheckpointParts}
 use Rattle.thy_view.specs.Round.{RoundWrites, IsInRound, round_action, next_round}
 use Rattle.thy_view.specs.Rounds.{slot_writes}
-use Rattle.thy_view.specs.Action.{after}
+use Rattle.thy_view.specs.Action.{IsAfter}
 use Rattle.thy_checkpoint.specs.declared.boot_stage.Stage.{Stage}
 use Rattle.thy_checkpoint.specs.declared.boot_stage.Stage.TheVariants.{Migrates, Over}
 use Rattle.thy_checkpoint.specs.declared.boot_stage.End.TheVariants.{Restored}
@@ -61,6 +61,6 @@ pub record CanMigrate {C : Type 0} (F : FillingOf C) (r : Round) (n : Device) (b
 -- a migration took its action
 pub record MigratesOn {C : Type 0} (F : FillingOf C) (r : Round) (n : Device) (b : Booting) (c : C) (m : Device) (d : Booting)
     (e : C) : Type 0 where
-  pub device : m ≡ after (round_action (renewing F b) r) n
+  pub device : IsAfter (round_action (renewing F b) r) n m
   pub boot : d ≡ migrated_by F r b
   pub control : e ≡ c

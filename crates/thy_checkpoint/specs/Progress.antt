@@ -14,7 +14,7 @@ use Rattle.thy_layout.specs.Commit.{commit_of}
 use Rattle.thy_layout.specs.Cpu.{cpu_block_of}
 use Rattle.thy_layout.specs.Layout.{Layout}
 use Rattle.thy_checkpoint.specs.Filling.{FillingOf, layout_at}
-use Rattle.thy_view.specs.Action.{Action, Rest, WriteAt, Barrier, after, FailsTo}
+use Rattle.thy_view.specs.Action.{Action, Rest, WriteAt, Barrier, IsAfter, FailsTo}
 use Rattle.thy_checkpoint.specs.declared.engine.Done.{Done}
 use Rattle.thy_checkpoint.specs.declared.engine_stage.EngineStage.{EngineStage}
 use Rattle.thy_checkpoint.specs.declared.engine_stage.EngineStage.TheVariants.{Idle, Body, InRound, Tail}
@@ -172,7 +172,7 @@ action_next F I e c n = action_of F I e (item_of I e c) c n
 -- an action was taken, with this controller afterwards, or it failed, and left the controller as it was
 pub record Acts {C T : Type 0} (action : Action) (later : C) (result : Result T NvmError) (old : C) (n : Device) (new : C) (m : Device) : Type 0 where
   pub control : OnOk result (new ≡ later)
-  pub device : OnOk result (m ≡ after action n)
+  pub device : OnOk result (IsAfter action n m)
   pub kept : OnErr result (new ≡ old)
   pub failed : OnErr result (FailsTo action n m)
   pub frame : IsFramed n m

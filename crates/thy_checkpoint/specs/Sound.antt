@@ -2,7 +2,7 @@
 use Rattle.std.specs.Prelude.{◌≡◌, ℕ, ◌*◌, true, List, [], length, Option, Some, None}
 use Rattle.thy_block.specs.declared.block.Block.{Block}
 use Rattle.thy_block.specs.declared.mark.Mark.{Mark}
-use Rattle.thy_block.specs.Device.{Device, block_at, newest, settled}
+use Rattle.thy_block.specs.Device.{Device, block_at, newest, at_rest}
 use Rattle.thy_block.specs.Marks.{mark}
 use Rattle.thy_block.specs.Places.{commit_place, header_place}
 use Rattle.thy_layout.specs.Saved.{Kept, next_image}
@@ -97,7 +97,7 @@ pub record IsAnew (o : Origin) (l : Layout) (m : Mark) (commit : Block) (parts :
 -- from the first barrier on the next image is that; it is what the device has once all has landed, with the commit block
 abbrev pub IsMadeAnew : Origin → Layout → Mark → Block → CheckpointParts → Round → List Block → Device → Type 0
 IsMadeAnew o l m commit parts Commit next n = IsAnew o l m commit parts next × (next_image n commit ≡ next)
-IsMadeAnew o l m commit parts Confirm next n = IsAnew o l m commit parts next × ((settled n).image ≡ next)
+IsMadeAnew o l m commit parts Confirm next n = IsAnew o l m commit parts next × ((at_rest n).image ≡ next)
 IsMadeAnew o l m commit parts r next n = Unit {0}
 
 -- ---- the boot

@@ -4,7 +4,7 @@ use Rattle.std.specs.Prelude.{◌≡◌, Result, OnOk, OnErr}
 use Rattle.thy_block.specs.declared.nvm.NvmError.{NvmError}
 use Rattle.thy_block.specs.Device.{Device, IsFramed, CountsFault}
 use Rattle.thy_isa.specs.Step.{State}
-use Rattle.thy_view.specs.Action.{Action, Rest, after, FailsTo}
+use Rattle.thy_view.specs.Action.{Action, Rest, IsAfter, FailsTo}
 use Rattle.thy_checkpoint.specs.declared.boot_stage.Stage.{Stage}
 use Rattle.thy_checkpoint.specs.declared.boot_stage.Stage.TheVariants.{Reads, Loads, Migrates, Over}
 use Rattle.thy_checkpoint.specs.declared.boot_stage.ReadStage.{ReadStage}
@@ -41,7 +41,7 @@ pub record ReadsOn {C : Type 0} (F : FillingOf C) (r : ReadStage) (n : Device) (
 -- the action of loading was taken
 pub record LoadsOn {C : Type 0} (F : FillingOf C) (s : State) (r : Round) (n : Device) (b : Booting) (c : C) (m : Device)
     (d : Booting) (e : C) : Type 0 where
-  pub device : m ≡ after (round_action (first_writes (first_by F b.p s)) r) n
+  pub device : IsAfter (round_action (first_writes (first_by F b.p s)) r) n m
   pub boot : d ≡ at_stage (loads_on (next_round (first_writes (first_by F b.p s)).blocks r)) b
   pub control : e ≡ c
 

@@ -3,8 +3,7 @@ ghost use Rattle.std.specs.Prelude.{◌≡◌, ◌*◌, ◌≤◌, false, length
 ghost use Rattle.thy_isa.specs.Step.{state_of};
 ghost use Rattle.thy_layout.specs.Files.{blocks_of};
 ghost use Rattle.thy_checkpoint.specs.Boot.{IsBoot, layout_in, new_boot, slot_read, answer_of};
-ghost use Rattle.thy_checkpoint.specs.Counts.{Counts};
-ghost use Rattle.thy_checkpoint.specs.Steps.{CanStep, TakesStep, action_of};
+ghost use Rattle.thy_checkpoint.specs.Steps.{CanStep, TakesStep};
 
 use crate::boot_stage::{End, ReadStage, Stage};
 use crate::fills::Fills;
@@ -108,10 +107,6 @@ impl Boot {
         // what was read is what the image means. An action of loading or of a migration equals its definition.
         ensures step { let s = state_of start.now.state in
             TakesStep F.filling result s (N.device nvm.old) self.old control.old (N.device nvm.new) self.new control.new }
-
-        // Reading is not counted among the NVM's writes, and an action of loading or of a migration as what it is.
-        ensures writes { let action = action_of F.filling (state_of start.now.state) self.old control.old in
-            Counts action result (N.writes nvm.old) (N.writes nvm.new) }
     {
         self.take_next::<F, N>(control, start, nvm)?;
         Ok(self.answer::<F>())
@@ -127,10 +122,8 @@ impl Boot {
         requires can { CanStep F.filling (state_of start.now.state) (N.device nvm.old) self.old control.old }
         requires fits { IsBoot F.filling self.old }
         requires up { (N.device nvm.old).down ≡ false }
-        ensures step { let s = state_of start.now.state in
+        ensures { let s = state_of start.now.state in
             TakesStep F.filling result s (N.device nvm.old) self.old control.old (N.device nvm.new) self.new control.new }
-        ensures writes { let action = action_of F.filling (state_of start.now.state) self.old control.old in
-            Counts action result (N.writes nvm.old) (N.writes nvm.new) }
     {
         match self.stage() {
             Stage::Reads(at) => self.read_next::<F, N>(at, control, nvm),

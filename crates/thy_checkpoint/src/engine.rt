@@ -46,7 +46,7 @@ impl Engine {
     ghost use Rattle.thy_view.specs.Round.{IsInRound, round_action};
     ghost use Rattle.thy_checkpoint.specs.Progress.{Ends, ReleaseItem};
     ghost use Rattle.thy_checkpoint.specs.Items.{Made};
-    ghost use Rattle.thy_view.specs.Action.{after, FailsTo};
+    ghost use Rattle.thy_view.specs.Action.{IsAfter, FailsTo};
 
     /// An engine with nothing to do.
     pub fn new(geometry: &Geometry) -> Engine
@@ -126,7 +126,7 @@ impl Engine {
         ensures engine { OnOk result (self.new ≡ engine_next E.filling E.items self.old control.old) }
         ensures control { OnOk result (control.new ≡ control_next E.items self.old control.old) }
         ensures device { let n = N.device nvm.old in
-            OnOk result (N.device nvm.new ≡ after (action_next E.filling E.items self.old control.old n) n) }
+            OnOk result (IsAfter (action_next E.filling E.items self.old control.old n) n (N.device nvm.new)) }
         ensures kept { OnErr result (self.new ≡ self.old) }
         ensures kept_control { OnErr result (control.new ≡ control.old) }
         ensures err { let n = N.device nvm.old in

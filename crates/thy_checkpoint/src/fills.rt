@@ -60,8 +60,7 @@ pub trait Fills: Drop {
         ensures ok { let block = newest (N.device nvm.old) (filling.fill_place control.old commit.now k) in
             OnOk result (control.new ≡ filling.with_fill commit.now k block control.old) }
         ensures err { OnErr result (control.new ≡ control.old) }
-        ensures nvm { Takes (ReadAt (filling.fill_place control.old commit.now k)) result (N.device nvm.old) (N.device nvm.new) }
-        ensures same_writes { N.writes nvm.new ≡ N.writes nvm.old };
+        ensures nvm { Takes (ReadAt (filling.fill_place control.old commit.now k)) result (N.device nvm.old) (N.device nvm.new) };
 
     /// The place that block `b` of a start's memory is written to.
     fn first_place(geometry: &Geometry, state: &MachState, b: u64) -> u64

@@ -5,7 +5,6 @@ ghost use Rattle.thy_layout.specs.Header.{header_of};
 ghost use Rattle.thy_view.specs.Round.{IsInRound, next_round, round_action};
 ghost use Rattle.thy_checkpoint.specs.Boot.{at_stage};
 ghost use Rattle.thy_checkpoint.specs.Filling.{layout_at, first_by};
-ghost use Rattle.thy_checkpoint.specs.Counts.{Counts};
 ghost use Rattle.thy_checkpoint.specs.Loads.{CanLoad, Takes, first_writes, loads_on, place_of_first, block_of_first};
 ghost use Rattle.thy_checkpoint.specs.Start.{CanStart};
 
@@ -107,8 +106,6 @@ impl Boot {
         ensures kept { OnErr result (self.new ≡ self.old) }
         ensures nvm { let w = first_writes (first_by F.filling self.old.p (state_of state.now)) in
             Takes (round_action w round) result (N.device nvm.old) (N.device nvm.new) }
-        ensures writes { let w = first_writes (first_by F.filling self.old.p (state_of state.now)) in
-            Counts (round_action w round) result (N.writes nvm.old) (N.writes nvm.new) }
     {
         self.write_first::<F, N>(round, state, nvm)?;
         self.stage = stage_after::<F>(&self.geometry, round, state);
@@ -123,10 +120,8 @@ impl Boot {
         nvm: &mut N,
     ) -> Result<(), NvmError>
         requires can { CanLoad F.filling (state_of state.now) round (N.device nvm.old) self.now }
-        ensures nvm { let w = first_writes (first_by F.filling self.now.p (state_of state.now)) in
+        ensures { let w = first_writes (first_by F.filling self.now.p (state_of state.now)) in
             Takes (round_action w round) result (N.device nvm.old) (N.device nvm.new) }
-        ensures writes { let w = first_writes (first_by F.filling self.now.p (state_of state.now)) in
-            Counts (round_action w round) result (N.writes nvm.old) (N.writes nvm.new) }
     {
         match round {
             Round::Write(k) => {

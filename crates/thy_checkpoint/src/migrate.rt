@@ -4,7 +4,6 @@ ghost use Rattle.thy_block.specs.Device.{block_at};
 ghost use Rattle.thy_layout.specs.Files.{blocks_of};
 ghost use Rattle.thy_view.specs.Round.{IsInRound, next_round, round_action};
 ghost use Rattle.thy_checkpoint.specs.Boot.{layout_in, slot_read};
-ghost use Rattle.thy_checkpoint.specs.Counts.{Counts};
 ghost use Rattle.thy_checkpoint.specs.Loads.{Takes};
 ghost use Rattle.thy_checkpoint.specs.Migrating.{CanMigrate, renewing, migrates_on, migrated_by, renewed, cleared};
 
@@ -52,7 +51,6 @@ impl Boot {
         ensures boot { OnOk result (self.new ≡ migrated_by F.filling round self.old) }
         ensures kept { OnErr result (self.new ≡ self.old) }
         ensures nvm { Takes (round_action (renewing F.filling self.old) round) result (N.device nvm.old) (N.device nvm.new) }
-        ensures writes { Counts (round_action (renewing F.filling self.old) round) result (N.writes nvm.old) (N.writes nvm.new) }
     {
         self.write_anew::<F, N>(round, nvm)?;
         self.stage = self.stage_after::<F>(round);
@@ -67,8 +65,7 @@ impl Boot {
     fn write_anew<F: Fills, N: Nvm>(&self, round: Round, nvm: &mut N) -> Result<(), NvmError>
         requires room { length self.now.slot ≡ 64 * (layout_in F.filling self.now).most_slot }
         requires can { CanMigrate F.filling round (N.device nvm.old) self.now }
-        ensures nvm { Takes (round_action (renewing F.filling self.now) round) result (N.device nvm.old) (N.device nvm.new) }
-        ensures writes { Counts (round_action (renewing F.filling self.now) round) result (N.writes nvm.old) (N.writes nvm.new) }
+        ensures { Takes (round_action (renewing F.filling self.now) round) result (N.device nvm.old) (N.device nvm.new) }
     {
         let commit = commit_block(epoch_in(&self.commit));
         match round {

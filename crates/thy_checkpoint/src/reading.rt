@@ -89,7 +89,6 @@ impl Boot {
         ensures boot { OnErr result (self.new ≡ self.old) }
         ensures control { OnErr result (control.new ≡ control.old) }
         ensures nvm { Takes (read_action F.filling self.old control.old at) result (N.device nvm.old) (N.device nvm.new) }
-        ensures same_writes { N.writes nvm.new ≡ N.writes nvm.old }
     {
         match at {
             ReadStage::Unread => self.read_commit(nvm),
@@ -107,7 +106,6 @@ impl Boot {
         ensures state { OnOk result (self.new ≡ after_commit (newest (N.device nvm.old) commit_place) self.old) }
         ensures kept { OnErr result (self.new ≡ self.old) }
         ensures reads { Takes (ReadAt commit_place) result (N.device nvm.old) (N.device nvm.new) }
-        ensures same_writes { N.writes nvm.new ≡ N.writes nvm.old }
     {
         let commit = nvm.read(COMMIT_PLACE)?;
         self.commit = commit;
@@ -123,7 +121,6 @@ impl Boot {
             OnOk result (self.new ≡ at_stage next self.old) }
         ensures kept { OnErr result (self.new ≡ self.old) }
         ensures reads { Takes (ReadAt header_place) result (N.device nvm.old) (N.device nvm.new) }
-        ensures same_writes { N.writes nvm.new ≡ N.writes nvm.old }
     {
         let header = nvm.read(HEADER_PLACE)?;
         let of_commit = commit_fault(&header, &self.commit, CEILING);
@@ -149,7 +146,6 @@ impl Boot {
         ensures boot { OnErr result (self.new ≡ self.old) }
         ensures control { OnErr result (control.new ≡ control.old) }
         ensures nvm { Takes (read_action F.filling self.old control.old (Slot next)) result (N.device nvm.old) (N.device nvm.new) }
-        ensures same_writes { N.writes nvm.new ≡ N.writes nvm.old }
     {
         self.read_block::<F, N>(next, nvm)?;
         self.go_on::<F>(next, control);
@@ -167,7 +163,6 @@ impl Boot {
         ensures kept { OnErr result (self.new ≡ self.old) }
         ensures reads { let at = (layout_in F.filling self.old).slot_place self.old.commit + next in
             Takes (ReadAt at) result (N.device nvm.old) (N.device nvm.new) }
-        ensures same_writes { N.writes nvm.new ≡ N.writes nvm.old }
     {
         let block = nvm.read(slot_at::<F>(&self.geometry, &self.commit, next))?;
         keep_block(&mut self.slot, next as usize, &block);
@@ -241,7 +236,6 @@ impl Boot {
         ensures boot { OnErr result (self.new ≡ self.old) }
         ensures control { OnErr result (control.new ≡ control.old) }
         ensures nvm { Takes (read_action F.filling self.old control.old (FillsAt k)) result (N.device nvm.old) (N.device nvm.new) }
-        ensures same_writes { N.writes nvm.new ≡ N.writes nvm.old }
     {
         let _positions = F::most_fills(&self.geometry);
         F::fill(control, &self.commit, k, nvm)?;

@@ -13,11 +13,11 @@ use Rattle.thy_isa.specs.Step.{State, state_of}
 use Rattle.thy_layout.specs.declared.engine_step.EngineStep.{EngineStep}
 use Rattle.thy_layout.specs.declared.start.Start.{Start}
 use Rattle.thy_view.specs.declared.boot_step.BootStep.{BootStep}
-use Rattle.thy_view.specs.Action.{Action, Rest, ReadAt, WriteAt, Barrier, Drain, after, FailsTo}
+use Rattle.thy_view.specs.Action.{Action, Rest, ReadAt, WriteAt, Barrier, Drain, IsAfter, after, FailsTo}
 use Rattle.thy_view.specs.Dram.{ActsOnDram}
 use Rattle.thy_view.specs.Kind.{IsDramOf}
 use Rattle.thy_view.specs.Origin.{Origin, Begins}
-use Rattle.thy_view.proofs.ActionLemmas.{down-after, queue-after}
+use Rattle.thy_view.proofs.ActionLemmas.{access-is, access-leaves, down_of, queue_of}
 use Rattle.thy_checkpoint.specs.declared.boot_stage.ReadStage.{ReadStage}
 use Rattle.thy_checkpoint.specs.declared.boot_stage.ReadStage.TheVariants.{Unread, Header, Slot, Fills, Refusing}
 use Rattle.thy_checkpoint.specs.declared.boot_stage.Stage.{Stage}
@@ -67,17 +67,17 @@ promoted_then later s t n m (Ok x) makes reads = record { answer_is = refl; sche
 promoted_then later s t n m (Err x) makes reads = tt
 
 -- a step of the boot that reads leaves the NVM
-read-leaves : {C : Type 0} (F : FillingOf C) (b : Booting) (c : C) (at : ReadStage) (n : Device) → after (read_action F b c at) n ≡ n
-read-leaves F b c Unread n = refl
-read-leaves F b c Header n = refl
-read-leaves F b c (Slot next) n = refl
-read-leaves F b c (Fills k) n = refl
-read-leaves F b c (Refusing bad) n = refl
+read-leaves : {C : Type 0} (F : FillingOf C) (b : Booting) (c : C) (at : ReadStage) (n m : Device) → m ≡ n → IsAfter (read_action F b c at) n m
+read-leaves F b c Unread n m same = same
+read-leaves F b c Header n m same = same
+read-leaves F b c (Slot next) n m same = same
+read-leaves F b c (Fills k) n m same = same
+read-leaves F b c (Refusing bad) n m same = same
 
 boots-at : {C : Type 0} (F : FillingOf C) (start : State) (stage : Stage) (n : Device) (b : Booting) (c : C) (m : Device) (d : Booting) (e : C)
     → StepsAt F stage start n b c m d e
-    → (d ≡ boot_after F start stage n b) × FillsBy F stage n b c e × (m ≡ after (action_at F stage start b c) n)
-boots-at F start (Reads at) n b c m d e s = (s.boot, s.control, s.device ∙ sym (read-leaves F b c at n))
+    → (d ≡ boot_after F start stage n b) × FillsBy F stage n b c e × IsAfter (action_at F stage start b c) n m
+boots-at F start (Reads at) n b c m d e s = (s.boot, s.control, read-leaves F b c at n m s.device)
 boots-at F start (Loads r) n b c m d e s = (s.boot, s.control, s.device)
 boots-at F start (Migrates r) n b c m d e s = (s.boot, s.control, s.device)
 boots-at F start (Over end) n b c m d e s = absurd s
@@ -137,7 +137,7 @@ module _ {C : Type 0} (D : DesignOf C) (w : AreParts D) where
     abbrev action : Action
     action = D.parts.store_action b block s.control
 
-    made : MakesStore D b block s.control n (D.parts.stored b block s.control n) (after (D.parts.store_action b block s.control) n)
+    made : MakesStore D b block s.control n (D.parts.stored b block s.control n) (after n.writes (D.parts.store_action b block s.control) n)
     made = w.storing.store b block s.control n can
 
     -- if no block was stored, none was before
@@ -146,7 +146,7 @@ module _ {C : Type 0} (D : DesignOf C) (w : AreParts D) where
     rests_by true h = (refl, h)
     rests_by false h = absurd (both_ways (D.parts.storeless_after (D.parts.store_answer b s.control) false) (w.storing.stored_once s.control b) h)
 
-    stays_stored : Stays D s n (stored D b block s n) (after (D.parts.store_action b block s.control) n)
+    stays_stored : Stays D s n (stored D b block s n) (after n.writes (D.parts.store_action b block s.control) n)
     stays_stored = record {
       control = made.stays;
       engine = refl;
@@ -164,12 +164,12 @@ module _ {C : Type 0} (D : DesignOf C) (w : AreParts D) where
       rests = λ r. record { before = r; still = w.storing.still_same s.control };
     }
 
-    one_more : (d : C) (m : Device) → m ≡ after (D.parts.store_action b block s.control) n → ActsOnDram n m (D.filling.dram s.control) (D.filling.dram d)
+    one_more : (d : C) (m : Device) → m ≡ after n.writes (D.parts.store_action b block s.control) n → ActsOnDram n m (D.filling.dram s.control) (D.filling.dram d)
         → length m.queue + (D.filling.dram d).queued ≤ length n.queue + (D.filling.dram s.control).queued + 1
     one_more d m is acts = elim acts as (λ _. length m.queue + (D.filling.dram d).queued ≤ length n.queue + (D.filling.dram s.control).queued + 1) [
       | inl same ↦
           let left = ap (λ (x : Device). length x.queue) is in
-          let more = queue-after (D.parts.store_action b block s.control) n in
+          let more = queue_of n.writes (D.parts.store_action b block s.control) n in
           omega (arith, left, more, ap (λ (x : Contents). x.queued) same)
       | inr write ↦ omega (arith, ap (λ (x : Contents). x.queued) write.left, ap (λ (x : Device). length x.queue) write.nvm)
     ]
@@ -177,21 +177,21 @@ module _ {C : Type 0} (D : DesignOf C) (w : AreParts D) where
     up : n.down ≡ false
     up = (held_block D s.control n b can.inside).up
 
-    up_then : (after (D.parts.store_action b block s.control) n).down ≡ false
-    up_then = down-after (D.parts.store_action b block s.control) n ∙ up
+    up_then : (after n.writes (D.parts.store_action b block s.control) n).down ≡ false
+    up_then = down_of n.writes (D.parts.store_action b block s.control) n ∙ up
 
-    once_stored : IsFramed n (after (D.parts.store_action b block s.control) n)
-        → IsOneAccess (scheme_of D) s n (stored D b block s n) (after (D.parts.store_action b block s.control) n)
+    once_stored : IsFramed n (after n.writes (D.parts.store_action b block s.control) n)
+        → IsOneAccess (scheme_of D) s n (stored D b block s n) (after n.writes (D.parts.store_action b block s.control) n)
     once_stored framed = record {
       action = D.parts.store_action b block s.control;
       access = w.storing.access b block s.control;
       succeeds = λ alive. record {
-        left = refl;
+        left = access-leaves (D.parts.store_action b block s.control) n (w.storing.access b block s.control);
         dram = made.dram;
-        queue = one_more (D.parts.stored b block s.control n) (after (D.parts.store_action b block s.control) n) refl made.dram;
+        queue = one_more (D.parts.stored b block s.control n) (after n.writes (D.parts.store_action b block s.control) n) refl made.dram;
         copies = made.copies;
       };
-      fails = λ dead. absurd (both_ways (after (D.parts.store_action b block s.control) n).down up_then dead);
+      fails = λ dead. absurd (both_ways (after n.writes (D.parts.store_action b block s.control) n).down up_then dead);
       frame = framed;
       stays = stays_stored;
     }
@@ -199,8 +199,10 @@ module _ {C : Type 0} (D : DesignOf C) (w : AreParts D) where
     pub store_once : (t : Composed C) (m : Device) (r : Result Stored NvmError)
         → Acts (D.parts.store_action b block s.control) (stored D b block s n) r s n t m → IsOneAccess (scheme_of D) s n t m
     store_once t m (Ok answer) acts =
+        let is : m ≡ after n.writes (D.parts.store_action b block s.control) n =
+        access-is (D.parts.store_action b block s.control) n m (w.storing.access b block s.control) acts.device in
         subst (λ (x : Composed C). IsOneAccess (scheme_of D) s n x m) (sym acts.control)
-        (subst (λ (d : Device). IsOneAccess (scheme_of D) s n (stored D b block s n) d) (sym acts.device) (once_stored (subst (IsFramed n) acts.device acts.frame)))
+        (subst (λ (d : Device). IsOneAccess (scheme_of D) s n (stored D b block s n) d) (sym is) (once_stored (subst (IsFramed n) is acts.frame)))
     store_once t m (Err x) acts =
         subst (λ (y : Composed C). IsOneAccess (scheme_of D) s n y m) (sym acts.kept) (record {
           action = D.parts.store_action b block s.control;
@@ -218,8 +220,7 @@ module _ {C : Type 0} (D : DesignOf C) (w : AreParts D) where
         → Acts (action_next D.filling D.items s.engine s.control n) (taken D s) r s n t m → IfOk r (λ step. Engines (scheme_of D) o k step s n t m)
     engines_then (Ok step) answer acts =
         subst (λ (x : EngineStep). Engines (scheme_of D) o k x s n t m) (sym answer)
-        (subst (λ (x : Composed C). Engines (scheme_of D) o k (step_of D s) s n x m) (sym acts.control)
-        (subst (λ (d : Device). Engines (scheme_of D) o k (step_of D s) s n (taken D s) d) (sym acts.device) (engines D w.design o k s n stands way)))
+        (subst (λ (x : Composed C). Engines (scheme_of D) o k (step_of D s) s n x m) (sym acts.control) (engines D w.design o k s n stands way m acts.device))
     engines_then (Err x) answer acts = tt
 
     pub engine_fails_then : (r : Result EngineStep NvmError)

@@ -2,9 +2,8 @@
 ghost use Rattle.std.specs.Prelude.{◌≡◌, ◌<◌, true, false, length, IfOk, OnOk, OnErr};
 ghost use Rattle.thy_block.specs.Device.{block_at};
 ghost use Rattle.thy_checkpoint.specs.Boot.{IsBoot};
-ghost use Rattle.thy_checkpoint.specs.Counts.{Counts};
 ghost use Rattle.thy_checkpoint.specs.Filling.{layout_at};
-ghost use Rattle.thy_checkpoint.specs.Steps.{CanStep, action_of};
+ghost use Rattle.thy_checkpoint.specs.Steps.{CanStep};
 ghost use Rattle.thy_parts.specs.Seen.{loads_at};
 ghost use Rattle.thy_dram.specs.Contents.{lost};
 ghost use Rattle.thy_checkpoint.specs.Progress.{Acts, Fits, action_next, is_under_way, phase_of};
@@ -131,7 +130,6 @@ where
             IfOk result (λ block. block ≡ block_at held b) }
         ensures side { OnErr result (P.parts.load_reads self.now.control b ≡ true) }
         ensures reads { IsReading result (N.device nvm.old) (N.device nvm.new) }
-        ensures same_writes { N.writes nvm.new ≡ N.writes nvm.old }
     {
         P::load(&self.control, b, nvm)
     }
@@ -145,7 +143,6 @@ where
             IfOk result (λ block. block ≡ block_at held b) }
         ensures side { OnErr result (P.parts.committed_reads (phase_of self.now.engine.stage) self.now.control b ≡ true) }
         ensures reads { IsReading result (N.device nvm.old) (N.device nvm.new) }
-        ensures same_writes { N.writes nvm.new ≡ N.writes nvm.old }
     {
         P::committed(&self.control, self.engine.stage(), b, nvm)
     }
@@ -191,7 +188,6 @@ where
             Promotes later result self.old self.new }
         ensures some { OnErr result (P.parts.pages.promoting self.old.control ≡ true) }
         ensures reads { IsReading result (N.device nvm.old) (N.device nvm.new) }
-        ensures same_writes { N.writes nvm.new ≡ N.writes nvm.old }
     {
         P::promote(&mut self.control, nvm)
     }
@@ -235,8 +231,6 @@ where
         ensures takes { let n = N.device nvm.old in let m = N.device nvm.new in
             TakesBootStep (design_of P.filling P.items P.parts) start.now self.old n result self.new m }
         ensures sound { P.parts.sound self.new.control }
-        ensures writes { let action = action_of P.filling (state_of start.now.state) self.old.boot self.old.control in
-            Counts action result (N.writes nvm.old) (N.writes nvm.new) }
     {
         let result = self.boot.step::<P, N>(&mut self.control, start, nvm);
         P::recall_sound(&self.control);

@@ -67,8 +67,8 @@ IsUnseen-nvm_drained s m t sized = IsUnseen-landed s m (nvm_drained m) t sized
     (record { as_long = length-drained m; same_down = refl; newest_same = newest-drained m; no_more = no_more-drained m })
 
 pub IsUnseen-settled : BarrierIsUnseen
-IsUnseen-settled s m t sized = IsUnseen-landed s m (settled m) t sized
-    (record { as_long = length-settled m; same_down = refl; newest_same = newest-settled m; no_more = no_more-settled m })
+IsUnseen-settled s m count t sized = IsUnseen-landed s m (settled count m) t sized
+    (record { as_long = length-settled count m; same_down = refl; newest_same = newest-settled count m; no_more = no_more-settled count m })
 
 pub IsUnseen-drained : DrainIsUnseen
 IsUnseen-drained s m =

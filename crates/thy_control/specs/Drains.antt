@@ -38,7 +38,7 @@ abbrev pub NvmDrainIsUnseen : Type 0
 NvmDrainIsUnseen = (s : State) (m : Device) → AreSoundTables s → IsSized s m → IsUnseen s m s (nvm_drained m)
 
 abbrev pub BarrierIsUnseen : Type 0
-BarrierIsUnseen = (s : State) (m : Device) → AreSoundTables s → IsSized s m → IsUnseen s m s (settled m)
+BarrierIsUnseen = (s : State) (m : Device) (count : ℕ) → AreSoundTables s → IsSized s m → IsUnseen s m s (settled count m)
 
 -- a drain of the DRAM, after which one write less is queued, is not seen
 abbrev pub DrainIsUnseen : Type 0

@@ -1,4 +1,3 @@
--- Part of the claim.
 -- What a cut may leave of both checkpoints stays, whether or not a call failed.
 use Rattle.std.specs.Prelude.{◌≡◌, ◌≢◌, ℕ, ◌<◌, ◌≤◌, ◌%◌, true}
 use Rattle.thy_block.specs.Device.{Device}

@@ -1,4 +1,3 @@
--- Part of the claim.
 -- What every call between two checkpoints keeps, one that fails too: what a cut may leave of both checkpoints, both
 -- tables, and the counts of the epoch before.
 use Rattle.std.specs.Prelude.{◌≡◌, ℕ, ◌<◌, ◌≤◌, true, false, length}

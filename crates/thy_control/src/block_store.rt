@@ -18,6 +18,8 @@ impl<N: Nvm> BlockStore<N> for Control {
 
     ghost loads = { λ a m b n. b ≡ a };
 
+    ghost stores = { λ b block stored a m c n. Unit {0} };
+
     ghost stays = { λ a m b n. Stays a (N.device m) b (N.device n) };
 
     fn load(&mut self, b: u64, nvm: &mut N) -> Result<Block, NvmError> {

@@ -292,7 +292,6 @@ impl Control {
         ensures side { OnErr result (in_dram place ≡ false) }
         ensures frame { IsFramed (N.device nvm.old) (N.device nvm.new) }
         ensures cause { CountsFault result (N.device nvm.old).faults (N.device nvm.new).faults }
-        ensures same_writes { N.writes nvm.new ≡ N.writes nvm.old }
     {
         read_place(place, &self.geometry, nvm, &self.dram)
     }
@@ -308,7 +307,6 @@ impl Control {
         ensures err { OnErr result (HasFailed (N.device nvm.old) (N.device nvm.new)) }
         ensures frame { IsFramed (N.device nvm.old) (N.device nvm.new) }
         ensures cause { CountsFault result (N.device nvm.old).faults (N.device nvm.new).faults }
-        ensures same_writes { N.writes nvm.new ≡ N.writes nvm.old }
     {
         let cell = self.cell(b);
         self.recall_tables();
@@ -327,7 +325,6 @@ impl Control {
         ensures side { OnErr result (in_dram (work_place (cell_of self.now b)) ≡ false) }
         ensures frame { IsFramed (N.device nvm.old) (N.device nvm.new) }
         ensures cause { CountsFault result (N.device nvm.old).faults (N.device nvm.new).faults }
-        ensures same_writes { N.writes nvm.new ≡ N.writes nvm.old }
     {
         let cell = self.cell(b);
         self.recall_tables();

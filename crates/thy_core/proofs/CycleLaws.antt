@@ -6,14 +6,21 @@ use Rattle.thy_block.specs.declared.nvm.NvmError.{NvmError}
 use Rattle.thy_block.specs.Counts.{Rose, RoseByOne}
 use Rattle.thy_block.specs.Device.{Device, HasFailed, IsFramed, failed_calls, drained}
 use Rattle.thy_block.specs.Geometry.{memory_blocks}
+use Rattle.thy_block.specs.declared.store.Stored.{Stored}
+use Rattle.thy_block.specs.declared.store.Stored.TheVariants.{Done, CopyFirst}
 use Rattle.thy_cache.specs.declared.line.Flushed.{Flushed}
-use Rattle.thy_cache.specs.Contents.{Contents, dirty_count}
+use Rattle.thy_cache.specs.declared.line.Flushed.TheVariants.{Clean, Line as StoredLine, CopyFirst as CopiedFirst}
+use Rattle.thy_cache.specs.declared.line.Line.{Line}
+use Rattle.thy_cache.specs.declared.line.Victim.{Victim}
+use Rattle.thy_cache.specs.declared.line.Victim.TheVariants.{Room, Dirty}
+use Rattle.thy_cache.specs.Contents.{Contents, dirty_count, dirty_line, victim_of, victim_line_of, evicted_for, flushed_from, StoresBy, FlushesBy}
+use Rattle.thy_hart.specs.Bring.{BringsLine, BringsBy, EvictsBy, CallsStore}
 use Rattle.thy_hart.specs.declared.hand.Hand.TheVariants.{Nothing as NoHand}
 use Rattle.thy_hart.specs.declared.hand.HartStep.{HartStep}
 use Rattle.thy_hart.specs.Outcomes.{Given, given}
 use Rattle.thy_hart.specs.HartState.{HartState, next_block}
 use Rattle.thy_hart.specs.Moments.{moment, is_missing, brings_line, IsReady}
-use Rattle.thy_hart.specs.OneStep.{IsStep}
+use Rattle.thy_hart.specs.OneStep.{IsStep, hart_after, answer_to}
 use Rattle.thy_isa.specs.declared.state.Status.{Status}
 use Rattle.thy_isa.specs.declared.state.Status.TheVariants.{Running, Exited, Trapped}
 use Rattle.thy_isa.specs.Step.{is_running}
@@ -28,13 +35,14 @@ use Rattle.thy_view.specs.declared.did.Stall.TheVariants.{Booting, Sealing, Wait
 use Rattle.thy_view.specs.declared.view.Phase.{Phase}
 use Rattle.thy_view.specs.declared.view.Phase.TheVariants.{Boot, Run, Halt}
 use Rattle.thy_view.specs.declared.view.View.{View}
-use Rattle.thy_view.specs.Action.{Action, Rest, ReadAt, WriteAt, Barrier as ActBarrier, Drain, after}
+use Rattle.thy_view.proofs.ActionLemmas.{after-is}
+use Rattle.thy_view.specs.Action.{Action, Rest, ReadAt, WriteAt, Barrier as ActBarrier, Drain, IsAfter, after}
 use Rattle.thy_view.specs.Booting.{boot_did}
 use Rattle.thy_view.specs.Origin.{Origin}
 use Rattle.thy_view.specs.WithTurns.{IsThere}
 use Rattle.thy_view.specs.NextActor.{Actor, front_of, Nvm, Dram, Checkpoint, Advances, Stalled, Pressure, IsHanded, HandsOn, Does, Prepares}
 use Rattle.thy_scheme.specs.declared.scheme_store.SchemeStore.{SchemeStore}
-use Rattle.thy_scheme.specs.SchemeStore.{held_by_scheme, IsOneCall}
+use Rattle.thy_scheme.specs.SchemeStore.{held_by_scheme, loads_by, stores_by, IsOneCall}
 use Rattle.thy_scheme.specs.CheckpointMarks.{CheckpointMarks}
 use Rattle.thy_scheme.specs.Exact.{Makes}
 use Rattle.thy_scheme.specs.Scheme.{SchemeOf, StaysOf, Stands, IsBooting}
@@ -44,8 +52,8 @@ use Rattle.thy_core.specs.declared.parts.MachineParts.{MachineParts}
 use Rattle.thy_core.specs.MachineParts.{machine_of}
 use Rattle.thy_scheme.specs.Machine.{Machine, cpu_fronted, processor_of, view_of, moment_of, pressure_of}
 use Rattle.thy_scheme.specs.Sound.{Sound}
-use Rattle.thy_scheme.specs.MachineCalls.{IsAsked, HartCall, FlushCall, retires_by, begun_by_hart, hart_did, after_hart, after_flush, after_call, after_drain, after_seal, after_engine, after_boot}
-use Rattle.thy_scheme.specs.MachineExact.{IsOutcome, sealed_for, MakesFirst, LeavesBelow}
+use Rattle.thy_scheme.specs.MachineCalls.{IsBelow, line_evicted, line_brought, below_by, below_after, flushed_as, flushed_line, line_flushed, IsAsked, HartCall, FlushCall, retires_by, begun_by_hart, hart_did, after_hart, after_flush, after_call, after_drain, after_seal, after_engine, after_boot}
+use Rattle.thy_scheme.specs.MachineExact.{IsOutcome, sealed_for, given_to, found_by, MakesFirst}
 use Rattle.thy_scheme.specs.Rows.{IsMoment, At, HartAdvances, IsSealing, SimulatesCycle}
 use Rattle.thy_core.specs.Cycles.{IsEngineDue, IsActorOf, IsAnyRun, IsCycle, HasFailedAs, HasTaken, did_by, stepped_by, reported}
 use Rattle.thy_scheme.proofs.Facts.{view-run, sound-run, holds-run, is-going}
@@ -203,17 +211,6 @@ module _ {S : Type 0} (K : SchemeOf S) (o : Origin) (cycles : ℕ) (m : Machine 
   land_failed new failed frame =
       record { did = NvmDrained; does = refl; due = tt; fails = drain_fails K o cycles m n new at failed frame; processor = refl }
 
--- ---- what a step of the hart leaves below it
-
-leaves_below : {S : Type 0} (K : SchemeOf S) (g : Given) (m : Machine S) (n : Device) (h : HartState) (c : Contents) (t : S) (new : Device) (step : HartStep)
-    → HartCall K g m n h c t new step → LeavesBelow K (brings_line (moment_of K m n)) (next_block m.hart) m n c t new
-leaves_below {S} K g m n h c t new step hs = by_line (brings_line (moment_of K m n)) refl (next_block m.hart) refl
-  where
-    by_line : (brings : Bool) → brings_line (moment_of K m n) ≡ brings → (block : Option ℕ) → next_block m.hart ≡ block → LeavesBelow K brings block m n c t new
-    by_line false is block at = let kept = hs.untouched is in (hs.is_step.used is, kept.0, kept.1)
-    by_line true is None at = absurd (true≢false (sym is ∙ ap (is_missing m.cache) at))
-    by_line true is (Some b) at = (hs.is_step.brought b is at, hs.asked)
-
 -- ---- one that is a step of the run
 
 module _ {S : Type 0} (K : SchemeOf S) (o : Origin) (cycles : ℕ) (m : Machine S) (n : Device) (at : At K o cycles m n) where
@@ -323,7 +320,7 @@ module _ {S : Type 0} (K : SchemeOf S) (o : Origin) (cycles : ℕ) (m : Machine 
         there = tt;
         simulates = λ mine. seal_simulates K o cycles m n t cause at sealing whole bare clean (sym over) p;
         exact = first_by false true false (Sealed m.hart.epoch.number m.hart.cpu.count cause) (after_seal t m) n whole (eq-eqb (dirty_count m.cache) 0 clean) bare
-            (subst (λ x. IsOutcome (sealed_for K x m n) (Sealed m.hart.epoch.number m.hart.cpu.count cause) (after_seal t m) n) over
+            (subst (λ x. IsOutcome (sealed_for K x m) n (Sealed m.hart.epoch.number m.hart.cpu.count cause) (after_seal t m) n) over
             (record { did_is = refl; machine_is = ap (λ (s : S). after_seal s m) made; nvm_is = refl }));
       })))
 
@@ -394,11 +391,11 @@ module _ {S : Type 0} (K : SchemeOf S) (o : Origin) (cycles : ℕ) (m : Machine 
         there = there_hart hart turn (retires_by step);
         simulates = hart-simulates K o cycles m n hart h c t new step at turn hs;
         exact = record {
-          cache = c;
-          scheme = t;
-          below = leaves_below K (given o.input (K.free m.scheme) (K.under_way m.scheme)) (begun_by_hart hart m) n h c t new step hs;
           did_is = ap (hart_did hart) hs.is_step.says;
-          machine_is = ap₂ (λ (x : HartStep) (y : HartState). after_hart hart x y c t m) hs.is_step.says hs.is_step.hart;
+          machine_is = ap₂ (λ (x : HartStep) (y : HartState). after_hart hart x y c t m) hs.is_step.says hs.is_step.hart
+              ∙ ap₂ (λ (x : Contents) (y : S). after_hart hart (answer_to (given_to K o m) (found_by K hart m n)) (hart_after (given_to K o m) (found_by K hart m n)) x y m)
+              hs.below.cache_is hs.below.scheme_is;
+          nvm_is = hs.below.nvm_is;
         };
       }))
 
@@ -413,13 +410,9 @@ module _ {S : Type 0} (K : SchemeOf S) (o : Origin) (cycles : ℕ) (m : Machine 
     there = tt;
     simulates = λ mine. flush_simulates K o cycles m n c t new flushed at sealing whole f;
     exact = first_by false false (K.overlaid m.scheme) DidFlush (after_flush c t m) new whole (ne_eqb (dirty_count m.cache) 0 dirty) refl (record {
-      flushed = flushed;
-      scheme = t;
-      more = f.more;
-      store = f.store;
-      access = f.access;
       did_is = refl;
-      machine_is = ap (λ (x : Contents). after_flush x t m) f.cache;
+      machine_is = ap₂ (λ (x : Contents) (y : S). after_flush x y m) f.made.cache_is f.made.scheme_is;
+      nvm_is = f.made.nvm_is;
     });
   }
 
@@ -568,12 +561,20 @@ up_now old false up e = refl
 up_now true true up e = absurd (cc)
 up_now false true up e = absurd (let one : 1 ≡ count_of false = e in omega (arith, one))
 
-faults_after : (a : Action) (n : Device) → (after a n).faults ≡ n.faults
-faults_after Rest n = refl
-faults_after (ReadAt place) n = refl
-faults_after (WriteAt place block) n = refl
-faults_after ActBarrier n = refl
-faults_after Drain n = refl
+pub up_once : {S N : Type 0} (K : SchemeOf S) (device : N → Device) (a b : SchemeStore S) (x y : N) → (device x).down ≡ false
+    → CalledOnce K device a x b y → failed_calls (device y) ≡ failed_calls (device x) → (device y).down ≡ false
+up_once K device a b x y up (inl same) e = ap (λ z. (device z).down) same.1 ∙ up
+up_once K device a b x y up (inr once) e = up_now (device x).down (device y).down up e
+
+faults_of : (count : ℕ) (a : Action) (n : Device) → (after count a n).faults ≡ n.faults
+faults_of count Rest n = refl
+faults_of count (ReadAt place) n = refl
+faults_of count (WriteAt place block) n = refl
+faults_of count ActBarrier n = refl
+faults_of count Drain n = refl
+
+faults_after : (a : Action) (n new : Device) → IsAfter a n new → new.faults ≡ n.faults
+faults_after a n new left = ap (λ (d : Device). d.faults) (after-is a n new left) ∙ faults_of new.writes a n
 
 -- a call of the store of blocks that did not fail has counted no failure
 pub kept_once : {S N : Type 0} (K : SchemeOf S) (device : N → Device) (a b : SchemeStore S) (x y : N) → (device x).down ≡ false
@@ -581,13 +582,66 @@ pub kept_once : {S N : Type 0} (K : SchemeOf S) (device : N → Device) (a b : S
 kept_once K device a b x y up (inl same) e = ap (λ z. (device z).faults) same.1
 kept_once K device a b x y up (inr once) e =
     let done = once.access.succeeds (up_now (device x).down (device y).down up e) in
-    ap (λ (d : Device). d.faults) done.left ∙ faults_after once.access.action (device x)
+    faults_after once.access.action (device x) (device y) done.left
 
 -- ---- a step of the hart
 
-rests_by : {S N : Type 0} (K : SchemeOf S) (a b : SchemeStore S) (x y : N) → ((b ≡ a) × (y ≡ x)) ⊎ (b.scheme ≡ a.scheme) → K.storeless b.scheme ≡ K.storeless a.scheme
-rests_by K a b x y (inl same) = ap (λ s. K.storeless s.scheme) same.0
-rests_by K a b x y (inr same) = ap K.storeless same
+rests_by : {S N : Type 0} (K : SchemeOf S) (device : N → Device) (a b : SchemeStore S) (x y : N)
+    → ((b ≡ a) × (y ≡ x)) ⊎ loads_by device a x b y → K.storeless b.scheme ≡ K.storeless a.scheme
+rests_by K device a b x y (inl same) = ap (λ s. K.storeless s.scheme) same.0
+rests_by K device a b x y (inr same) = ap K.storeless same.scheme
+
+-- ---- what is left below the hart
+
+module _ {S N : Type 0} (K : SchemeOf S) (device : N → Device) (p : MachineParts S) (b : SchemeStore S) (x y : N) (c : Contents) where
+  -- the line in a block's way was stored
+  evicted_is : (at : ℕ) → EvictsBy (stores_by K device) at p.cache c p.store x b y
+      → IsBelow (line_evicted K at (victim_line_of p.cache at) (machine_of p) (device x)) (device x) c b.scheme (device y)
+  evicted_is at e =
+      subst (λ (l : Option Line). IsBelow (line_evicted K at l (machine_of p) (device x)) (device x) c b.scheme (device y)) (sym e.made.stands) (record {
+        cache_is = e.cache ∙ ap (λ (s : Stored). evicted_for s at p.cache) e.made.made.answer_is;
+        scheme_is = e.made.made.scheme_is;
+        nvm_is = e.made.made.nvm_is;
+      })
+
+  -- a line was brought
+  brought_is : (at : ℕ) (victim : Victim) → (device y).down ≡ false → BringsBy (loads_by device) (stores_by K device) victim at p.cache c p.store x b y
+      → BringsLine victim at p.cache (held_by_scheme K p.store.scheme (device x)) c
+      → IsBelow (line_brought K at victim (machine_of p) (device x)) (device x) c b.scheme (device y)
+  brought_is at Room up called filled = record { cache_is = filled; scheme_is = called.scheme; nvm_is = called.nvm up }
+  brought_is at (Dirty line) up called filled = evicted_is at called
+
+  -- after a step of the hart
+  below_is : (g : Given) (h : HartState) (step : HartStep) → (device y).down ≡ false
+      → IsStep g (moment_of K (machine_of p) (device x)) (moment h c (held_by_scheme K b.scheme (device y))) step
+      → (brings_line (moment_of K (machine_of p) (device x)) ≡ false → (b ≡ p.store) × (y ≡ x))
+      → CallsStore (loads_by device) (stores_by K device) (brings_line (moment_of K (machine_of p) (device x))) (next_block p.hart) p.cache c p.store x b y
+      → IsBelow (below_after K (machine_of p) (device x)) (device x) c b.scheme (device y)
+  below_is g h step up s untouched called = by_line (brings_line (moment_of K (machine_of p) (device x))) refl (next_block p.hart) refl called
+    where
+      by_line : (brings : Bool) → brings_line (moment_of K (machine_of p) (device x)) ≡ brings → (block : Option ℕ) → next_block p.hart ≡ block
+          → CallsStore (loads_by device) (stores_by K device) brings block p.cache c p.store x b y
+          → IsBelow (below_by K brings block (machine_of p) (device x)) (device x) c b.scheme (device y)
+      by_line false is block at calls =
+          let kept = untouched is in record { cache_is = s.used is; scheme_is = ap (λ (a : SchemeStore S). a.scheme) kept.0; nvm_is = ap device kept.1 }
+      by_line true is None at calls = absurd (true≢false (sym is ∙ ap (is_missing p.cache) at))
+      by_line true is (Some k) at calls = brought_is k (victim_of p.cache k) up calls (s.brought k is at)
+
+  -- after a step of a flush that was not the last
+  stored_is : (stored : Stored) → StoresBy (stores_by K device) stored (dirty_line p.cache) p.store x b y → c ≡ flushed_from (flushed_as stored) p.cache
+      → IsBelow (line_flushed K (machine_of p) (device x)) (device x) c b.scheme (device y)
+  stored_is stored e is =
+      subst (λ (l : Option Line). IsBelow (flushed_line K l (machine_of p) (device x)) (device x) c b.scheme (device y)) (sym e.stands) (record {
+        cache_is = is ∙ ap (λ (s : Stored). flushed_from (flushed_as s) p.cache) e.made.answer_is;
+        scheme_is = e.made.scheme_is;
+        nvm_is = e.made.nvm_is;
+      })
+
+  pub flushed_is : (flushed : Flushed) → flushed ≢ Clean → FlushesBy (stores_by K device) flushed p.cache p.store x b y → c ≡ flushed_from flushed p.cache
+      → IsBelow (line_flushed K (machine_of p) (device x)) (device x) c b.scheme (device y)
+  flushed_is Clean more made is = absurd (more refl)
+  flushed_is StoredLine more made is = stored_is Done made is
+  flushed_is CopiedFirst more made is = stored_is CopyFirst made is
 
 pub given_is : (input other : List ℕ) (free before : ℕ) (way under : Bool) → other ≡ input → free ≡ before → way ≡ under
     → given input free way ≡ given other before under
@@ -599,9 +653,10 @@ pub hart_call : {S N : Type 0} (K : SchemeOf S) (device : N → Device) (o : Ori
     → IsStep (given input free way) (moment_of K (machine_of p) (device x)) (moment h c (held_by_scheme K b.scheme (device y))) step
     → CalledOnce K device p.store x b y → K.stays p.store.scheme (device x) b.scheme (device y)
     → (brings_line (moment_of K (machine_of p) (device x)) ≡ false → (b ≡ p.store) × (y ≡ x))
-    → (dirty_count p.cache ≡ 0 → ((b ≡ p.store) × (y ≡ x)) ⊎ (b.scheme ≡ p.store.scheme))
+    → (dirty_count p.cache ≡ 0 → ((b ≡ p.store) × (y ≡ x)) ⊎ loads_by device p.store x b y) → (device y).down ≡ false
+    → CallsStore (loads_by device) (stores_by K device) (brings_line (moment_of K (machine_of p) (device x))) (next_block p.hart) p.cache c p.store x b y
     → HartCall K (given o.input (K.free p.store.scheme) (K.under_way p.store.scheme)) (machine_of p) (device x) h c b.scheme (device y) step
-hart_call K device o p b x y h c step input free way i f w s once stays untouched loads =
+hart_call K device o p b x y h c step input free way i f w s once stays untouched loads up called =
     let same = given_is input o.input free (K.free p.store.scheme) way (K.under_way p.store.scheme) i f w in
     let is_step = subst (λ g. IsStep g (moment_of K (machine_of p) (device x)) (moment h c (held_by_scheme K b.scheme (device y))) step) same s in
     record {
@@ -610,7 +665,8 @@ hart_call K device o p b x y h c step input free way i f w s once stays untouche
       stays = stays;
       untouched = λ none. let kept = untouched none in (ap (λ s. s.scheme) kept.0, ap device kept.1);
       tidy = is_step.tidy;
-      rests = λ clean. rests_by K p.store b x y (loads clean);
+      rests = λ clean. rests_by K device p.store b x y (loads clean);
+      below = below_is K device p b x y c (given input free way) h step up s untouched called;
     }
 
 -- ---- the record of a turn

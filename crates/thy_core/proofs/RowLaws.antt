@@ -10,8 +10,8 @@ use Rattle.thy_cache.specs.Contents.{Contents}
 use Rattle.thy_hart.specs.declared.hand.Hand.TheVariants.{Nothing}
 use Rattle.thy_hart.specs.declared.hand.HartStep.{HartStep}
 use Rattle.thy_hart.specs.declared.hand.HartStep.TheVariants.{Moved}
-use Rattle.thy_hart.specs.HartState.{HartState}
-use Rattle.thy_hart.specs.Moments.{moment}
+use Rattle.thy_hart.specs.HartState.{HartState, next_block}
+use Rattle.thy_hart.specs.Moments.{moment, brings_line}
 use Rattle.thy_hart.specs.OneStep.{IsStep}
 use Rattle.thy_hart.specs.Outcomes.{Given, given}
 use Rattle.thy_hart.specs.Rows.{moved_then, Takes}
@@ -26,7 +26,7 @@ use Rattle.thy_view.specs.NextActor.{Advances, begins}
 use Rattle.thy_scheme.specs.Laws.{IsLawful}
 use Rattle.thy_scheme.specs.Scheme.{SchemeOf}
 use Rattle.thy_scheme.specs.SchemeStore.{held_by_scheme}
-use Rattle.thy_scheme.specs.MachineCalls.{HartCall, retires_by, begun_by_hart, after_hart}
+use Rattle.thy_scheme.specs.MachineCalls.{IsBelow, HartCall, below_by, below_after, retires_by, begun_by_hart, after_hart}
 use Rattle.thy_scheme.specs.Kind.{kind_over}
 use Rattle.thy_scheme.specs.Machine.{Machine, moment_of}
 use Rattle.thy_scheme.proofs.BegunLaws.{ended-hand, cpu-fronted-twice}
@@ -104,10 +104,17 @@ module _ {S : Type 0} (K : SchemeOf S) (l : IsLawful K) (start : Start) (n : Dev
   abbrev found : Machine S → Machine S
   found m = begun_by_hart number m
 
+  -- a step that brings no line leaves another cache below the hart, and nothing else
+  one_below : (m : Machine S) (h : HartState) (c : Contents) (s : HartStep) → brings_line (moment_of K (found m) n) ≡ false
+      → IsStep (hands m) (moment_of K (found m) n) (moment h c (held m)) s → IsBelow (below_after K (found m) n) n c m.scheme n
+  one_below m h c s there step =
+      subst (λ (brings : Bool). IsBelow (below_by K brings (next_block (found m).hart) (found m) n) n c m.scheme n) (sym there)
+      (record { cache_is = step.used there; scheme_is = refl; nvm_is = refl })
+
   one_call : (m : Machine S) (h : HartState) (c : Contents) (s : HartStep) (other : List ℕ) → is_calm K m ≡ true → other ≡ input
-      → IsStep (hands m) (moment_of K (found m) n) (moment h c (held m)) s
+      → brings_line (moment_of K (found m) n) ≡ false → IsStep (hands m) (moment_of K (found m) n) (moment h c (held m)) s
       → HartCall K (given other (K.free m.scheme) (K.under_way m.scheme)) (found m) n h c m.scheme n s
-  one_call m h c s other calm i step =
+  one_call m h c s other calm i there step =
       let same = given_is input other (K.free m.scheme) (K.free m.scheme) false (K.under_way m.scheme) i refl (sym (calm_parts K m calm).idle) in
       let is_step = subst (λ (g : Given). IsStep g (moment_of K (found m) n) (moment h c (held m)) s) same step in
       record {
@@ -117,18 +124,19 @@ module _ {S : Type 0} (K : SchemeOf S) (l : IsLawful K) (start : Start) (n : Dev
         untouched = λ none. (refl, refl);
         tidy = is_step.tidy;
         rests = λ clean. refl;
+        below = one_below m h c s there step;
       }
 
   one_cycle : (pick : Pick) (m : Machine S) (h : HartState) (c : Contents) (s : HartStep) → is_calm K m ≡ true → hart_of K pick m ≡ number
-      → IsStep (hands m) (moment_of K (found m) n) (moment h c (held m)) s
+      → brings_line (moment_of K (found m) n) ≡ false → IsStep (hands m) (moment_of K (found m) n) (moment h c (held m)) s
       → Simulates (kind_over K) start pick m (after_hart number s h c m.scheme m) n n (Ok (stepped_of (advance_by number s)))
-  one_cycle pick m h c s calm mine step =
+  one_cycle pick m h c s calm mine there step =
       let a : Advance = advance_by number s in
       let next : Machine S = after_hart number s h c m.scheme m in
       let done : Result Did NvmError = Ok (did_of a) in
       let taken : HasTaken K (HasStart start) (Advances number) m n next n done = record {
         simulates = λ o cycles starts at turn.
-            hart_cycle K o cycles m n at number h c m.scheme n s next (did_of a) turn (one_call m h c s o.input calm (from o starts) step) refl (did_by_hart number (retires_by s));
+            hart_cycle K o cycles m n at number h c m.scheme n s next (did_of a) turn (one_call m h c s o.input calm (from o starts) there step) refl (did_by_hart number (retires_by s));
         fails = λ o cycles starts at turn. tt;
         frame = framed_same n;
         cause = refl;
@@ -176,7 +184,7 @@ module _ {S : Type 0} (K : SchemeOf S) (l : IsLawful K) (start : Start) (n : Dev
       ∙ ap (λ (x : ℕ). counted None (found m).hart m.cache (found m) x m.lap) e ∙ here refl refl
   row_from zero (Some s) pick m next h c calm mine here (k, d, there, step, (same, used)) is = (
     after_hart number s k d m.scheme m,
-    one_cycle pick m k d s calm mine step,
+    one_cycle pick m k d s calm mine there step,
     λ later.
         let e : m.spent + zero ≡ m.spent = omega arith in
         is ∙ ap (λ (x : ℕ). after_hart number s h c m.scheme (record m { spent = x })) e
@@ -188,7 +196,7 @@ module _ {S : Type 0} (K : SchemeOf S) (l : IsLawful K) (start : Start) (n : Dev
       let e : m.spent + suc moved ≡ (m.spent + 1) + moved = omega arith in
       let f : m.lap ≡ m.lap + 0 = omega arith in (
         between,
-        one_cycle pick m k d Moved calm mine step,
+        one_cycle pick m k d Moved calm mine there step,
         λ later.
             row_from moved None later between next h c (calm_moved m k d calm step) (mine_moved pick later m k d mine step.fixed) (λ first none. refl) others
             (is ∙ ap (λ (x : ℕ). counted None h c (found m) x m.lap) e ∙ ap (λ (x : ℕ). counted None h c (found m) ((m.spent + 1) + moved) x) f),
@@ -198,7 +206,7 @@ module _ {S : Type 0} (K : SchemeOf S) (l : IsLawful K) (start : Start) (n : Dev
       let e : m.spent + suc moved ≡ (m.spent + 1) + moved = omega arith in
       let f : m.lap ≡ m.lap + 0 = omega arith in (
         between,
-        one_cycle pick m k d Moved calm mine step,
+        one_cycle pick m k d Moved calm mine there step,
         λ later.
             row_from moved (Some s) later between next h c (calm_moved m k d calm step) (mine_moved pick later m k d mine step.fixed) (λ first none. refl) others
             (is ∙ ap (λ (x : ℕ). counted (Some s) h c (found m) x m.lap) e ∙ ap (λ (x : ℕ). counted (Some s) h c (found m) ((m.spent + 1) + moved) x) f),

@@ -5,7 +5,6 @@ ghost use Rattle.thy_view.specs.declared.did.Stall.TheVariants.{Booting};
 ghost use Rattle.thy_view.specs.Booting.{boot_did};
 ghost use Rattle.thy_view.specs.Origin.{Origin, Begins};
 ghost use Rattle.thy_view.specs.NextActor.{Stalled};
-ghost use Rattle.thy_scheme.specs.Restart.{WritesNothing};
 ghost use Rattle.thy_scheme.specs.MachineCalls.{running_from, after_boot};
 ghost use Rattle.thy_core.specs.Cycles.{HasStart, CanTake, HasTaken};
 ghost use Rattle.thy_core.specs.MachineParts.{machine_of, IsRestartBelow};
@@ -26,10 +25,8 @@ pub(crate) fn boot<N: Nvm, S: Scheme>(
     nvm: &mut N,
 ) -> Result<Did, NvmError>
     requires { CanTake S.scheme (HasStart start.now) (Stalled Booting) (machine_of m.old) (N.device nvm.old) }
-    ensures taken { HasTaken S.scheme (HasStart start.now) (Stalled Booting)
+    ensures { HasTaken S.scheme (HasStart start.now) (Stalled Booting)
         (machine_of m.old) (N.device nvm.old) (machine_of m.new) (N.device nvm.new) result }
-    ensures no_writes { let scheme = m.old.store.scheme in
-        WritesNothing S.scheme scheme (N.device nvm.old) (N.writes nvm.old) (N.writes nvm.new) }
 {
     let step = m.store.scheme.boot_step(start, nvm)?;
     Ok(boot_on(m, start, step))

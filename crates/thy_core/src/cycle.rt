@@ -1,10 +1,8 @@
 //! One cycle, at the turn of an actor.
 ghost use Rattle.std.specs.Prelude.{◌≡◌, ◌&&◌, not, false, Ok};
 ghost use Rattle.thy_view.specs.declared.did.Stall.TheVariants.{Waiting, Halted};
-ghost use Rattle.thy_view.specs.declared.view.Phase.TheVariants.{Boot};
 ghost use Rattle.thy_view.specs.NextActor.{Nvm, Advances, Stalled, stall_at};
 ghost use Rattle.thy_view.specs.Views.{is_halt};
-ghost use Rattle.thy_scheme.specs.Restart.{WritesNothing};
 ghost use Rattle.thy_core.specs.Calm.{KnowsCalm};
 ghost use Rattle.thy_core.specs.Cycles.{IsAnyRun, HasStart, CanTake, HasTaken, HasReported, did_by, stepped_by, reported, noted};
 ghost use Rattle.thy_core.specs.MachineParts.{machine_of, actor_seen};
@@ -63,8 +61,6 @@ pub(crate) fn take_other<N: Nvm, S: Scheme>(
     requires { CanTake S.scheme (HasStart start.now) (actor_seen actor) (machine_of m.old) (N.device nvm.old) }
     ensures steps { HasReported S.scheme (HasStart start.now) (actor_seen actor)
         (machine_of m.old) (N.device nvm.old) (machine_of m.new) (N.device nvm.new) result }
-    ensures no_writes { let scheme = m.old.store.scheme in m.old.phase ≡ Boot
-        → WritesNothing S.scheme scheme (N.device nvm.old) (N.writes nvm.old) (N.writes nvm.new) }
     ensures unmarked { m.new.store.calm ≡ false }
 {
     let before = m.phase;
@@ -120,10 +116,8 @@ fn cycle<N: Nvm, S: Scheme>(
     nvm: &mut N,
 ) -> Result<Did, NvmError>
     requires { CanTake S.scheme (HasStart start.now) (actor_seen actor) (machine_of m.old) (N.device nvm.old) }
-    ensures taken { HasTaken S.scheme (HasStart start.now) (actor_seen actor)
+    ensures { HasTaken S.scheme (HasStart start.now) (actor_seen actor)
         (machine_of m.old) (N.device nvm.old) (machine_of m.new) (N.device nvm.new) result }
-    ensures no_writes { let scheme = m.old.store.scheme in m.old.phase ≡ Boot
-        → WritesNothing S.scheme scheme (N.device nvm.old) (N.writes nvm.old) (N.writes nvm.new) }
 {
     match actor {
         Actor::Nvm => land(m, nvm),
@@ -141,10 +135,8 @@ fn stalled<N: Nvm, S: Scheme>(
     nvm: &mut N,
 ) -> Result<Did, NvmError>
     requires { CanTake S.scheme (HasStart start.now) (Stalled why) (machine_of m.old) (N.device nvm.old) }
-    ensures taken { HasTaken S.scheme (HasStart start.now) (Stalled why)
+    ensures { HasTaken S.scheme (HasStart start.now) (Stalled why)
         (machine_of m.old) (N.device nvm.old) (machine_of m.new) (N.device nvm.new) result }
-    ensures no_writes { let scheme = m.old.store.scheme in m.old.phase ≡ Boot
-        → WritesNothing S.scheme scheme (N.device nvm.old) (N.writes nvm.old) (N.writes nvm.new) }
 {
     match why {
         Stall::Booting => boot(m, start, nvm),
@@ -157,9 +149,8 @@ fn stalled<N: Nvm, S: Scheme>(
 /// Lets the oldest queued write of the NVM land.
 fn land<N: Nvm, S: Scheme>(m: &MachineParts<S>, nvm: &mut N) -> Result<Did, NvmError>
     requires { CanTake S.scheme IsAnyRun Nvm (machine_of m.now) (N.device nvm.old) }
-    ensures taken { HasTaken S.scheme IsAnyRun Nvm
+    ensures { HasTaken S.scheme IsAnyRun Nvm
         (machine_of m.now) (N.device nvm.old) (machine_of m.now) (N.device nvm.new) result }
-    ensures same_writes { N.writes nvm.new ≡ N.writes nvm.old }
 {
     nvm.drain()?;
     Ok(Did::NvmDrained)

@@ -6,7 +6,6 @@ ghost use Rattle.thy_view.specs.declared.view.View.{View};
 ghost use Rattle.thy_view.specs.Advances.{IfAdvanced, IsOthersCycle, SimulatesRow, row_of};
 ghost use Rattle.thy_view.specs.Kind.{CanStep, CanRead, CanSnapshot, Simulates, FailsSafe, IsDramOf, SnapshotsStopped, ShowsConsole, LeavesAlonePast, ShowsLoading, HasFailedToRead};
 ghost use Rattle.thy_view.specs.Origin.{Origin};
-ghost use Rattle.thy_view.specs.Restart.{RestartsUnwritten};
 ghost use Rattle.thy_isa.specs.Step.{zero_cpu};
 ghost use Rattle.thy_scheme.specs.Kind.{kind_over};
 ghost use Rattle.thy_scheme.specs.Sound.{IsAt, SoundStopped, IsPowered};
@@ -110,8 +109,6 @@ impl<S: Scheme> Machine<S> {
         ensures safe { IfAdvanced result (FailsSafe (kind_over S.scheme) start.now pick self.old self.new (N.device nvm.old) (N.device nvm.new)) }
         ensures frame { IsFramed (N.device nvm.old) (N.device nvm.new) }
         ensures cause { CountsFault result (N.device nvm.old).faults (N.device nvm.new).faults }
-        ensures no_writes { let kind = kind_over S.scheme in
-            RestartsUnwritten kind self.old (N.device nvm.old) (N.writes nvm.old) (N.writes nvm.new) }
         ensures left { result ≡ Ok None → (self.new ≡ self.old) × (nvm.new ≡ nvm.old) }
         ensures others { result ≡ Ok None → IsOthersCycle (kind_over S.scheme) pick self.old (N.device nvm.old) }
         ensures failed { self.new.failed ≡ is_err result }
@@ -148,8 +145,6 @@ impl<S: Scheme> Machine<S> {
         ensures safe { FailsSafe (kind_over S.scheme) start.now pick self.old self.new (N.device nvm.old) (N.device nvm.new) result }
         ensures frame { IsFramed (N.device nvm.old) (N.device nvm.new) }
         ensures cause { CountsFault result (N.device nvm.old).faults (N.device nvm.new).faults }
-        ensures no_writes { let kind = kind_over S.scheme in
-            RestartsUnwritten kind self.old (N.device nvm.old) (N.writes nvm.old) (N.writes nvm.new) }
         ensures failed { self.new.failed ≡ is_err result }
     {
         step_other(&mut self.parts, pick, start, nvm)
@@ -171,8 +166,6 @@ impl<S: Scheme> Machine<S> {
         ensures safe { FailsSafe (kind_over S.scheme) start.now pick self.old self.new (N.device nvm.old) (N.device nvm.new) result }
         ensures frame { IsFramed (N.device nvm.old) (N.device nvm.new) }
         ensures cause { CountsFault result (N.device nvm.old).faults (N.device nvm.new).faults }
-        ensures no_writes { let kind = kind_over S.scheme in
-            RestartsUnwritten kind self.old (N.device nvm.old) (N.writes nvm.old) (N.writes nvm.new) }
         ensures failed { self.new.failed ≡ is_err result }
     {
         match self.advance(pick, start, nvm) {

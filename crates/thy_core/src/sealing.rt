@@ -88,7 +88,7 @@ fn seal<N: Nvm, S: Scheme>(m: &mut MachineParts<S>, nvm: &N) -> Did
     let Some(cause) = m.hart.epoch().over() else {
         unreachable!()
     };
-    m.store.scheme.seal(m.hart.cpu(), epoch);
+    m.store.scheme.seal(&m.hart.cpu(), epoch);
     begin_epoch(m);
     Did::Sealed(epoch, count, cause)
 }

@@ -61,8 +61,8 @@ fn processor<S>(m: &MachineParts<S>) -> CpuState
     ensures { result ≡ processor_of (machine_of m.now) }
 {
     match m.begun {
-        None => *m.hart.cpu(),
-        Some(hart) => fronted(hart, m.hart.cpu()),
+        None => m.hart.cpu(),
+        Some(hart) => fronted(hart, &m.hart.cpu()),
     }
 }
 
@@ -113,7 +113,7 @@ pub(crate) fn snapshot<N: Nvm, S: Scheme>(
         return Ok(bare(alloc, &processor(m)));
     }
     match m.phase {
-        Phase::Boot => Ok(bare(alloc, m.hart.cpu())),
+        Phase::Boot => Ok(bare(alloc, &m.hart.cpu())),
         Phase::Run | Phase::Halt => executing(alloc, m, nvm),
     }
 }

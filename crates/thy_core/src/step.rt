@@ -3,7 +3,6 @@ ghost use Rattle.std.specs.Prelude.{◌≡◌, ◌≤◌, Ok, None, is_err};
 ghost use Rattle.thy_block.specs.Device.{IsFramed, CountsFault};
 ghost use Rattle.thy_view.specs.Advances.{IfAdvanced, IsOthersCycle, SimulatesRow, row_of};
 ghost use Rattle.thy_view.specs.Kind.{CanStep, Simulates, FailsSafe};
-ghost use Rattle.thy_view.specs.Restart.{RestartsUnwritten};
 ghost use Rattle.thy_scheme.specs.Kind.{kind_over};
 ghost use Rattle.thy_core.specs.Calm.{KnowsCalm};
 ghost use Rattle.thy_core.specs.MachineParts.{machine_of};
@@ -33,8 +32,6 @@ pub(crate) fn step_hart<N: Nvm, S: Scheme>(
         (machine_of m.old) (machine_of m.new) (N.device nvm.old) (N.device nvm.new)) }
     ensures frame { IsFramed (N.device nvm.old) (N.device nvm.new) }
     ensures cause { CountsFault result (N.device nvm.old).faults (N.device nvm.new).faults }
-    ensures no_writes { let kind = kind_over S.scheme in
-        RestartsUnwritten kind (machine_of m.old) (N.device nvm.old) (N.writes nvm.old) (N.writes nvm.new) }
     ensures left { result ≡ Ok None → (m.new ≡ m.old) × (nvm.new ≡ nvm.old) }
     ensures others { result ≡ Ok None → IsOthersCycle (kind_over S.scheme) pick (machine_of m.old) (N.device nvm.old) }
     ensures failed { m.new.failed ≡ is_err result }
@@ -90,8 +87,6 @@ pub(crate) fn step_other<N: Nvm, S: Scheme>(
         (machine_of m.old) (machine_of m.new) (N.device nvm.old) (N.device nvm.new) result }
     ensures frame { IsFramed (N.device nvm.old) (N.device nvm.new) }
     ensures cause { CountsFault result (N.device nvm.old).faults (N.device nvm.new).faults }
-    ensures no_writes { let kind = kind_over S.scheme in
-        RestartsUnwritten kind (machine_of m.old) (N.device nvm.old) (N.writes nvm.old) (N.writes nvm.new) }
     ensures failed { m.new.failed ≡ is_err result }
     ensures known { KnowsCalm S.scheme m.new }
 {

@@ -1,11 +1,11 @@
 //! Whose turn a cycle is.
-ghost use Rattle.std.specs.Prelude.{◌≡◌, ◌&&◌, ◌==◌, false, is_some, length};
+ghost use Rattle.std.specs.Prelude.{◌≡◌, ◌&&◌, ◌==◌, true, false, is_some, length, IfSome, IfNone};
 ghost use Rattle.thy_core.specs.Calm.{is_calm, KnowsCalm};
 ghost use Rattle.thy_scheme.specs.Machine.{shortage_of};
-ghost use Rattle.thy_core.specs.MachineParts.{machine_of, next_actor_seen};
+ghost use Rattle.thy_core.specs.MachineParts.{machine_of, actor_seen, next_actor_seen};
 ghost use Rattle.thy_core.specs.Turns.{lacks, stopped_now, waits_now, stall_now, hart_of, hart_now, engine_now, actor_now};
 ghost use Rattle.thy_block.specs.declared.mix.Pick.TheVariants.{Engine as EnginePick};
-ghost use Rattle.thy_view.specs.NextActor.{rested, begins};
+ghost use Rattle.thy_view.specs.NextActor.{Checkpoint, rested, begins};
 
 use crate::parts::MachineParts;
 use thy_block::{Nvm, Pick};
@@ -185,39 +185,42 @@ pub(crate) fn only_harts<N: Nvm, S>(m: &MachineParts<S>, nvm: &N) -> bool
     m.store.calm && nvm.queued() == 0
 }
 
-/// Whose turn a pick is, by what each actor has to do, with `nvm` writes queued in the NVM.
+/// Whether the engine has an action to take at its pick: a checkpoint is under way.
+fn engine_works<S: Scheme>(m: &MachineParts<S>) -> bool
+    ensures yes { result ≡ true → Checkpoint ≡ engine_now S.scheme EnginePick m.now.phase (machine_of m.now) }
+    ensures no { let now = machine_of m.now in
+        result ≡ false → hart_now S.scheme EnginePick now ≡ engine_now S.scheme EnginePick m.now.phase now }
+{
+    match m.phase {
+        Phase::Run => m.store.scheme.under_way(),
+        Phase::Boot | Phase::Halt => false,
+    }
+}
+
+/// The actor beside the harts that a pick names, if it has something to do, with `nvm` writes queued in the NVM.
+#[inline(always)]
+fn busy<S: Scheme>(m: &MachineParts<S>, pick: Pick, nvm: u64) -> Option<Actor>
+    ensures some { IfSome result (λ actor. actor_seen actor ≡ actor_now S.scheme pick nvm (machine_of m.now)) }
+    ensures none { let now = machine_of m.now in
+        IfNone result (hart_now S.scheme pick now ≡ actor_now S.scheme pick nvm now) }
+{
+    let (actor, works) = match pick {
+        Pick::Hart | Pick::Second => return None,
+        Pick::Engine => (Actor::Engine, engine_works(m)),
+        Pick::NvmDrain => (Actor::Nvm, nvm > 0),
+        Pick::DramDrain => (Actor::Dram, m.store.scheme.queued() > 0),
+    };
+    if works { Some(actor) } else { None }
+}
+
+/// Whose turn a pick is, by what each actor has to do, with `nvm` writes queued in the NVM. Whether a hart is stalled is asked
+/// only if the pick comes to one.
 #[inline(always)]
 pub(crate) fn actor_of<S: Scheme>(m: &MachineParts<S>, pick: Pick, nvm: u64) -> NextActor
     ensures { next_actor_seen result ≡ actor_now S.scheme pick nvm (machine_of m.now) }
 {
-    let hart = hart_actor(m, pick);
-    match pick {
-        Pick::Hart | Pick::Second => hart,
-        Pick::Engine => engine_actor(m, hart),
-        Pick::NvmDrain => if nvm == 0 {
-            hart
-        } else {
-            NextActor::Other(Actor::Nvm)
-        },
-        Pick::DramDrain => if m.store.scheme.queued() == 0 {
-            hart
-        } else {
-            NextActor::Other(Actor::Dram)
-        },
-    }
-}
-
-/// The engine's turn, if a checkpoint is under way, or else a hart's.
-fn engine_actor<S: Scheme>(m: &MachineParts<S>, hart: NextActor) -> NextActor
-    requires { next_actor_seen hart ≡ hart_now S.scheme EnginePick (machine_of m.now) }
-    ensures { next_actor_seen result ≡ engine_now S.scheme EnginePick m.now.phase (machine_of m.now) }
-{
-    match m.phase {
-        Phase::Run => if m.store.scheme.under_way() {
-            NextActor::Other(Actor::Engine)
-        } else {
-            hart
-        },
-        Phase::Boot | Phase::Halt => hart,
+    match busy(m, pick, nvm) {
+        Some(actor) => NextActor::Other(actor),
+        None => hart_actor(m, pick),
     }
 }

@@ -9,6 +9,7 @@ use Rattle.thy_journal_parts.proofs.DrainLemmas.{works_drained, IsSoundState-dra
 use Rattle.thy_journal_parts.specs.Filling.{filling_journal, slot_named}
 use Rattle.thy_journal_parts.proofs.FillLemmas.{next_above, next_found, filled_all, listed_put, filled_put, works_are_memory}
 use Rattle.thy_journal_parts.proofs.FirstLemmas.{start_fits, start_cpu, fresh_loads}
+use Rattle.thy_journal_parts.proofs.OnceLemmas.{slot_listed_once}
 
 pub log_is_filled : IsFilling filling_journal
 log_is_filled = record {
@@ -32,6 +33,7 @@ log_is_filled = record {
   ends = λ s n commit slot from lists filled none settled long is slot_is.
       let whole = filled_all s n slot lists from filled none in (whole, works_are_memory s n slot lists settled slot_is whole);
   renews = λ p commit slot older. absurd (never_older scheme_number p commit (omega arith) older.version);
+  lists_once = slot_listed_once;
   drain_p = λ s. refl;
   drain_fresh = λ s fresh. record { state = IsSoundState-drained s fresh.state; free = fresh.free };
   drain_lists = λ s commit slot lists. record { state = IsSoundState-drained s lists.state; table = lists.table };

@@ -5,6 +5,7 @@ pub mod FillLemmas
 pub mod FirstLemmas
 pub mod LawLemmas
 pub mod ListLemmas
+pub mod OnceLemmas
 pub mod ZeroLemmas
 pub mod WorkLemmas
 pub mod PhaseLemmas

@@ -106,7 +106,6 @@ impl Log {
         ensures side { OnErr result (entry_for self.now b ≡ None) }
         ensures frame { IsFramed (N.device nvm.old) (N.device nvm.new) }
         ensures cause { CountsFault result (N.device nvm.old).faults (N.device nvm.new).faults }
-        ensures same_writes { N.writes nvm.new ≡ N.writes nvm.old }
     {
         self.recall_sound();
         match self.table.find(b) {
@@ -125,7 +124,6 @@ impl Log {
         ensures err { OnErr result (HasFailed (N.device nvm.old) (N.device nvm.new)) }
         ensures frame { IsFramed (N.device nvm.old) (N.device nvm.new) }
         ensures cause { CountsFault result (N.device nvm.old).faults (N.device nvm.new).faults }
-        ensures same_writes { N.writes nvm.new ≡ N.writes nvm.old }
     {
         let at = home_number(&self.geometry, b);
         nvm.read(at)
@@ -220,7 +218,6 @@ impl Log {
         ensures err { OnErr result (HasFailed (N.device nvm.old) (N.device nvm.new)) }
         ensures frame { IsFramed (N.device nvm.old) (N.device nvm.new) }
         ensures cause { CountsFault result (N.device nvm.old).faults (N.device nvm.new).faults }
-        ensures same_writes { N.writes nvm.new ≡ N.writes nvm.old }
     {
         let at = journal_number(&self.geometry, s, i);
         let block = nvm.read(at)?;

@@ -3,7 +3,7 @@ use Rattle.std.proofs.Common.{◌≡◌, ◌≢◌, ℕ, ◌+◌, ◌<◌, List,
 use Rattle.std.proofs.lemmas.Bool.{cases_eq}
 use Rattle.thy_block.specs.declared.block.Block.{Block}
 use Rattle.thy_block.specs.declared.nvm.Write.{Write}
-use Rattle.thy_block.specs.Device.{Device, Crash, block_at, queued_for, applied, newest, drained, settled, written_to}
+use Rattle.thy_block.specs.Device.{Device, Crash, block_at, queued_for, applied, newest, drained, settled, written_to, Settles}
 use Rattle.thy_block.proofs.DeviceLemmas.{CrashAt-possible, CrashAt-landed, block_at-applied, Contains-newest_over, newest-drained, newest-settled, newest-written_to, newest-written_to_other, length-drained, length-settled, length-written_to}
 use Rattle.thy_layout.specs.Fixed.{IsFixed, Reads, ReadsFirst}
 
@@ -18,9 +18,9 @@ IsFixed-empty n x empty = record {
 }
 
 -- a barrier makes what is read fixed
-pub IsFixed-settled : (n : Device) (x : ℕ) (b : Block) → Reads n x b → IsFixed (settled n) x b
-IsFixed-settled n x b r = record {
-  only = λ c h. CrashAt-landed (settled n) x c refl h ∙ block_at-applied n.image n.queue x r.inside ∙ r.newest_is;
+pub IsFixed-settled : (count : ℕ) (n : Device) (x : ℕ) (b : Block) → Reads n x b → IsFixed (settled count n) x b
+IsFixed-settled count n x b r = record {
+  only = λ c h. CrashAt-landed (settled count n) x c refl h ∙ block_at-applied n.image n.queue x r.inside ∙ r.newest_is;
 }
 
 -- what is fixed is read
@@ -49,10 +49,10 @@ Reads-drained x b old new r e = subst (λ (n : Device). Reads n x b) (sym e) (re
   newest_is = newest-drained old x r.inside ∙ r.newest_is;
 })
 
-pub Reads-settled : (x : ℕ) (b : Block) (old new : Device) → Reads old x b → new ≡ settled old → Reads new x b
+pub Reads-settled : (x : ℕ) (b : Block) (old new : Device) → Reads old x b → Settles old new → Reads new x b
 Reads-settled x b old new r e = subst (λ (n : Device). Reads n x b) (sym e) (record {
-  inside = omega (arith, length-settled old, r.inside);
-  newest_is = newest-settled old x r.inside ∙ r.newest_is;
+  inside = omega (arith, length-settled new.writes old, r.inside);
+  newest_is = newest-settled new.writes old x r.inside ∙ r.newest_is;
 })
 
 -- ---- blocks in a row

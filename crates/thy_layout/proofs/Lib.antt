@@ -21,3 +21,4 @@ pub mod LookedLemmas
 pub mod FixedLemmas
 pub mod SavedLemmas
 pub mod SparesLemmas
+pub mod CountLemmas

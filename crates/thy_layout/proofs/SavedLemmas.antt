@@ -4,7 +4,7 @@ use Rattle.std.proofs.lemmas.Bool.{cases_eq}
 use Rattle.std.proofs.lemmas.List.{length-set, get_or-set_same, get_or-set_other}
 use Rattle.std.proofs.lemmas.List.Elements.{Contains-push, Contains-append_left, Contains-append_right}
 use Rattle.thy_block.specs.declared.block.Block.{Block}
-use Rattle.thy_block.specs.Device.{Device, Crash, IsOneWordApart, HoldsNoMore, HasFailedToWrite, IsCut, IsFramed, zero_block, block_at, possible, applied, newest, settled, with_queued, written_to}
+use Rattle.thy_block.specs.Device.{Device, Crash, IsOneWordApart, HoldsNoMore, HasFailedToWrite, IsCut, IsFramed, zero_block, block_at, possible, applied, newest, with_queued, written_to, Settles}
 use Rattle.thy_block.proofs.DeviceLemmas.{block_at-applied, length-applied, CrashAt-possible, CrashAt-elsewhere, possible-with_queued, no_more-written_to, length-settled, length-written_to}
 use Rattle.thy_block.proofs.MadeLemmas.{IsMadeOf-either}
 use Rattle.thy_layout.specs.Fixed.{IsFixed, IsEither, Reads}
@@ -119,12 +119,12 @@ IsIssued-next_image looked commit n all_inside = record {
 }
 
 pub IsReady-settled : (looked : Looking) (before next : List Block) (old new : Device)
-    → IsKept looked old before → IsIssued looked old next → new ≡ settled old → IsReady looked new before next
+    → IsKept looked old before → IsIssued looked old next → Settles old new → IsReady looked new before next
 IsReady-settled looked before next old new k issued e = record {
   kept = IsSaved-spared looked (Kept before) old new k (Spares-settled (guarded looked (Kept before)) old new e);
   next_stands = subst (λ (n : Device). Stands looked n next) (sym e) (record {
-    as_long = length-settled old ∙ issued.as_long;
-    each = λ x inside other. IsFixed-settled old x (block_at next x) (issued.each x inside other);
+    as_long = length-settled new.writes old ∙ issued.as_long;
+    each = λ x inside other. IsFixed-settled new.writes old x (block_at next x) (issued.each x inside other);
   });
 }
 
@@ -174,12 +174,12 @@ IsInDoubt-failed looked before next old new apart r failed framed =
 
 -- a barrier keeps an image that stands and whose commit block is read, whatever was there before
 pub IsKept-stood : (looked : Looking) (next : List Block) (old new : Device)
-    → Stands looked old next → Reads old 1 (block_at next 1) → new ≡ settled old → IsKept looked new next
+    → Stands looked old next → Reads old 1 (block_at next 1) → Settles old new → IsKept looked new next
 IsKept-stood looked next old new s r e = record {
   stands = Stands-spared looked (looked next) old new next (Spares-settled (looked next) old new e) (λ x inside. inside) s;
-  commit = subst (λ (n : Device). IsFixed n 1 (block_at next 1)) (sym e) (IsFixed-settled old 1 (block_at next 1) r);
+  commit = subst (λ (n : Device). IsFixed n 1 (block_at next 1)) (sym e) (IsFixed-settled new.writes old 1 (block_at next 1) r);
 }
 
 pub IsKept-settled : (looked : Looking) (before next : List Block) (old new : Device)
-    → IsInDoubt looked old before next → Reads old 1 (block_at next 1) → new ≡ settled old → IsKept looked new next
+    → IsInDoubt looked old before next → Reads old 1 (block_at next 1) → Settles old new → IsKept looked new next
 IsKept-settled looked before next old new d r e = IsKept-stood looked next old new d.next_stands r e

@@ -1,7 +1,7 @@
 -- What spares places.
 use Rattle.std.proofs.Common.{◌≡◌, ℕ, List, Contains, refl, sym, ◌∙◌, subst, length}
 use Rattle.thy_block.specs.declared.block.Block.{Block}
-use Rattle.thy_block.specs.Device.{Device, HoldsNoMore, HasFailed, HasFailedToWrite, IsFramed, drained, settled, with_queued, written_to}
+use Rattle.thy_block.specs.Device.{Device, HoldsNoMore, HasFailed, HasFailedToSettle, HasFailedToWrite, IsFramed, drained, settled, with_queued, written_to, Settles}
 use Rattle.thy_block.proofs.DeviceLemmas.{no_more-drained, no_more-settled, no_more-written_to, CrashAt-elsewhere, length-drained, length-settled, length-written_to}
 use Rattle.thy_layout.specs.Spares.{Spares}
 
@@ -29,9 +29,10 @@ pub Spares-drained : (places : List ℕ) (old new : Device) → new ≡ drained 
 Spares-drained places old new e =
     subst (λ (n : Device). Spares places old n) (sym e) (Spares-no_more places old (drained old) (no_more-drained old) (length-drained old))
 
-pub Spares-settled : (places : List ℕ) (old new : Device) → new ≡ settled old → Spares places old new
+pub Spares-settled : (places : List ℕ) (old new : Device) → Settles old new → Spares places old new
 Spares-settled places old new e =
-    subst (λ (n : Device). Spares places old n) (sym e) (Spares-no_more places old (settled old) (no_more-settled old) (length-settled old))
+    subst (λ (n : Device). Spares places old n) (sym e)
+    (Spares-no_more places old (settled new.writes old) (no_more-settled new.writes old) (length-settled new.writes old))
 
 -- what makes no more possible than one queued write spares every place but that write's
 pub Spares-queued : (places : List ℕ) (at : ℕ) (block : Block) (old new : Device)
@@ -49,6 +50,9 @@ Spares-written places at block old new other e =
 
 pub Spares-failed : (places : List ℕ) (old new : Device) → HasFailed old new → IsFramed old new → Spares places old new
 Spares-failed places old new failed framed = Spares-no_more places old new failed.no_more framed.blocks
+
+pub Spares-unsettled : (places : List ℕ) (old new : Device) → HasFailedToSettle old new → IsFramed old new → Spares places old new
+Spares-unsettled places old new failed framed = Spares-no_more places old new failed.no_more framed.blocks
 
 pub Spares-failed_to_write : (places : List ℕ) (at : ℕ) (block : Block) (old new : Device)
     → ¬ Contains places at → HasFailedToWrite at block old new → IsFramed old new → Spares places old new

@@ -1,7 +1,9 @@
 -- What power cuts leave, for every layout of checkpoints.
-use Rattle.std.specs.Prelude.{◌≡◌, ◌≢◌, ◌⊎◌, ℕ, ◌+◌, ◌<◌, true, List, [], Contains, length}
+use Rattle.std.specs.Prelude.{◌≡◌, ◌≢◌, ◌⊎◌, ℕ, ◌+◌, ◌<◌, ◌≤◌, true, List, [], Contains, length}
 use Rattle.thy_block.specs.declared.block.Block.{Block}
-use Rattle.thy_block.specs.Device.{Device, CrashAt, Crash, IsOneWordApart, possible, block_at, newest, drained, settled, with_queued, written_to, IsCut, IsFramed, HoldsNoMore, HasFailed, HasFailedToWrite}
+use Rattle.thy_block.specs.declared.nvm.Shape.{Shape}
+use Rattle.thy_block.specs.Counts.{next}
+use Rattle.thy_block.specs.Device.{Device, Unsaid, CrashAt, Crash, IsOneWordApart, possible, block_at, newest, drained, with_queued, written_to, fitted, IsCut, IsSettled, Settles, IsFramed, HoldsNoMore, HasFailed, HasFailedToSettle, HasFailedToWrite}
 use Rattle.thy_block.specs.Places.{commit_place}
 use Rattle.thy_layout.specs.Fixed.{IsFixed, Reads, ReadsFirst}
 use Rattle.thy_layout.specs.Saved.{Looking, IsIssued, next_image, Saved, Kept, Ready, InDoubt, IsSaved, guarded, IsCrashOfSaved}
@@ -39,6 +41,27 @@ abbrev pub OneWordIsEither : Type 0
 OneWordIsEither =
     (n : Device) (x : ℕ) (a c b : Block) → IsOneWordApart a c
     → ((d : Block) → Contains (possible n x) d → (d ≡ a) ⊎ (d ≡ c)) → CrashAt n x b → (b ≡ a) ⊎ (b ≡ c)
+
+-- ---- devices that say nothing of their barriers' writes
+
+-- a device with this count of writes, which says no more of it
+abbrev pub counted_as : ℕ → Device → Device
+counted_as count n = record n { writes = count; wear = Unsaid }
+
+-- Counts that are 0 after a fit, one more after a write, no less after a barrier, and else stay: with them a device obeys all laws,
+-- whatever it says of its wear.
+pub record CountsAreEnough (n m : Device) (count later : ℕ) : Type 0 where
+  pub fit : (shape : Shape) (start : List Block) → m ≡ fitted shape start n → counted_as 0 m ≡ fitted shape start (counted_as count n)
+  pub write : (at : ℕ) (block : Block) → m ≡ written_to n at block → counted_as (next count) m ≡ written_to (counted_as count n) at block
+  pub drain : m ≡ drained n → counted_as count m ≡ drained (counted_as count n)
+  pub barrier : Settles n m → count ≤ later → IsSettled (counted_as count n) (counted_as later m)
+  pub cut : (pick : ℕ) → IsCut pick n m → IsCut pick (counted_as count n) (counted_as count m)
+  pub failed : HasFailed n m → HasFailed (counted_as count n) (counted_as count m)
+  pub failed_write : (at : ℕ) (block : Block) → HasFailedToWrite at block n m → HasFailedToWrite at block (counted_as count n) (counted_as count m)
+  pub failed_barrier : HasFailedToSettle n m → count ≤ later → HasFailedToSettle (counted_as count n) (counted_as later m)
+
+abbrev pub DevicesMaySayNothing : Type 0
+DevicesMaySayNothing = (n m : Device) (count later : ℕ) → CountsAreEnough n m count later
 
 -- ---- what a cut leaves
 
@@ -83,7 +106,7 @@ abbrev pub DrainSpares : Type 0
 DrainSpares = (places : List ℕ) (old new : Device) → new ≡ drained old → Spares places old new
 
 abbrev pub BarrierSpares : Type 0
-BarrierSpares = (places : List ℕ) (old new : Device) → new ≡ settled old → Spares places old new
+BarrierSpares = (places : List ℕ) (old new : Device) → Settles old new → Spares places old new
 
 -- a write spares all places but its own
 abbrev pub WriteSpares : Type 0
@@ -95,6 +118,11 @@ WriteSpares =
 abbrev pub FailureSpares : Type 0
 FailureSpares =
     (places : List ℕ) (old new : Device) → HasFailed old new → IsFramed old new → Spares places old new
+
+-- a barrier that failed spares every place
+abbrev pub FailedBarrierSpares : Type 0
+FailedBarrierSpares =
+    (places : List ℕ) (old new : Device) → HasFailedToSettle old new → IsFramed old new → Spares places old new
 
 -- a write that failed spares all places but its own
 abbrev pub FailedWriteSpares : Type 0
@@ -108,7 +136,7 @@ FailedWriteSpares =
 abbrev pub BarrierMakesReady : Type 0
 BarrierMakesReady =
     (looked : Looking) (before next : List Block) (old new : Device)
-    → IsSaved looked old (Kept before) → IsIssued looked old next → new ≡ settled old
+    → IsSaved looked old (Kept before) → IsIssued looked old next → Settles old new
     → IsSaved looked new (Ready before next)
 
 -- the write of the next image's commit block leaves the two in doubt, if it differs in one word at most from the commit
@@ -134,7 +162,7 @@ FailedCommitLeavesDoubt =
 abbrev pub BarrierEndsDoubt : Type 0
 BarrierEndsDoubt =
     (looked : Looking) (before next : List Block) (old new : Device)
-    → IsSaved looked old (InDoubt before next) → Reads old commit_place (block_at next commit_place) → new ≡ settled old
+    → IsSaved looked old (InDoubt before next) → Reads old commit_place (block_at next commit_place) → Settles old new
     → IsSaved looked new (Kept next)
 
 -- ---- what is written meanwhile
@@ -172,7 +200,7 @@ abbrev pub DrainKeepsRead : Type 0
 DrainKeepsRead = (x : ℕ) (b : Block) (old new : Device) → Reads old x b → new ≡ drained old → Reads new x b
 
 abbrev pub BarrierKeepsRead : Type 0
-BarrierKeepsRead = (x : ℕ) (b : Block) (old new : Device) → Reads old x b → new ≡ settled old → Reads new x b
+BarrierKeepsRead = (x : ℕ) (b : Block) (old new : Device) → Reads old x b → Settles old new → Reads new x b
 
 -- a block that every cut leaves at its place is read there
 abbrev pub FixedIsRead : Type 0

@@ -1,5 +1,5 @@
 //! The laws, each the contract of a function that does nothing.
-ghost use Rattle.thy_layout.specs.Laws.{BlocksAreWords, WholeBlocksAreLeft, NoBlockIsNoMore, OneBlockIsQueued, OneWordIsEither, CutLeavesCopy, CutIsKept, EmptyIsKept, SparedStays, SameSpares, BothSpare, PartIsSpared, DrainSpares, BarrierSpares, WriteSpares, FailureSpares, FailedWriteSpares, BarrierMakesReady, CommitLeavesDoubt, FailedCommitLeavesDoubt, BarrierEndsDoubt, NextIsIssued, NextHasReads, NextHasCommit, WriteIsRead, WriteKeepsRead, DrainKeepsRead, BarrierKeepsRead, FixedIsRead, NextWriteIsRead, WriteKeepsFirst, DrainKeepsFirst};
+ghost use Rattle.thy_layout.specs.Laws.{BlocksAreWords, WholeBlocksAreLeft, NoBlockIsNoMore, OneBlockIsQueued, OneWordIsEither, DevicesMaySayNothing, CutLeavesCopy, CutIsKept, EmptyIsKept, SparedStays, SameSpares, BothSpare, PartIsSpared, DrainSpares, BarrierSpares, WriteSpares, FailureSpares, FailedBarrierSpares, FailedWriteSpares, BarrierMakesReady, CommitLeavesDoubt, FailedCommitLeavesDoubt, BarrierEndsDoubt, NextIsIssued, NextHasReads, NextHasCommit, WriteIsRead, WriteKeepsRead, DrainKeepsRead, BarrierKeepsRead, FixedIsRead, NextWriteIsRead, WriteKeepsFirst, DrainKeepsFirst};
 
 /// Each choice of whole blocks is a choice of words. So a device that keeps its laws by whole blocks keeps them by words,
 /// after calls that failed too; and one whose blocks land whole leaves whole blocks alone.
@@ -45,6 +45,7 @@ pub fn calls_spare()
     ensures barrier { BarrierSpares }
     ensures write { WriteSpares }
     ensures failed { FailureSpares }
+    ensures failed_barrier { FailedBarrierSpares }
     ensures failed_write { FailedWriteSpares }
 {}
 
@@ -87,4 +88,10 @@ pub fn blocks_are_written_in_turn()
     ensures next { NextWriteIsRead }
     ensures elsewhere { WriteKeepsFirst }
     ensures drain { DrainKeepsFirst }
+{}
+
+/// A device may say nothing of what its barriers write: if its count is 0 after a fit, one more after a write, no less after a
+/// barrier, and else stays, it obeys all laws of devices.
+pub fn devices_may_say_nothing()
+    ensures { DevicesMaySayNothing }
 {}

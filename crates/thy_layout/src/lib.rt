@@ -35,8 +35,9 @@ pub use commit::{commit_block, commit_fault, epoch_in, is_zero, slot_of_epoch, v
 pub use cpu::cpu_block;
 pub use crash_laws::{
     a_barrier_ends_the_doubt, a_barrier_makes_ready, a_commit_leaves_doubt, a_cut_leaves_a_copy,
-    blocks_are_written_in_turn, calls_spare, one_word_is_not_torn, reads_stay, spared_stays,
-    sparing_adds_up, what_is_left_is_kept, what_is_written_is_issued, whole_blocks_are_words,
+    blocks_are_written_in_turn, calls_spare, devices_may_say_nothing, one_word_is_not_torn,
+    reads_stay, spared_stays, sparing_adds_up, what_is_left_is_kept, what_is_written_is_issued,
+    whole_blocks_are_words,
 };
 pub use engine_step::EngineStep;
 pub use file_blocks::block_in;

@@ -240,6 +240,9 @@ module _ {C : Type 0} (D : DesignOf C) (w : AreParts D) where
     sealed_storeless = refl;
   }
 
+  pub first-dram : (p : Parameters) → D.filling.dram (first_of p).control ≡ no_dram p
+  first-dram p = w.powering.power_dram p (no_dram p)
+
   -- ---- whether it loads
 
   pub loading-is : (o : Origin) (s : Composed C) (n : Device) → Boots D o s n

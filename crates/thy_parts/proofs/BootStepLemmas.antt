@@ -241,7 +241,7 @@ module _ {C : Type 0} (D : DesignOf C) (w : AreParts D) where
     acts = steps_act F w.design.fills o.start n b s.control new d e steps
 
     up : new.down ≡ false
-    up = ap (λ (x : Device). x.down) acts.left ∙ down-after acts.action n ∙ booting.up
+    up = down-after acts.action n new acts.left ∙ booting.up
 
     room : (F.dram e).room ≡ o.geometry.dramq
     room = w.powering.keeps_room s.control e filled.1 ∙ boots.unused.room

@@ -1,6 +1,6 @@
 -- Drains of the DRAM, merges and promotions: they keep the checkpoints, and what is still to be done.
 use Rattle.std.proofs.Common.{◌≡◌, ℕ, ◌+◌, ◌<◌, ◌≤◌, true, false, refl, sym, ap, subst, inr, arith}
-use Rattle.thy_block.specs.Device.{Device, drained}
+use Rattle.thy_block.specs.Device.{Device, drained, Wear, counting}
 use Rattle.thy_dram.specs.Contents.{Contents}
 use Rattle.thy_view.specs.Action.{Rest}
 use Rattle.thy_view.specs.Dram.{WritesDram}
@@ -20,7 +20,7 @@ use Rattle.thy_parts.specs.Moments.{IsMoment, Carries}
 use Rattle.thy_parts.specs.Paging.{WritesOne, IsPaging}
 use Rattle.thy_parts.specs.Scheme.{scheme_of}
 use Rattle.thy_parts.specs.Sound.{IsSound}
-use Rattle.thy_parts.proofs.SameLemmas.{drained_same}
+use Rattle.thy_parts.proofs.SameLemmas.{drained_same, counting_same}
 use Rattle.thy_parts.proofs.HeldLemmas.{keeping_carried, keeps_by}
 use Rattle.thy_parts.proofs.SafeLemmas.{dram_drain_keeps, stays_as, idle_stage}
 use Rattle.thy_parts.proofs.SoundLemmas.{moment_at}
@@ -101,4 +101,13 @@ module _ {C : Type 0} (D : DesignOf C) (w : IsDesign D) (o : Origin) (k : Checkp
       let on = w.same_reads (phase_of s.engine.stage) s.engine.epoch s.control n (drained n) sound.held.moment (drained_same n) in
       keeps_by D w s.engine.epoch s s n (drained n)
       (keeping_carried D s.engine.epoch (phase_of s.engine.stage) (phase_of s.engine.stage) s.control s.control n (drained n) sound.held.moment on)
+      stands.up stands.up (omega arith) refl refl
+
+  -- a scheme keeps what it has over a device with other counts
+  pub counted_keeps : (writes : ℕ) (wear : Wear) → Keeps (scheme_of D) s n s (counting writes wear n)
+  counted_keeps writes wear =
+      let m : Device = counting writes wear n in
+      let on = w.same_reads (phase_of s.engine.stage) s.engine.epoch s.control n m sound.held.moment (counting_same writes wear n) in
+      keeps_by D w s.engine.epoch s s n m
+      (keeping_carried D s.engine.epoch (phase_of s.engine.stage) (phase_of s.engine.stage) s.control s.control n m sound.held.moment on)
       stands.up stands.up (omega arith) refl refl

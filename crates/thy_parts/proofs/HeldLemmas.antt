@@ -11,7 +11,7 @@ use Rattle.thy_checkpoint.specs.Progress.{phase_of}
 use Rattle.thy_parts.specs.Design.{DesignOf, Composed}
 use Rattle.thy_parts.specs.Holding.{is_held, holding_of}
 use Rattle.thy_parts.specs.IsDesign.{IsDesign}
-use Rattle.thy_parts.specs.Moments.{IsMoment, LeavesPages, Carries}
+use Rattle.thy_parts.specs.Moments.{IsMoment, LeavesPages, Carries, ReadsSame}
 use Rattle.thy_parts.specs.Scheme.{scheme_of}
 
 -- ---- blocks
@@ -81,6 +81,21 @@ keeping_carried D epoch p q c d n m old on = record {
   owed = on.owed_later;
   pages = on.pages;
 }
+
+-- what a call keeps, it keeps over a device that gives the same to every read
+pub keeping_same : {C : Type 0} (D : DesignOf C) → IsDesign D → (epoch : ℕ) (p q : Phase) (c d : C) (n m x : Device) → ReadsSame m x
+    → Keeping D epoch p c n q d m → Keeping D epoch p c n q d x
+keeping_same D w epoch p q c d n m x reads on =
+    let over = w.same_reads q epoch d m x on.moment reads in
+    record {
+      old = on.old;
+      moment = over.moment;
+      loads = over.loads ∙ on.loads;
+      free = on.free;
+      opened = on.opened;
+      owed = on.owed;
+      pages = on.pages;
+    }
 
 pub keeps_by : {C : Type 0} (D : DesignOf C) → IsDesign D → (epoch : ℕ) (s t : Composed C) (n m : Device)
     → Keeping D epoch (phase_of s.engine.stage) s.control n (phase_of t.engine.stage) t.control m → n.down ≡ false → m.down ≡ false

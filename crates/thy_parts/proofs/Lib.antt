@@ -10,6 +10,7 @@ pub mod StepLemmas
 pub mod DrainLemmas
 pub mod BootLemmas
 pub mod BootStepLemmas
+pub mod OnceLemmas
 pub mod RunLemmas
 pub mod LawfulLemmas
 pub mod SeenLemmas

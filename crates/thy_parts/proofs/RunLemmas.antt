@@ -2,7 +2,7 @@
 use Rattle.std.proofs.Common.{◌≡◌, ◌⊎◌, ℕ, ◌+◌, ◌<◌, ◌≤◌, ◌||◌, ◌&&◌, not, Bool, true, false, List, [], ◌∷◌, ◌++◌, length, Some, refl, sym, ◌∙◌, ap, subst, inl, inr, arith}
 use Rattle.std.proofs.lemmas.List.Elements.{Contains-append_cases, Contains-append_right}
 use Rattle.thy_block.specs.declared.parameters.Parameters.{Parameters}
-use Rattle.thy_block.specs.Device.{Device, CrashAt, newest, drained}
+use Rattle.thy_block.specs.Device.{Device, CrashAt, newest, drained, counting}
 use Rattle.thy_block.specs.Geometry.{memory_blocks}
 use Rattle.thy_block.proofs.BasicLemmas.{not_some}
 use Rattle.thy_layout.specs.Saved.{guarded}
@@ -38,8 +38,8 @@ use Rattle.thy_parts.specs.Scheme.{scheme_of}
 use Rattle.thy_parts.specs.Sound.{layout_for, IsHeld, HasState, HasCheckpoints, IsSound}
 use Rattle.thy_parts.specs.Stays.{RestsOn, Stays}
 use Rattle.thy_parts.specs.Storing.{SealedStays, SlotStays, SlotStaysAt, StaysAt, StaysOver}
-use Rattle.thy_parts.proofs.SameLemmas.{drained_same}
-use Rattle.thy_parts.proofs.DrainLemmas.{left_less, drained_keeps}
+use Rattle.thy_parts.proofs.SameLemmas.{drained_same, counting_same}
+use Rattle.thy_parts.proofs.DrainLemmas.{left_less, counted_keeps, drained_keeps}
 use Rattle.thy_parts.proofs.HeldLemmas.{held_block, moment_held}
 use Rattle.thy_parts.proofs.SafeLemmas.{makes_over, safe_by, doubt_is, same_reads_keep, sound_is_safe, idle_stage}
 use Rattle.thy_parts.proofs.SlotLemmas.{slot_reads}
@@ -179,6 +179,10 @@ module _ {C : Type 0} (D : DesignOf C) (w : AreParts D) where
           drained_sound = λ some. same_reads_keep D w.design o k s n (drained n) sound (drained_same n);
           drained_keeps = λ some. drained_keeps D w.design o k s n stands;
           drained_owes = λ some. (w.design.same_reads (phase_of s.engine.stage) s.engine.epoch s.control n (drained n) sound.held.moment (drained_same n)).owed;
+          counted_sound = λ writes wear. same_reads_keep D w.design o k s n (counting writes wear n) sound (counting_same writes wear n);
+          counted_keeps = λ writes wear. counted_keeps D w.design o k s n stands writes wear;
+          counted_owes = λ writes wear.
+              (w.design.same_reads (phase_of s.engine.stage) s.engine.epoch s.control n (counting writes wear n) sound.held.moment (counting_same writes wear n)).owed;
         }
 
   -- ---- what loads and stores keep

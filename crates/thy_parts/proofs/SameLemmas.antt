@@ -1,7 +1,8 @@
 -- What a moment leads to while the controller stays the same, and memory as it was; and one moment after the other.
 use Rattle.std.proofs.Common.{◌≡◌, ℕ, ◌+◌, ◌≤◌, Bool, List, length, refl, ◌∙◌, inr, arith, Option, inl}
 use Rattle.thy_block.specs.declared.block.Block.{Block}
-use Rattle.thy_block.specs.Device.{Device, newest, settled, drained}
+use Rattle.thy_block.specs.Device.{Device, Wear, counting, newest, at_rest, drained}
+use Rattle.thy_view.specs.Action.{Action, Rest, ReadAt, WriteAt, Barrier, Drain, after}
 use Rattle.thy_block.proofs.DeviceLemmas.{newest-settled, length-settled, no_more-settled, newest-drained, length-drained, no_more-drained}
 use Rattle.thy_layout.proofs.AskingLemmas.{map-alike}
 use Rattle.thy_view.specs.Issuing.{CheckpointParts, ArePlaced, AreIssued}
@@ -89,8 +90,23 @@ Carries-both D epoch p q r a b c l m n x y = record {
   };
 }
 
-pub settled_same : (n : Device) → ReadsSame n (settled n)
-settled_same n = record { as_long = length-settled n; reads = λ x inside. newest-settled n x inside; no_more = no_more-settled n }
+pub settled_same : (n : Device) → ReadsSame n (at_rest n)
+settled_same n = record {
+  as_long = length-settled n.writes n;
+  reads = λ x inside. newest-settled n.writes n x inside;
+  no_more = no_more-settled n.writes n;
+}
+
+pub counting_same : (writes : ℕ) (wear : Wear) (n : Device) → ReadsSame n (counting writes wear n)
+counting_same writes wear n = record { as_long = refl; reads = λ x inside. refl; no_more = λ x b left. left }
+
+-- what an action leaves reads the same, whatever was counted
+pub after_same : (a : Action) (n : Device) (count other : ℕ) → ReadsSame (after count a n) (after other a n)
+after_same Rest n count other = record { as_long = refl; reads = λ x inside. refl; no_more = λ x b left. left }
+after_same (ReadAt place) n count other = record { as_long = refl; reads = λ x inside. refl; no_more = λ x b left. left }
+after_same (WriteAt place block) n count other = record { as_long = refl; reads = λ x inside. refl; no_more = λ x b left. left }
+after_same Barrier n count other = record { as_long = refl; reads = λ x inside. refl; no_more = λ x b left. left }
+after_same Drain n count other = record { as_long = refl; reads = λ x inside. refl; no_more = λ x b left. left }
 
 pub drained_same : (n : Device) → ReadsSame n (drained n)
 drained_same n = record { as_long = length-drained n; reads = λ x inside. newest-drained n x inside; no_more = no_more-drained n }

@@ -1,5 +1,5 @@
 -- A boot of a run that is not over: whether it loads, what is seen of it, and a step of it.
-use Rattle.std.proofs.Common.{◌≡◌, ◌≢◌, ◌&&◌, true, false, List, length, refl, sym, ◌∙◌, ap, subst, Option, Some, None, ℕ, [], inl, inr, ◌+◌, ◌≤◌, Bool, arith, Result}
+use Rattle.std.proofs.Common.{◌≡◌, ◌≢◌, ◌&&◌, true, false, List, length, refl, sym, ◌∙◌, ap, subst, Option, Some, None, ℕ, [], inl, inr, ◌+◌, ◌≤◌, Bool, arith}
 use Rattle.thy_block.specs.declared.block.Block.{Block}
 use Rattle.thy_block.specs.declared.mark.Mark.{Mark}
 use Rattle.thy_block.specs.Device.{Device, block_at}
@@ -38,17 +38,14 @@ use Rattle.thy_view.specs.Rounds.{saved_in}
 use Rattle.thy_checkpoint.specs.Shows.{migrates_at, seen_at}
 use Rattle.thy_scheme.specs.Boots.{IsBootView}
 use Rattle.thy_block.specs.declared.parameters.Parameters.{Parameters}
-use Rattle.thy_block.specs.declared.nvm.NvmError.{NvmError}
 use Rattle.thy_dram.specs.Contents.{Contents}
 use Rattle.thy_isa.specs.Step.{State}
 use Rattle.thy_view.specs.Dram.{ActsOnDram}
 use Rattle.thy_view.proofs.ActionLemmas.{queue-after}
 use Rattle.thy_checkpoint.specs.Migrating.{renewing}
-use Rattle.thy_checkpoint.specs.Counts.{Counts}
 use Rattle.thy_checkpoint.specs.Left.{boot_left}
 use Rattle.thy_checkpoint.specs.Loads.{first_writes}
-use Rattle.thy_checkpoint.specs.Steps.{StepsAt, action_at}
-use Rattle.thy_checkpoint.proofs.CountLemmas.{read_writes_nothing}
+use Rattle.thy_checkpoint.specs.Steps.{StepsAt}
 use Rattle.thy_checkpoint.proofs.NearerLemmas.{left_most}
 use Rattle.thy_checkpoint.proofs.SafeLemmas.{read_failed}
 
@@ -302,15 +299,6 @@ module _ {C : Type 0} (F : FillingOf C) (laws : IsFilling F) where
   found_fails_unwritten o kept m b c n new (Migrates r) done only f = let both : true ≡ false = only in absurd (cc)
   found_fails_unwritten o kept m b c n new (Over end) done only f = absurd f
 
--- so it is counted as none
-module _ {C : Type 0} (F : FillingOf C) {T : Type 0} (read : Reading) (o : Origin) (n : Device) (m : Mark) (result : Result T NvmError)
-    (old new : ℕ) (s : State) (b : Booting) (c : C) where
-  pub writes_nothing : (q : Stage) → (view_at read o q n).done ≡ Some m → migrates_at q ≡ false → Counts (action_at F q s b c) result old new → new ≡ old
-  writes_nothing (Reads r) done only h = read_writes_nothing F b c result old new r h
-  writes_nothing (Loads r) done only h = absurd (none-done m done)
-  writes_nothing (Migrates r) done only h = let both : true ≡ false = only in absurd (cc)
-  writes_nothing (Over end) done only h = h
-
 -- ---- the queues
 
 -- one write more is queued in the DRAM at most
@@ -329,15 +317,13 @@ module _ {C : Type 0} (F : FillingOf C) (s : State) (n : Device) (b : Booting) (
   queue-on (Loads r) on acts =
       omega (
         arith,
-        queue-after (round_action (first_writes (first_by F b.p s)) r) n,
-        ap (λ (x : Device). length x.queue) on.device,
+        queue-after (round_action (first_writes (first_by F b.p s)) r) n new on.device,
         ap (λ (x : C). (F.dram x).queued) on.control,
       )
   queue-on (Migrates r) on acts =
       omega (
         arith,
-        queue-after (round_action (renewing F b) r) n,
-        ap (λ (x : Device). length x.queue) on.device,
+        queue-after (round_action (renewing F b) r) n new on.device,
         ap (λ (x : C). (F.dram x).queued) on.control,
       )
   queue-on (Over end) on acts = absurd on

@@ -5,7 +5,7 @@ use Rattle.std.proofs.lemmas.List.Elements.{Contains-push, Contains-append_left,
 use Rattle.thy_block.specs.declared.block.Block.{Block}
 use Rattle.thy_block.specs.declared.parameters.Parameters.{Parameters}
 use Rattle.thy_block.specs.declared.mark.Mark.{Mark}
-use Rattle.thy_block.specs.Device.{Device, IsOneWordApart, block_at, newest, settled, written_to, IsFramed}
+use Rattle.thy_block.specs.Device.{Device, IsOneWordApart, block_at, newest, at_rest, written_to, IsFramed}
 use Rattle.thy_block.specs.Geometry.{IsInRange}
 use Rattle.thy_block.specs.Places.{record_blocks}
 use Rattle.thy_block.proofs.DeviceLemmas.{newest-settled, newest-written_to_other}
@@ -24,6 +24,7 @@ use Rattle.thy_layout.specs.Cpu.{IsRecordable}
 use Rattle.thy_layout.specs.Decoded.{At}
 use Rattle.thy_layout.specs.Layout.{Layout, header_bad, looked_by, decode_by}
 use Rattle.thy_view.specs.Action.{after, FailsTo}
+use Rattle.thy_view.proofs.ActionLemmas.{left-as_was}
 use Rattle.thy_view.specs.Origin.{Origin, at}
 use Rattle.thy_view.specs.Safe.{ceiling}
 use Rattle.thy_view.specs.Keeps.{IsOf}
@@ -151,8 +152,8 @@ module _ {C : Type 0} (D : DesignOf C) (w : IsDesign D) (o : Origin) (k : Checkp
   header_written : (x : ℕ) (block : Block) → x ≢ 0 → newest (written_to n x block) 0 ≡ newest n 0
   header_written x block other = newest-written_to_other n x block 0 (λ q. other (sym q)) (let some = some_image in omega (arith, some))
 
-  header_settled : newest (settled n) 0 ≡ newest n 0
-  header_settled = newest-settled n 0 (let some = some_image in omega (arith, some))
+  header_settled : newest (at_rest n) 0 ≡ newest n 0
+  header_settled = newest-settled n.writes n 0 (let some = some_image in omega (arith, some))
 
   header_at : (m : Device) → newest m 0 ≡ newest n 0 → header_bad l (newest m 0) true ≡ None
   header_at m same = ap (λ b. header_bad l b true) same ∙ h.header
@@ -247,7 +248,7 @@ module _ {C : Type 0} (D : DesignOf C) (w : IsDesign D) (o : Origin) (k : Checkp
 
   -- what an item has to reach
   abbrev After : Item → Type 0
-  After i = IsSound D o (marks_after (report I e i) k) (now (next_after F I e i) (control_after I i c)) (after (action_of F I e i c n) n)
+  After i = IsSound D o (marks_after (report I e i) k) (now (next_after F I e i) (control_after I i c)) (after n.writes (action_of F I e i c n) n)
 
   -- ---- the round
 
@@ -306,7 +307,7 @@ module _ {C : Type 0} (D : DesignOf C) (w : IsDesign D) (o : Origin) (k : Checkp
     old = h.checkpoints.made here.way
 
     abbrev m_r : Device
-    m_r = after (round_action (slot_round F I e c) r) n
+    m_r = after n.writes (round_action (slot_round F I e c) r) n
 
     header_e : header_bad (layout_of F e) (newest n 0) true ≡ None
     header_e = subst (λ (p : Parameters). header_bad (layout_at F p) (newest n 0) true ≡ None) (sym p_is) h.header
@@ -356,7 +357,8 @@ module _ {C : Type 0} (D : DesignOf C) (w : IsDesign D) (o : Origin) (k : Checkp
     -- the checkpoints after it, and if it fails
     keeping_then : IsKeeping o l (standing_then (next_round (slot_blocks F e) r) m_r g.before (made_after (commit_of e.epoch) r n g.next) g.kept old.mark)
     keeping_then =
-        IsKeeping-move o l _ _ (rounds_move o l old.mark (slot_round F I e c) r g.before g.next g.kept n may_take)
+        IsKeeping-move o l _ _ (rounds_move o l old.mark (slot_round F I e c) r g.before g.next g.kept n m_r may_take
+        (left-as_was (round_action (slot_round F I e c) r) n))
         (subst (λ (x : Option Mark). IsKeeping o l (standing n (saved_in r g.before g.next) g.kept x)) old.sealed here.keeping)
 
     pub keeping_failed : (m : Device) → FailsTo (round_action (slot_round F I e c) r) n m → IsFramed n m
@@ -369,17 +371,17 @@ module _ {C : Type 0} (D : DesignOf C) (w : IsDesign D) (o : Origin) (k : Checkp
     -- the moment after it, before the controller commits
     pub over : Carries D e.epoch Made c n Made c m_r
     over = by_round r here.inside where
-      by_round : (r : Round) → IsInRound (slot_blocks F e) r → Carries D e.epoch Made c n Made c (after (round_action (slot_round F I e c) r) n)
+      by_round : (r : Round) → IsInRound (slot_blocks F e) r → Carries D e.epoch Made c n Made c (after n.writes (round_action (slot_round F I e c) r) n)
       by_round (Write j) inside = w.own_carries e c n (slot_place F e j) (slot_block I e c j) moment_r same_p (inr (j, inside, refl))
       by_round Commit inside = w.own_carries e c n 1 (commit_of e.epoch) moment_r same_p (inl refl)
-      by_round r inside = w.same_reads Made e.epoch c n (settled n) moment_r (settled_same n)
+      by_round r inside = w.same_reads Made e.epoch c n (at_rest n) moment_r (settled_same n)
 
     pub on_round : Carries D e.epoch (phase_of e.stage) c n Made c m_r
     on_round = Carries-both D e.epoch (phase_of e.stage) Made Made c c c n n m_r here.into over
 
     header_r : newest m_r 0 ≡ newest n 0
     header_r = by_round r here.inside where
-      by_round : (r : Round) → IsInRound (slot_blocks F e) r → newest (after (round_action (slot_round F I e c) r) n) 0 ≡ newest n 0
+      by_round : (r : Round) → IsInRound (slot_blocks F e) r → newest (after n.writes (round_action (slot_round F I e c) r) n) 0 ≡ newest n 0
       by_round (Write j) inside = header_written (slot_place F e j) (slot_block I e c j) (not_header (slot_place F e j) (free j inside))
       by_round Commit inside = header_written 1 (commit_of e.epoch) (λ q. omega (arith, q))
       by_round r inside = header_settled
@@ -387,8 +389,8 @@ module _ {C : Type 0} (D : DesignOf C) (w : IsDesign D) (o : Origin) (k : Checkp
     -- what is issued after an action of the round
     issued_then : AreIssuedThen (layout_of F e).image_blocks (parts_at D e c) (commit_of e.epoch) (next_round (slot_blocks F e) r) m_r (D.parts.sealed c n)
     issued_then =
-        rounds_issue (layout_of F e).image_blocks (parts_at D e c) (commit_of e.epoch) (placed D w e c n moment_r (can here.way)).placed r n (D.parts.sealed c n)
-        here.inside here.issued
+        rounds_issue (layout_of F e).image_blocks (parts_at D e c) (commit_of e.epoch) (placed D w e c n moment_r (can here.way)).placed r n m_r (D.parts.sealed c n)
+        here.inside here.issued (left-as_was (round_action (slot_round F I e c) r) n)
 
     -- the checkpoints are kept by a step to the next action of the round
     goes_in : (q : Round) (next : List Block) (now_written : Bool) → now_written ≡ is_written q → Makes (InRound q) c next
@@ -416,7 +418,7 @@ module _ {C : Type 0} (D : DesignOf C) (w : IsDesign D) (o : Origin) (k : Checkp
       (λ last written keeping. goes_in (Write j) here Settle g.next k.written here.doubt (λ is. cc) written keeping)
       (issued_then (Write j) here) (keeping_then (Write j) here))
 
-  sound_settle : Here Settle → IsSound D o k (now (InRound Commit) c) (settled n)
+  sound_settle : Here Settle → IsSound D o k (now (InRound Commit) c) (at_rest n)
   sound_settle here =
       goes_in Settle here Commit (next_image n (commit_of e.epoch)) k.written here.doubt (λ is. (commit_is Settle here here.issued, makes Settle here here.issued))
       (issued_then Settle here) (keeping_then Settle here)
@@ -436,16 +438,16 @@ module _ {C : Type 0} (D : DesignOf C) (w : IsDesign D) (o : Origin) (k : Checkp
     done_is : unwrap_or k.sealed k.done ≡ old_d.mark
     done_is = ap (λ (x : Option Mark). unwrap_or x k.done) mark_is
 
-    abbrev on_d : Carries D e.epoch (phase_of e.stage) c n Made c (settled n)
+    abbrev on_d : Carries D e.epoch (phase_of e.stage) c n Made c (at_rest n)
     on_d = on_round Confirm here
 
-    keeping_d : IsKeeping o l (standing (settled n) (Kept g.next) g.sealed None)
-    keeping_d = subst (λ (x : Option Mark). IsKeeping o l (standing (settled n) (Kept g.next) x None)) (sym old_d.sealed) (keeping_then Confirm here)
+    keeping_d : IsKeeping o l (standing (at_rest n) (Kept g.next) g.sealed None)
+    keeping_d = subst (λ (x : Option Mark). IsKeeping o l (standing (at_rest n) (Kept g.next) x None)) (sym old_d.sealed) (keeping_then Confirm here)
 
     -- the checkpoints are kept by the barrier that commits, at the stage after it
     ends : (q : EngineStage) → is_sealing q ≡ false → is_confirming q ≡ false → saved_at q (record g { before = g.next; kept = g.sealed; sealed = None }) ≡ Kept g.next
-        → HasWrittenBefore D q e (I.committed c) (settled n) → Commits D e.epoch c (settled n) (phase_of q) (I.committed c) (settled n)
-        → Fits F I (record e { stage = q }) (I.committed c) → IsSound D o (only (unwrap_or k.sealed k.done)) (now q (I.committed c)) (settled n)
+        → HasWrittenBefore D q e (I.committed c) (at_rest n) → Commits D e.epoch c (at_rest n) (phase_of q) (I.committed c) (at_rest n)
+        → Fits F I (record e { stage = q }) (I.committed c) → IsSound D o (only (unwrap_or k.sealed k.done)) (now q (I.committed c)) (at_rest n)
     ends q unsealed unconfirmed saved written on fits = record {
       held = record {
         geometry = on.same_p ∙ h.held.geometry;
@@ -459,14 +461,14 @@ module _ {C : Type 0} (D : DesignOf C) (w : IsDesign D) (o : Origin) (k : Checkp
         kept = old_d.sealed ∙ ap Some (sym done_is);
         stated = old_d.commit (here.settled refl) ∙ ap commit_of (sym old_d.of_epoch ∙ ap (λ (m : Mark). m.epoch) (sym done_is));
         sealed = refl;
-        keeping = subst (λ x. IsKeeping o l (standing (settled n) x g.sealed None)) (sym saved) keeping_d;
+        keeping = subst (λ x. IsKeeping o l (standing (at_rest n) x g.sealed None)) (sym saved) keeping_d;
         meant = on.keeps g.next ((over Confirm here).makes g.next (old_d.makes (here.settled refl)));
-        written = written_stage D q q e (I.committed c) (settled n) written;
+        written = written_stage D q q e (I.committed c) (at_rest n) written;
         made = λ way. let no : true ≡ false = sym way ∙ unsealed in absurd cc;
       };
       way = unsealed;
       doubt = sym unconfirmed;
-      header = header_at (settled n) header_settled;
+      header = header_at (at_rest n) header_settled;
       committed = record {
         cpu = e.cpu;
         state =
@@ -475,14 +477,14 @@ module _ {C : Type 0} (D : DesignOf C) (w : IsDesign D) (o : Origin) (k : Checkp
       rests = on.rests s.storeless s.sealed_storeless (on_d.rests s.storeless s.sealed_storeless h.rests);
     }
 
-    by_tail : (tail : Bool) → Commits D e.epoch c (settled n) (if tail then Applying 0 else Resting) (I.committed c) (settled n)
+    by_tail : (tail : Bool) → Commits D e.epoch c (at_rest n) (if tail then Applying 0 else Resting) (I.committed c) (at_rest n)
         → Fits F I (record e { stage = if tail then Tail 0 else Idle }) (I.committed c)
-        → IsSound D o (only (unwrap_or k.sealed k.done)) (now (if tail then Tail 0 else Idle) (I.committed c)) (settled n)
+        → IsSound D o (only (unwrap_or k.sealed k.done)) (now (if tail then Tail 0 else Idle) (I.committed c)) (at_rest n)
     by_tail true on fits = ends (Tail 0) refl refl refl tt on fits
     by_tail false on fits = ends Idle refl refl refl tt on fits
 
-    sound_confirm : IsSound D o (only (unwrap_or k.sealed k.done)) (now (if I.has_tail then Tail 0 else Idle) (I.committed c)) (settled n)
-    sound_confirm = by_tail I.has_tail (w.commits e.epoch c (settled n) on_d.moment) here.fits
+    sound_confirm : IsSound D o (only (unwrap_or k.sealed k.done)) (now (if I.has_tail then Tail 0 else Idle) (I.committed c)) (at_rest n)
+    sound_confirm = by_tail I.has_tail (w.commits e.epoch c (at_rest n) on_d.moment) here.fits
 
   sound_round : (r : Round) → Here r → After (RoundItem r)
   sound_round (Write j) here = sound_write j here
@@ -509,15 +511,15 @@ module _ {C : Type 0} (D : DesignOf C) (w : IsDesign D) (o : Origin) (k : Checkp
       (keeping_kept (Tail from) (Tail (j + 1)) m is refl refl (Spares-written (1 ∷ looked_by l g.before) x (I.tail_block c n j) n m (not_looked x free) refl))
       (header_written x (I.tail_block c n j) (not_header x free)) tt (sym (ap is_sealing is)) (sym (ap is_confirming is)) refl
 
-  sound_release : (from : ℕ) → e.stage ≡ Tail from → I.tail_next c from ≡ None → IsSound D o k (now Idle (I.released c)) (settled n)
+  sound_release : (from : ℕ) → e.stage ≡ Tail from → I.tail_next c from ≡ None → IsSound D o k (now Idle (I.released c)) (at_rest n)
   sound_release from is next =
-      let on = w.same_reads (Applying from) e.epoch c n (settled n) (moment_at (Tail from) is) (settled_same n) in
-      let freed = w.releases e.epoch c (settled n) from on.moment next in
-      goes Idle (I.released c) (settled n)
-      (from_stage (Tail from) Resting (I.released c) (settled n) is
-      (Carries-both D e.epoch (Applying from) (Applying from) Resting c c (I.released c) n (settled n) (settled n) on freed))
+      let on = w.same_reads (Applying from) e.epoch c n (at_rest n) (moment_at (Tail from) is) (settled_same n) in
+      let freed = w.releases e.epoch c (at_rest n) from on.moment next in
+      goes Idle (I.released c) (at_rest n)
+      (from_stage (Tail from) Resting (I.released c) (at_rest n) is
+      (Carries-both D e.epoch (Applying from) (Applying from) Resting c c (I.released c) n (at_rest n) (at_rest n) on freed))
       (fits_at (Tail from) ReleaseItem is (ap tail_or_release next))
-      (keeping_kept (Tail from) Idle (settled n) is refl refl (Spares-settled (1 ∷ looked_by l g.before) n (settled n) refl))
+      (keeping_kept (Tail from) Idle (at_rest n) is refl refl (Spares-settled (1 ∷ looked_by l g.before) n (at_rest n) refl))
       header_settled tt (sym (ap is_sealing is)) (sym (ap is_confirming is)) refl
 
   -- ---- all of them

@@ -3,7 +3,7 @@ use Rattle.std.proofs.Common.{◌≡◌, ◌≢◌, ◌⊎◌, ℕ, ◌+◌, ◌
 use Rattle.std.proofs.lemmas.Bool.{both_ways}
 use Rattle.std.proofs.lemmas.List.Elements.{Contains-push, Contains-append_left, Contains-append_right}
 use Rattle.thy_block.specs.declared.block.Block.{Block}
-use Rattle.thy_block.specs.Device.{Device, settled, IsFramed}
+use Rattle.thy_block.specs.Device.{Device, at_rest, IsFramed}
 use Rattle.thy_block.specs.Places.{record_blocks}
 use Rattle.thy_checkpoint.specs.Filling.{FillingOf, layout_at}
 use Rattle.thy_isa.specs.declared.state.CpuState.{CpuState}
@@ -12,11 +12,11 @@ use Rattle.thy_layout.specs.declared.engine_step.EngineStep.{EngineStep}
 use Rattle.thy_layout.specs.declared.engine_step.EngineStep.TheVariants.{Copied, PageBlock, StateBlock, TableBlock, Committed}
 use Rattle.thy_layout.specs.Commit.{commit_of}
 use Rattle.thy_layout.specs.Layout.{looked_by}
-use Rattle.thy_view.specs.Action.{WriteAt, after, FailsTo, Asks}
+use Rattle.thy_view.specs.Action.{WriteAt, IsAfter, IsLeftBy, after, FailsTo, Asks}
 use Rattle.thy_view.specs.Dram.{WritesNvm}
 use Rattle.thy_view.specs.Origin.{Origin}
-use Rattle.thy_view.proofs.ActionLemmas.{down-after, queue-after}
-use Rattle.thy_scheme.specs.CheckpointMarks.{CheckpointMarks}
+use Rattle.thy_view.proofs.ActionLemmas.{after-is, down-after, queue-after}
+use Rattle.thy_scheme.specs.CheckpointMarks.{CheckpointMarks, marks_after}
 use Rattle.thy_scheme.specs.Scheme.{Stands}
 use Rattle.thy_scheme.specs.Calls.{IsDue, writes_block, engine_did, Keeps, Seals, Engines, EngineFails, OwesAfter}
 use Rattle.thy_scheme.proofs.RecordLemmas.{due-slot}
@@ -34,12 +34,12 @@ use Rattle.thy_parts.specs.Design.{DesignOf, Composed}
 use Rattle.thy_parts.specs.IsDesign.{IsDesign, IsSpared}
 use Rattle.thy_parts.specs.Calls.{taken, step_of, sealed}
 use Rattle.thy_parts.specs.Laws.{device_taken}
-use Rattle.thy_parts.specs.Moments.{IsMoment, Carries}
+use Rattle.thy_parts.specs.Moments.{IsMoment, Carries, ReadsSame}
 use Rattle.thy_parts.specs.Scheme.{scheme_of}
 use Rattle.thy_parts.specs.Sound.{IsSound}
-use Rattle.thy_parts.proofs.SameLemmas.{Carries-both, opens_both, settled_same}
-use Rattle.thy_parts.proofs.HeldLemmas.{moment_held, Keeping, keeping_carried, keeps_by}
-use Rattle.thy_parts.proofs.SafeLemmas.{failed_items_are_safe, seal_keeps_sound, idle_stage}
+use Rattle.thy_parts.proofs.SameLemmas.{Carries-both, opens_both, after_same, settled_same}
+use Rattle.thy_parts.proofs.HeldLemmas.{moment_held, Keeping, keeping_carried, keeping_same, keeps_by}
+use Rattle.thy_parts.proofs.SafeLemmas.{failed_items_are_safe, same_reads_keep, seal_keeps_sound, idle_stage}
 use Rattle.thy_parts.proofs.SoundLemmas.{IsAt, moment_at, stall_at, at_round, at_first, free, on_round, items_keep_sound}
 
 -- ---- what an item is
@@ -158,25 +158,25 @@ module _ {C : Type 0} (D : DesignOf C) (w : IsDesign D) (o : Origin) (k : Checkp
   asks lap (Tail from) is way = asks_tail lap from (I.tail_next c from) is refl
 
   abbrev Writes : Item → Type 0
-  Writes i = writes_block (report I e i) ≡ true → WritesNvm n (after (action_of F I e i c n) n)
+  Writes i = (new : Device) → IsLeftBy (action_of F I e i c n) n new → writes_block (report I e i) ≡ true → WritesNvm n new
 
   writes_round : (r : Round) → Writes (RoundItem r)
-  writes_round (Write j) h = record { at = slot_place F e j; block = slot_block I e c j; left = refl }
-  writes_round r h = absurd (both_ways false refl h)
+  writes_round (Write j) new left h = record { at = slot_place F e j; block = slot_block I e c j; left = left }
+  writes_round r new left h = absurd (both_ways false refl h)
 
   writes_body : (x : Option ℕ) → Writes (body_or_slot x)
-  writes_body None h = writes_round (Write 0) h
-  writes_body (Some j) h = record { at = I.body_place e.epoch c j; block = I.body_block c n j; left = refl }
+  writes_body None new left h = writes_round (Write 0) new left h
+  writes_body (Some j) new left h = record { at = I.body_place e.epoch c j; block = I.body_block c n j; left = left }
 
   writes_tail : (x : Option ℕ) → Writes (tail_or_release x)
-  writes_tail None h = absurd (both_ways false refl h)
-  writes_tail (Some j) h = record { at = I.tail_place c j; block = I.tail_block c n j; left = refl }
+  writes_tail None new left h = absurd (both_ways false refl h)
+  writes_tail (Some j) new left h = record { at = I.tail_place c j; block = I.tail_block c n j; left = left }
 
   writes : (q : EngineStage) → Writes (item I q c)
-  writes Idle h = absurd (both_ways false refl h)
-  writes (Body from) h = writes_body (I.body_next c from) h
-  writes (InRound r) h = writes_round r h
-  writes (Tail from) h = writes_tail (I.tail_next c from) h
+  writes Idle new left h = absurd (both_ways false refl h)
+  writes (Body from) new left h = writes_body (I.body_next c from) new left h
+  writes (InRound r) new left h = writes_round r new left h
+  writes (Tail from) new left h = writes_tail (I.tail_next c from) new left h
 
   -- ---- it is due
 
@@ -227,7 +227,7 @@ module _ {C : Type 0} (D : DesignOf C) (w : IsDesign D) (o : Origin) (k : Checkp
   -- ---- what it leaves of the moment
 
   abbrev To : EngineStage → Item → Type 0
-  To q i = Carries D e.epoch (phase_of q) c n (phase_of (next_after F I e i)) (control_after I i c) (after (action_of F I e i c n) n)
+  To q i = Carries D e.epoch (phase_of q) c n (phase_of (next_after F I e i)) (control_after I i c) (after n.writes (action_of F I e i c n) n)
 
   carries_round : (q : EngineStage) (r : Round) → e.stage ≡ q → Here r → is_written r ≡ false → To q (RoundItem r)
   carries_round q r is here unwritten = subst (λ (x : EngineStage). To x (RoundItem r)) is (by_round r here unwritten) where
@@ -239,17 +239,17 @@ module _ {C : Type 0} (D : DesignOf C) (w : IsDesign D) (o : Origin) (k : Checkp
   carries_body from None is next = carries_round (Body from) (Write 0) is (at_first D w o k s n sound from is next) refl
   carries_body from (Some j) is next =
       let pass = passed from j is next in
-      Carries-both D e.epoch (Making from) (Making j) (Making (j + 1)) c c (I.body_after c j) n n (after (action_of F I e (body_or_slot (Some j)) c n) n)
+      Carries-both D e.epoch (Making from) (Making j) (Making (j + 1)) c c (I.body_after c j) n n (after n.writes (action_of F I e (body_or_slot (Some j)) c n) n)
       pass (w.body_carries e.epoch c n j pass.moment (again from j is next))
 
   carries_tail : (from : ℕ) (x : Option ℕ) → e.stage ≡ Tail from → I.tail_next c from ≡ x → To (Tail from) (tail_or_release x)
   carries_tail from None is next =
-      let over = w.same_reads (Applying from) e.epoch c n (settled n) (moment_at D w o k s n sound (Tail from) is) (settled_same n) in
-      Carries-both D e.epoch (Applying from) (Applying from) Resting c c (I.released c) n (settled n) (settled n) over
-      (w.releases e.epoch c (settled n) from over.moment next)
+      let over = w.same_reads (Applying from) e.epoch c n (at_rest n) (moment_at D w o k s n sound (Tail from) is) (settled_same n) in
+      Carries-both D e.epoch (Applying from) (Applying from) Resting c c (I.released c) n (at_rest n) (at_rest n) over
+      (w.releases e.epoch c (at_rest n) from over.moment next)
   carries_tail from (Some j) is next =
       let pass = passed_tail from j is next in
-      Carries-both D e.epoch (Applying from) (Applying j) (Applying (j + 1)) c c (I.tail_after c j) n n (after (action_of F I e (tail_or_release (Some j)) c n) n)
+      Carries-both D e.epoch (Applying from) (Applying j) (Applying (j + 1)) c c (I.tail_after c j) n n (after n.writes (action_of F I e (tail_or_release (Some j)) c n) n)
       pass (w.tail_carries e.epoch c n j pass.moment (again_tail from j is next))
 
   carries : (q : EngineStage) → e.stage ≡ q → is_under_way q ≡ true → is_confirming q ≡ false → To q (item I q c)
@@ -259,19 +259,19 @@ module _ {C : Type 0} (D : DesignOf C) (w : IsDesign D) (o : Origin) (k : Checkp
   carries (Tail from) is way unconfirmed = carries_tail from (I.tail_next c from) is refl
 
   abbrev Kept : EngineStage → Item → Type 0
-  Kept q i = Keeping D e.epoch (phase_of q) c n (phase_of (next_after F I e i)) (control_after I i c) (after (action_of F I e i c n) n)
+  Kept q i = Keeping D e.epoch (phase_of q) c n (phase_of (next_after F I e i)) (control_after I i c) (after n.writes (action_of F I e i c n) n)
 
   carried : (q : EngineStage) → e.stage ≡ q → is_under_way q ≡ true → is_confirming q ≡ false → Kept q (item I q c)
   carried q is way unconfirmed =
       keeping_carried D e.epoch (phase_of q) (phase_of (next_after F I e (item I q c))) c (control_after I (item I q c) c) n
-      (after (action_of F I e (item I q c) c n) n) (moment_at D w o k s n sound q is) (carries q is way unconfirmed)
+      (after n.writes (action_of F I e (item I q c) c n) n) (moment_at D w o k s n sound q is) (carries q is way unconfirmed)
 
   kept_confirmed : e.stage ≡ InRound Confirm → Kept (InRound Confirm) (RoundItem Confirm)
   kept_confirmed is =
       let first = moment_at D w o k s n sound (InRound Confirm) is in
-      let over = w.same_reads Made e.epoch c n (settled n) first (settled_same n) in
-      let to = w.commits e.epoch c (settled n) over.moment in
-      subst (λ (x : Phase). Keeping D e.epoch Made c n x (I.committed c) (settled n)) (sym (phase_confirmed I)) (record {
+      let over = w.same_reads Made e.epoch c n (at_rest n) first (settled_same n) in
+      let to = w.commits e.epoch c (at_rest n) over.moment in
+      subst (λ (x : Phase). Keeping D e.epoch Made c n x (I.committed c) (at_rest n)) (sym (phase_confirmed I)) (record {
         old = first;
         moment = to.moment;
         loads = to.loads ∙ over.loads;
@@ -290,43 +290,49 @@ module _ {C : Type 0} (D : DesignOf C) (w : IsDesign D) (o : Origin) (k : Checkp
   kept (InRound Confirm) is way = kept_confirmed is
   kept q is way = carried q is refl refl
 
-  -- a step that is no commit owes no more
-  owed_by : (q : EngineStage) → e.stage ≡ q → is_under_way q ≡ true → is_confirming q ≡ false
-      → OwesAfter (Step q) (scheme_of D) s n (taken D s) (device_taken D s n)
-  owed_by q is way unconfirmed =
-      owes_if D (Step q) s (taken D s) n (device_taken D s n)
-      (subst (λ (r : EngineStage). D.parts.owed (control_after I (item I r c) c) ≤ D.parts.owed c) (sym is)
-      (carries q is way unconfirmed).owed)
-
-  owes : (q : EngineStage) → e.stage ≡ q → is_under_way q ≡ true → OwesAfter (Step q) (scheme_of D) s n (taken D s) (device_taken D s n)
-  owes Idle is way = cc
-  owes (InRound Confirm) is way = tt
-  owes q is way = owed_by q is refl refl
-
   count : cycles_left F I (engine_next F I e c) (control_next I e c) + 1 ≤ cycles_left F I e c
   count = items_count F I w.fills.laid w.items e c sound.held.fits on
 
-  up_then : (device_taken D s n).down ≡ false
-  up_then = down-after (action_next F I e c n) n ∙ stands.up
+  -- the device that is there reads as that one, whatever it counts
+  module _ (new : Device) (left : IsAfter (action_next F I e c n) n new) where
+    same_then : ReadsSame (device_taken D s n) new
+    same_then =
+        subst (ReadsSame (device_taken D s n)) (sym (after-is (action_next F I e c n) n new left))
+        (after_same (action_next F I e c n) n n.writes new.writes)
 
-  keeps : Keeps (scheme_of D) s n (taken D s) (device_taken D s n)
-  keeps =
-      keeps_by D w e.epoch s (taken D s) n (device_taken D s n) (kept e.stage refl on) stands.up up_then (let less = count in omega (arith, less)) refl refl
+    -- a step that is no commit owes no more
+    owed_by : (q : EngineStage) → e.stage ≡ q → is_under_way q ≡ true → is_confirming q ≡ false → OwesAfter (Step q) (scheme_of D) s n (taken D s) new
+    owed_by q is way unconfirmed =
+        owes_if D (Step q) s (taken D s) n new
+        (subst (λ (r : EngineStage). D.parts.owed (control_after I (item I r c) c) ≤ D.parts.owed c) (sym is)
+        (carries q is way unconfirmed).owed)
 
-  pub engines : Engines (scheme_of D) o k (step_of D s) s n (taken D s) (device_taken D s n)
-  engines = record {
-    due = due e.stage refl on;
-    sound = items_keep_sound D w o k s n sound on;
-    keeps = keeps;
-    owes = owes e.stage refl on;
-    acts = λ lap. record { action = action_next F I e c n; asked = asks lap e.stage refl on; left = refl };
-    dram = inl (dram e.stage refl);
-    writes = λ h. inl (writes e.stage h);
-    queue =
-        let same : (F.dram (control_next I e c)).queued ≡ (F.dram c).queued = ap (λ d. d.queued) (dram e.stage refl) in
-        omega (arith, queue-after (action_next F I e c n) n, same);
-    nearer = count;
-  }
+    owes : (q : EngineStage) → e.stage ≡ q → is_under_way q ≡ true → OwesAfter (Step q) (scheme_of D) s n (taken D s) new
+    owes Idle is way = cc
+    owes (InRound Confirm) is way = tt
+    owes q is way = owed_by q is refl refl
+
+    keeps : Keeps (scheme_of D) s n (taken D s) new
+    keeps =
+        keeps_by D w e.epoch s (taken D s) n new
+        (keeping_same D w e.epoch (phase_of e.stage) (phase_of (taken D s).engine.stage) c (taken D s).control n (device_taken D s n) new same_then
+        (kept e.stage refl on))
+        stands.up (down-after (action_next F I e c n) n new left ∙ stands.up) (let less = count in omega (arith, less)) refl refl
+
+    pub engines : Engines (scheme_of D) o k (step_of D s) s n (taken D s) new
+    engines = record {
+      due = due e.stage refl on;
+      sound = same_reads_keep D w o (marks_after (step_of D s) k) (taken D s) (device_taken D s n) new (items_keep_sound D w o k s n sound on) same_then;
+      keeps = keeps;
+      owes = owes e.stage refl on;
+      acts = λ lap. record { action = action_next F I e c n; asked = asks lap e.stage refl on; left = left };
+      dram = inl (dram e.stage refl);
+      writes = λ h. inl (writes e.stage new (after-is (action_next F I e c n) n new left) h);
+      queue =
+          let same : (F.dram (control_next I e c)).queued ≡ (F.dram c).queued = ap (λ d. d.queued) (dram e.stage refl) in
+          omega (arith, queue-after (action_next F I e c n) n new left, same);
+      nearer = count;
+    }
 
   pub engine-fails : (new : Device) → FailsTo (action_next F I e c n) n new → IsFramed n new → EngineFails (scheme_of D) o k n new
   engine-fails new failed framed = record {

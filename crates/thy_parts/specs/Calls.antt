@@ -11,7 +11,7 @@ use Rattle.thy_isa.specs.Step.{State, state_of}
 use Rattle.thy_layout.specs.declared.engine_step.EngineStep.{EngineStep}
 use Rattle.thy_layout.specs.declared.start.Start.{Start}
 use Rattle.thy_view.specs.declared.boot_step.BootStep.{BootStep}
-use Rattle.thy_view.specs.Action.{Rest, after}
+use Rattle.thy_view.specs.Action.{Rest, IsAfter}
 use Rattle.thy_view.specs.Round.{next_round}
 use Rattle.thy_checkpoint.specs.declared.boot_stage.Stage.{Stage}
 use Rattle.thy_checkpoint.specs.declared.boot_stage.Stage.TheVariants.{Reads, Loads, Migrates, Over}
@@ -111,7 +111,7 @@ pub record BootsBy {C : Type 0} (D : DesignOf C) (start : State) (s : Composed C
   pub boot : t.boot ≡ boot_after D.filling start s.boot.stage n s.boot
   pub control : FillsBy D.filling s.boot.stage n s.boot s.control t.control
   pub others : t ≡ booted D t.boot t.control s
-  pub nvm : m ≡ after (action_of D.filling start s.boot s.control) n
+  pub nvm : IsAfter (action_of D.filling start s.boot s.control) n m
 
 -- a call that leaves the NVM, and returns nothing
 abbrev pub changed_to : {S : Type 0} → S → Made S (Unit {0})

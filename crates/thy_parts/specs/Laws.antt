@@ -6,7 +6,7 @@ use Rattle.thy_isa.specs.declared.state.CpuState.{CpuState}
 use Rattle.thy_isa.specs.OnBlocks.{state_from}
 use Rattle.thy_layout.specs.Cpu.{IsRecordable}
 use Rattle.thy_layout.specs.Layout.{reading}
-use Rattle.thy_view.specs.Action.{after, FailsTo}
+use Rattle.thy_view.specs.Action.{IsAfter, after, FailsTo}
 use Rattle.thy_view.specs.Origin.{Origin, at}
 use Rattle.thy_view.specs.Safe.{ceiling, Safe}
 use Rattle.thy_scheme.specs.CheckpointMarks.{CheckpointMarks, doubt_in, marks_after, marks_after_fault}
@@ -23,9 +23,9 @@ use Rattle.thy_parts.specs.Scheme.{scheme_of}
 use Rattle.thy_parts.specs.Moments.{ReadsSame}
 use Rattle.thy_parts.specs.Sound.{IsSound}
 
--- the NVM after the item that is next
+-- the NVM after the item that is next, but for what it counts
 abbrev pub device_taken : {C : Type 0} → DesignOf C → Composed C → Device → Device
-device_taken D s n = after (action_next D.filling D.items s.engine s.control n) n
+device_taken D s n = after n.writes (action_next D.filling D.items s.engine s.control n) n
 
 -- ---- laws
 
@@ -88,7 +88,8 @@ abbrev pub ItemsAreSteps : {C : Type 0} → DesignOf C → Type 0
 ItemsAreSteps {C} D =
     (o : Origin) (k : CheckpointMarks) (s : Composed C) (n : Device)
     → Stands (scheme_of D) o k s n → is_under_way s.engine.stage ≡ true
-    → Engines (scheme_of D) o k (step_of D s) s n (taken D s) (device_taken D s n)
+    → ((new : Device) → IsAfter (action_next D.filling D.items s.engine s.control n) n new
+    → Engines (scheme_of D) o k (step_of D s) s n (taken D s) new)
     × ((new : Device)
     → FailsTo (action_next D.filling D.items s.engine s.control n) n new → IsFramed n new → EngineFails (scheme_of D) o k n new)
 

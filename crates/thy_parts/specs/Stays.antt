@@ -1,4 +1,3 @@
--- Part of the claim.
 -- What loads and stores keep of a scheme, those that fail too.
 use Rattle.std.specs.Prelude.{◌≡◌, true}
 use Rattle.thy_block.specs.Device.{Device}

@@ -75,7 +75,7 @@ pub record IsStoring {C : Type 0} (D : DesignOf C) : Type 0 where
   -- a store acts on the NVM once, and one that failed leaves the controller
   pub access : (b : ℕ) (block : Block) (c : C) → IsAccess (D.parts.store_action b block c)
   pub store : (b : ℕ) (block : Block) (c : C) (n : Device) → CanStore D b c n
-      → MakesStore D b block c n (D.parts.stored b block c n) (after (D.parts.store_action b block c) n)
+      → MakesStore D b block c n (D.parts.stored b block c n) (after n.writes (D.parts.store_action b block c) n)
   pub store_fails : (b : ℕ) (block : Block) (c : C) (n m : Device)
       → CanStore D b c n → FailsTo (D.parts.store_action b block c) n m → IsFramed n m → D.parts.stays c n c m
   pub load_fails : (c : C) (n m : Device) → HasFailed n m → IsFramed n m → D.parts.stays c n c m

@@ -42,8 +42,7 @@ pub trait Parts: Checkpoints {
         ensures ok { let held = Self.filling.loads control.now (N.device nvm.old) in
             IfOk result (λ block. block ≡ block_at held b) }
         ensures side { OnErr result (parts.load_reads control.now b ≡ true) }
-        ensures reads { IsReading result (N.device nvm.old) (N.device nvm.new) }
-        ensures same_writes { N.writes nvm.new ≡ N.writes nvm.old };
+        ensures reads { IsReading result (N.device nvm.old) (N.device nvm.new) };
 
     /// Block `b` of memory, as the committed checkpoint has it.
     fn committed<N: Nvm>(
@@ -58,8 +57,7 @@ pub trait Parts: Checkpoints {
         ensures ok { let held = parts.committed (phase_of stage) control.now (N.device nvm.old) in
             IfOk result (λ block. block ≡ block_at held b) }
         ensures side { OnErr result (parts.committed_reads (phase_of stage) control.now b ≡ true) }
-        ensures reads { IsReading result (N.device nvm.old) (N.device nvm.new) }
-        ensures same_writes { N.writes nvm.new ≡ N.writes nvm.old };
+        ensures reads { IsReading result (N.device nvm.old) (N.device nvm.new) };
 
     /// Stores block `b` of memory, or makes the copy that has to come first.
     fn store<N: Nvm>(
@@ -110,8 +108,7 @@ pub trait Parts: Checkpoints {
         ensures promotes { let n = N.device nvm.old in
             Promotes (promoted_next parts.pages control.old n) result control.old control.new }
         ensures some { OnErr result (parts.pages.promoting control.old ≡ true) }
-        ensures reads { IsReading result (N.device nvm.old) (N.device nvm.new) }
-        ensures same_writes { N.writes nvm.new ≡ N.writes nvm.old };
+        ensures reads { IsReading result (N.device nvm.old) (N.device nvm.new) };
 
     /// Seals an epoch.
     fn seal(control: &mut Self::Control)

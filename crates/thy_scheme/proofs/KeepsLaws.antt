@@ -16,7 +16,7 @@ use Rattle.thy_view.specs.declared.did.Did.TheVariants.{Moved}
 use Rattle.thy_view.specs.declared.view.Phase.{Phase}
 use Rattle.thy_view.specs.declared.view.Phase.TheVariants.{Boot, Run, Halt}
 use Rattle.thy_view.specs.declared.view.View.{View}
-use Rattle.thy_view.specs.Action.{Action, Rest, ReadAt, WriteAt, Barrier, Drain, after, ActsBy, Acts}
+use Rattle.thy_view.specs.Action.{ActsBy, Acts}
 use Rattle.thy_view.specs.CoreStep.{CoreStep}
 use Rattle.thy_view.specs.Dram.{LeavesDram, WritesBlock}
 use Rattle.thy_view.specs.Kind.{without_memory}
@@ -24,7 +24,7 @@ use Rattle.thy_view.specs.Origin.{Origin, at, runs_at}
 use Rattle.thy_view.specs.Pace.{Queues, Strides as StridesOn}
 use Rattle.thy_view.specs.NextActor.{front_of, over_by}
 use Rattle.thy_view.specs.Work.{adds_copies, GetsDone}
-use Rattle.thy_view.proofs.ActionLemmas.{acts_by}
+use Rattle.thy_view.proofs.ActionLemmas.{acts_by, down-after}
 use Rattle.thy_scheme.specs.SchemeStore.{held_by_scheme}
 use Rattle.thy_scheme.specs.Scheme.{SchemeOf, Stands}
 use Rattle.thy_scheme.specs.Calls.{queued_in, OpensNone, HoldsSame, KeepsLeft, Keeps, OwesNoMore}
@@ -329,13 +329,6 @@ left_on K did m n t spent new keeps owes = record {
 
 -- ---- the device
 
-up_by : (action : Action) (n : Device) → n.down ≡ false → (after action n).down ≡ false
-up_by Rest n up = up
-up_by (ReadAt place) n up = up
-up_by (WriteAt place block) n up = up
-up_by Barrier n up = up
-up_by Drain n up = up
-
 -- an action that succeeded leaves it up
 pub up_after : {migrates : Bool} (did : Did) (n new : Device) → n.down ≡ false → ActsBy migrates did n new → new.down ≡ false
-up_after did n new up acts = ap (λ (d : Device). d.down) acts.left ∙ up_by acts.action n up
+up_after did n new up acts = down-after acts.action n new acts.left ∙ up

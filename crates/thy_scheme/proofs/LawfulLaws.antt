@@ -4,9 +4,11 @@ use Rattle.std.proofs.lemmas.Bool.{ltb-true}
 use Rattle.thy_block.specs.declared.cause.EndCause.{EndCause}
 use Rattle.thy_block.specs.declared.parameters.Parameters.{Parameters}
 use Rattle.thy_block.specs.Device.{Device}
+use Rattle.thy_block.specs.Places.{dram_blocks}
 use Rattle.thy_cache.specs.Contents.{dirty_count}
 use Rattle.thy_cache.proofs.FlushLaws.{empty-agrees, empty-count, empty-flat}
 use Rattle.thy_cache.proofs.SizeLaws.{IsSized-empty}
+use Rattle.thy_dram.specs.Contents.{fresh}
 use Rattle.thy_block.specs.declared.span.Span.{Span}
 use Rattle.thy_hart.specs.declared.hand.Hand.{Hand}
 use Rattle.thy_hart.specs.declared.hand.Hand.TheVariants.{Nothing, Reading, Securing, Writing, Retiring}
@@ -31,10 +33,12 @@ use Rattle.thy_scheme.specs.Sound.{state_in_front, IsToWrite, SoundRun, SoundBoo
 use Rattle.thy_scheme.specs.Runs.{MachineIsLawful}
 use Rattle.thy_scheme.proofs.EpochLemmas.{few-begun}
 use Rattle.thy_scheme.proofs.MomentLaws.{sound-here, seen-alike, is_at-agrees}
+use Rattle.thy_scheme.proofs.OnceLaws.{cycle_once, powered_once}
 use Rattle.thy_scheme.proofs.RunLaws.{moment_is_safe, fresh_simulates, kept_in, left_simulates}
 use Rattle.thy_scheme.proofs.WorkLaws.{number_behind}
 
-powers : {S : Type 0} (K : SchemeOf S) → IsLawfulScheme K → (p : Parameters) → (m : Machine S) × IsPowered K p m
+powers : {S : Type 0} (K : SchemeOf S) → IsLawfulScheme K → (p : Parameters)
+    → (m : Machine S) × IsPowered K p m × (K.dram m.scheme ≡ fresh (dram_blocks p) p.dramq)
 powers {S} K l p =
     let s = l.powers p in (
       machine_over p s.0,
@@ -58,6 +62,7 @@ powers {S} K l p =
         unfailed = refl;
         exact = ap (λ (t : S). machine_over p t) (l.powered_is p s.0 s.1);
       },
+      s.2,
     )
 
 -- a boot's view is in the boot
@@ -213,6 +218,7 @@ pressed_at K l o k m n sound = record {
 pub machine_is_lawful : {S : Type 0} (K : SchemeOf S) → MachineIsLawful K
 machine_is_lawful K l = record {
   powers = powers K l;
+  powered_once = powered_once K;
   finds_nothing = l.finds_nothing;
   begins = λ o m shape start n. fresh_simulates K o m shape start n l;
   finds = λ o k m next n left at. left_simulates K o k m next n left l (sound-here K o k m n at);
@@ -224,7 +230,9 @@ machine_is_lawful K l = record {
   counts_queues = λ m n. refl;
   counts_dram = λ m. l.queued_is m.scheme;
   pressed = λ o k m n at. pressed_at K l o k m n (sound-here K o k m n at);
+  up = λ o k m n at. (sound-here K o k m n at).up;
   is_safe = λ o k m n at. moment_is_safe K o k m n l (sound-here K o k m n at);
   agrees = is_at-agrees K l;
   seen_alike = λ o turns k m n at agree. seen-alike K l o turns m n;
+  one_outcome = λ o turns other actor m x y n u v d e a b alike. cycle_once K l o turns other m x y n u v d e alike actor a b;
 }

@@ -19,6 +19,7 @@ pub mod FlushRow
 pub mod MomentLaws
 pub mod RunLaws
 pub mod NearLaws
+pub mod OnceLaws
 pub mod LawfulLaws
 pub mod FailRows
 pub mod BegunLaws

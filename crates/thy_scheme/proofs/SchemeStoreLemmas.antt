@@ -38,6 +38,12 @@ load_once K l s n new b (Err e) inside stays frame same failed = record {
   stays = stays;
 }
 
+-- a load that leaves the NVM up has left it as it was
+pub load_leaves : {T : Type 0} (n new : Device) (result : Result T NvmError) → OnOk result (new ≡ n) → OnErr result (HasFailed n new)
+    → new.down ≡ false → new ≡ n
+load_leaves n new (Ok x) same failed up = same
+load_leaves n new (Err e) same failed up = absurd (let down = failed.down in cc)
+
 -- a call that failed is counted
 pub failure_counts : {T : Type 0} (result : Result T NvmError) (n new : Device) → OnOk result (new.down ≡ false) → CountsFault result n.faults new.faults
     → new.down ≡ true → Rose n.faults new.faults

@@ -15,7 +15,7 @@ use Rattle.thy_layout.specs.declared.engine_step.EngineStep.{EngineStep}
 use Rattle.thy_layout.specs.declared.engine_step.EngineStep.TheVariants.{Idle, Copied, PageBlock, StateBlock, TableBlock, CommitWritten, Committed}
 use Rattle.thy_view.specs.declared.did.Did.{Did}
 use Rattle.thy_view.specs.declared.did.Did.TheVariants.{Engine, Promoted, Committed as DidCommit}
-use Rattle.thy_view.specs.Action.{Action, IsAccess, after, FailsTo, Acts, ActionFailed}
+use Rattle.thy_view.specs.Action.{Action, IsAccess, IsAfter, FailsTo, Acts, ActionFailed}
 use Rattle.thy_view.specs.Dram.{ActsOnDram, WritesDram, WritesBlock}
 use Rattle.thy_view.specs.Origin.{Origin, at}
 use Rattle.thy_view.specs.Safe.{ceiling, Safe}
@@ -30,7 +30,7 @@ queued_in K s n = length n.queue + K.queued s
 
 -- after an action that succeeded, at most one write was queued; if fewer copies are owed, a block was written
 pub record Succeeds {S : Type 0} (K : SchemeOf S) (action : Action) (s : S) (n : Device) (t : S) (new : Device) : Type 0 where
-  pub left : new ≡ after action n
+  pub left : IsAfter action n new
   pub dram : ActsOnDram n new (K.dram s) (K.dram t)
   pub queue : queued_in K t new ≤ queued_in K s n + 1
   pub copies : (K.holding t new).owed + 1 ≤ (K.holding s n).owed → WritesBlock n new (K.dram s) (K.dram t)

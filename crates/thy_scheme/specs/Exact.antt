@@ -10,7 +10,7 @@ use Rattle.thy_isa.specs.declared.state.CpuState.{CpuState}
 use Rattle.thy_isa.specs.Step.{State}
 use Rattle.thy_layout.specs.declared.engine_step.EngineStep.{EngineStep}
 use Rattle.thy_view.specs.declared.boot_step.BootStep.{BootStep}
-use Rattle.thy_view.specs.Action.{Action, after}
+use Rattle.thy_view.specs.Action.{Action, IsAfter}
 
 -- what a call returns, the scheme after it, and its action on the NVM
 pub record Made (S A : Type 0) : Type 0 where
@@ -22,7 +22,7 @@ pub record Made (S A : Type 0) : Type 0 where
 pub record Makes {S A : Type 0} (made : Made S A) (answer : A) (n : Device) (t : S) (new : Device) : Type 0 where
   pub answer_is : answer ≡ made.answer
   pub scheme_is : t ≡ made.scheme
-  pub nvm_is : new ≡ after made.action n
+  pub nvm_is : IsAfter made.action n new
 
 -- the calls of schemes of a type; a load or a question changes nothing
 pub record CallsOf (S : Type 0) : Type 1 where

@@ -3,11 +3,15 @@ use Rattle.std.specs.Prelude.{◌≡◌, ℕ, ◌<◌, ◌≤◌, ◌||◌, not,
 use Rattle.thy_block.specs.declared.parameters.Parameters.{Parameters}
 use Rattle.thy_block.specs.declared.mark.Mark.{Mark}
 use Rattle.thy_block.specs.declared.nvm.Shape.{Shape}
-use Rattle.thy_block.specs.Device.{Device, drained, fitted}
+use Rattle.thy_block.specs.Device.{Device, CountAlike, Wear, counting, drained, fitted}
 use Rattle.thy_block.specs.Geometry.{memory_blocks}
+use Rattle.thy_block.specs.Places.{dram_blocks}
+use Rattle.thy_dram.specs.Contents.{fresh}
 use Rattle.thy_isa.specs.declared.state.CpuState.{CpuState}
 use Rattle.thy_isa.specs.OnBlocks.{state_from}
+use Rattle.thy_isa.specs.Step.{State}
 use Rattle.thy_layout.specs.Decoded.{Decoded, Nothing, Refused, At}
+use Rattle.thy_view.specs.declared.boot_step.BootStep.{BootStep}
 use Rattle.thy_view.specs.Booting.{view_of_image}
 use Rattle.thy_view.specs.Origin.{Origin, IsOrigin, at}
 use Rattle.thy_view.specs.Safe.{ceiling, Safe}
@@ -86,6 +90,10 @@ pub record RunHolds {S : Type 0} (K : SchemeOf S) (o : Origin) (k : CheckpointMa
   pub drained_sound : 0 < length n.queue → K.is_sound o k s (drained n)
   pub drained_keeps : 0 < length n.queue → Keeps K s n s (drained n)
   pub drained_owes : 0 < length n.queue → OwesNoMore K s n s (drained n)
+  -- what the NVM counts is nothing to it
+  pub counted_sound : (writes : ℕ) (wear : Wear) → K.is_sound o k s (counting writes wear n)
+  pub counted_keeps : (writes : ℕ) (wear : Wear) → Keeps K s n s (counting writes wear n)
+  pub counted_owes : (writes : ℕ) (wear : Wear) → OwesNoMore K s n s (counting writes wear n)
 
 -- the hart may store: no checkpoint is under way, or the hart may run meanwhile
 abbrev pub is_free_to_run : {S : Type 0} → SchemeOf S → S → Bool
@@ -101,8 +109,8 @@ pub record StaysSound {S : Type 0} (K : SchemeOf S) (o : Origin) (k : Checkpoint
   pub sealed_storeless : K.sealed_storeless t ≡ K.sealed_storeless s
 
 pub record IsLawful {S : Type 0} (K : SchemeOf S) : Type 0 where
-  -- power can come on
-  pub powers : (p : Parameters) → (s : S) × K.powered p s
+  -- power can come on, over a DRAM of zeros
+  pub powers : (p : Parameters) → (s : S) × K.powered p s × (K.dram s ≡ fresh (dram_blocks p) p.dramq)
   pub is_new : (p : Parameters) (s : S) → K.powered p s → IsNew K p s
   -- one whose power has just come on is the one that is made over its DRAM
   pub powered_is : (p : Parameters) (s : S) → K.powered p s → s ≡ K.calls.powered_on p (K.dram s)
@@ -114,6 +122,9 @@ pub record IsLawful {S : Type 0} (K : SchemeOf S) : Type 0 where
   pub boot_holds : (o : Origin) (s : S) (n : Device) → IsBooting K o s n → BootHolds K o s n
   -- what a boot shows is the same with other turns
   pub boot_alike : (o : Origin) (turns : List ℕ) (s : S) (n : Device) → K.boot_view (with_turns o turns) s n ≡ K.boot_view o s n
+  -- a step of a boot has one outcome, if what the NVM counts has one
+  pub boot_once : (start : State) (s : S) (n : Device) (step other : BootStep) (t u : S) (x y : Device)
+      → K.calls.boot start s n step t x → K.calls.boot start s n other u y → CountAlike n x y → (step ≡ other) × (t ≡ u) × (x ≡ y)
   -- what holds of a lawful scheme after the boot
   pub run_holds : (o : Origin) (k : CheckpointMarks) (s : S) (n : Device) → Stands K o k s n → RunHolds K o k s n
   -- blocks are held only while the NVM is up, and are stored only if no page is being promoted

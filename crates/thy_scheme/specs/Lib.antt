@@ -5,7 +5,6 @@ pub mod Calls
 pub mod Boots
 pub mod Laws
 pub mod SchemeStore
-pub mod Restart
 pub mod Machine
 pub mod Pace
 pub mod Sound

@@ -3,17 +3,22 @@
 use Rattle.std.specs.Prelude.{◌≡◌, ◌≢◌, ◌⊎◌, ℕ, ◌+◌, ◌-◌, ◌==◌, ◌≤◌, if◌then◌else◌, not, true, false, Bool, Option, Some, None}
 use Rattle.thy_block.specs.declared.cause.EndCause.{EndCause}
 use Rattle.thy_block.specs.declared.cause.EndCause.TheVariants.{Length, Exhausted, Ended}
-use Rattle.thy_block.specs.Device.{Device}
+use Rattle.thy_block.specs.declared.store.Stored.{Stored}
+use Rattle.thy_block.specs.declared.store.Stored.TheVariants.{Done, CopyFirst}
+use Rattle.thy_block.specs.Device.{Device, block_at}
 use Rattle.thy_block.specs.Marks.{mark}
 use Rattle.thy_cache.specs.declared.line.Flushed.{Flushed}
-use Rattle.thy_cache.specs.declared.line.Flushed.TheVariants.{Clean}
-use Rattle.thy_cache.specs.Contents.{Contents, dirty_count, flushed_from, HasFlushed, CountsFlushed, KeepsSize, KeepsOpen}
+use Rattle.thy_cache.specs.declared.line.Flushed.TheVariants.{Clean, Line as StoredLine, CopyFirst as CopiedFirst}
+use Rattle.thy_cache.specs.declared.line.Line.{Line}
+use Rattle.thy_cache.specs.declared.line.Victim.{Victim}
+use Rattle.thy_cache.specs.declared.line.Victim.TheVariants.{Room, Dirty}
+use Rattle.thy_cache.specs.Contents.{Contents, dirty_count, dirty_line, victim_of, victim_line_of, filled_with, evicted_for, flushed_from, HasFlushed, CountsFlushed, KeepsSize, KeepsOpen}
 use Rattle.thy_cache.specs.Flat.{flat, Agrees}
 use Rattle.thy_hart.specs.Epoch.{next_epoch}
 use Rattle.thy_hart.specs.declared.hand.HartStep.{HartStep}
 use Rattle.thy_hart.specs.declared.hand.HartStep.TheVariants.{Moved, Retired, Waiting, Over}
-use Rattle.thy_hart.specs.Outcomes.{Given}
-use Rattle.thy_hart.specs.HartState.{HartState, new_hart, secured}
+use Rattle.thy_hart.specs.Outcomes.{Given, cache_by}
+use Rattle.thy_hart.specs.HartState.{HartState, next_block, new_hart, secured}
 use Rattle.thy_hart.specs.Moments.{moment, brings_line}
 use Rattle.thy_hart.specs.OneStep.{IsStep}
 use Rattle.thy_isa.specs.declared.state.CpuState.{CpuState}
@@ -26,12 +31,65 @@ use Rattle.thy_view.specs.declared.did.Did.{Did}
 use Rattle.thy_view.specs.declared.did.Did.TheVariants.{Moved as DidMove, Retired as DidRetire}
 use Rattle.thy_view.specs.declared.view.Phase.{Phase}
 use Rattle.thy_view.specs.declared.view.Phase.TheVariants.{Run, Halt}
+use Rattle.thy_view.specs.Action.{Action, Rest, IsAfter}
 use Rattle.thy_view.specs.Origin.{Origin}
 use Rattle.thy_scheme.specs.CheckpointMarks.{only, marks_after}
+use Rattle.thy_scheme.specs.Exact.{Made}
 use Rattle.thy_scheme.specs.Scheme.{SchemeOf}
 use Rattle.thy_scheme.specs.Calls.{IsOneAccess}
 use Rattle.thy_scheme.specs.SchemeStore.{held_by_scheme}
 use Rattle.thy_scheme.specs.Machine.{Lengths, Machine, cpu_fronted, moment_of}
+
+-- ---- what is left below the hart
+
+-- what is left below a hart: cache and scheme, and what the NVM was asked for
+pub record Below (S : Type 0) : Type 0 where
+  pub cache : Contents
+  pub scheme : S
+  pub action : Action
+
+pub record IsBelow {S : Type 0} (b : Below S) (n : Device) (c : Contents) (t : S) (new : Device) : Type 0 where
+  pub cache_is : c ≡ b.cache
+  pub scheme_is : t ≡ b.scheme
+  pub nvm_is : IsAfter b.action n new
+
+-- the line in a block's way was stored, or a copy came first; by what the store made
+abbrev pub evicted_by : {S : Type 0} → Made S Stored → ℕ → Machine S → Below S
+evicted_by made b m = record { cache = evicted_for made.answer b m.cache; scheme = made.scheme; action = made.action }
+
+abbrev pub line_evicted : {S : Type 0} → SchemeOf S → ℕ → Option Line → Machine S → Device → Below S
+line_evicted K b None m n = record { cache = m.cache; scheme = m.scheme; action = Rest }
+line_evicted K b (Some line) m n = evicted_by (K.calls.store line.at line.block m.scheme n) b m
+
+-- a line is brought: with room its block is filled in
+abbrev pub line_brought : {S : Type 0} → SchemeOf S → ℕ → Victim → Machine S → Device → Below S
+line_brought K b Room m n =
+    record { cache = filled_with b (block_at (K.holding m.scheme n).blocks b) m.cache; scheme = m.scheme; action = Rest }
+line_brought K b (Dirty at) m n = line_evicted K b (victim_line_of m.cache b) m n
+
+-- what is left below a hart: what a line that is brought leaves, of the block that is touched next, or only another cache
+abbrev pub below_by : {S : Type 0} → SchemeOf S → Bool → Option ℕ → Machine S → Device → Below S
+below_by K true (Some b) m n = line_brought K b (victim_of m.cache b) m n
+below_by K brings block m n = record { cache = cache_by m.cache m.hart m.hart.hand; scheme = m.scheme; action = Rest }
+
+abbrev pub below_after : {S : Type 0} → SchemeOf S → Machine S → Device → Below S
+below_after K m n = below_by K (brings_line (moment_of K m n)) (next_block m.hart) m n
+
+-- the first dirty line was flushed
+abbrev pub flushed_as : Stored → Flushed
+flushed_as Done = StoredLine
+flushed_as CopyFirst = CopiedFirst
+
+abbrev pub flushed_by : {S : Type 0} → Made S Stored → Machine S → Below S
+flushed_by made m =
+    record { cache = flushed_from (flushed_as made.answer) m.cache; scheme = made.scheme; action = made.action }
+
+abbrev pub flushed_line : {S : Type 0} → SchemeOf S → Option Line → Machine S → Device → Below S
+flushed_line K None m n = record { cache = m.cache; scheme = m.scheme; action = Rest }
+flushed_line K (Some line) m n = flushed_by (K.calls.store line.at line.block m.scheme n) m
+
+abbrev pub line_flushed : {S : Type 0} → SchemeOf S → Machine S → Device → Below S
+line_flushed K m n = flushed_line K (dirty_line m.cache) m n
 
 -- ---- what the calls leave
 
@@ -48,6 +106,8 @@ pub record HartCall {S : Type 0} (K : SchemeOf S) (g : Given) (m : Machine S) (n
   -- no more lines become dirty than secured room is used, and without a dirty line nothing is stored
   pub tidy : dirty_count c ≤ dirty_count m.cache + (secured m.hart.hand - secured h.hand)
   pub rests : dirty_count m.cache ≡ 0 → K.storeless t ≡ K.storeless m.scheme
+  -- exactly this is left below it
+  pub below : IsBelow (below_after K m n) n c t new
 
 -- a step of a flush left this cache and scheme; it was not the last
 pub record FlushCall {S : Type 0} (K : SchemeOf S) (m : Machine S) (n : Device) (flushed : Flushed) (c : Contents) (t : S) (new : Device) : Type 0 where
@@ -60,6 +120,7 @@ pub record FlushCall {S : Type 0} (K : SchemeOf S) (m : Machine S) (n : Device) 
   pub opened : KeepsOpen m.cache (held_by_scheme K m.scheme n) c (held_by_scheme K t new)
   pub sized : KeepsSize m.cache c
   pub access : IsOneAccess K m.scheme n t new
+  pub made : IsBelow (line_flushed K m n) n c t new
 
 -- ---- whose instruction is begun
 

@@ -13,7 +13,6 @@ ghost use Rattle.thy_scheme.specs.Exact.{Makes};
 ghost use Rattle.thy_scheme.specs.Scheme.{SchemeOf, StaysOf, Stands, CanRun, IsBooting, CanBoot};
 ghost use Rattle.thy_scheme.specs.Calls.{IsOneAccess, Stores, Merges, Promotes, PromotionFails, TakesNoAction, Drains, Seals, Engines, EngineFails};
 ghost use Rattle.thy_scheme.specs.Boots.{BootsOn, BootFails, BootDrains};
-ghost use Rattle.thy_scheme.specs.Restart.{WritesNothing};
 ghost use Rattle.thy_scheme.specs.Laws.{IsLawful};
 
 use std::alloc::{AllocError, Global};
@@ -57,8 +56,7 @@ pub trait Scheme: Drop {
         ensures kept { IsKeptByLoad (scheme.holding self.now (N.device nvm.old)) (scheme.holding self.now (N.device nvm.new)) }
         ensures stays { scheme.stays self.now (N.device nvm.old) self.now (N.device nvm.new) }
         ensures frame { IsFramed (N.device nvm.old) (N.device nvm.new) }
-        ensures cause { CountsFault result (N.device nvm.old).faults (N.device nvm.new).faults }
-        ensures same_writes { N.writes nvm.new ≡ N.writes nvm.old };
+        ensures cause { CountsFault result (N.device nvm.old).faults (N.device nvm.new).faults };
 
     /// Stores block `b` of memory, or makes the copy that has to come first.
     fn store<N: Nvm>(&mut self, b: u64, block: &Block, nvm: &mut N) -> Result<Stored, NvmError>
@@ -81,8 +79,7 @@ pub trait Scheme: Drop {
         ensures same { OnOk result (N.device nvm.new ≡ N.device nvm.old) }
         ensures err { OnErr result (HasFailed (N.device nvm.old) (N.device nvm.new)) }
         ensures frame { IsFramed (N.device nvm.old) (N.device nvm.new) }
-        ensures cause { CountsFault result (N.device nvm.old).faults (N.device nvm.new).faults }
-        ensures same_writes { N.writes nvm.new ≡ N.writes nvm.old };
+        ensures cause { CountsFault result (N.device nvm.old).faults (N.device nvm.new).faults };
 
     /// How many table entries are free.
     fn free(&self) -> u64
@@ -137,7 +134,6 @@ pub trait Scheme: Drop {
         ensures left { OnErr result (StaysOf scheme self.old self.new) }
         ensures frame { IsFramed (N.device nvm.old) (N.device nvm.new) }
         ensures cause { CountsFault result (N.device nvm.old).faults (N.device nvm.new).faults }
-        ensures same_writes { N.writes nvm.new ≡ N.writes nvm.old }
         ensures exact { let made = scheme.calls.promote self.old (N.device nvm.old) in
             IfOk result (λ done. Makes made done (N.device nvm.old) self.new (N.device nvm.new)) };
 
@@ -175,7 +171,6 @@ pub trait Scheme: Drop {
         ensures left { OnErr result (StaysOf scheme self.old self.new) }
         ensures frame { IsFramed (N.device nvm.old) (N.device nvm.new) }
         ensures cause { CountsFault result (N.device nvm.old).faults (N.device nvm.new).faults }
-        ensures no_writes { WritesNothing scheme self.old (N.device nvm.old) (N.writes nvm.old) (N.writes nvm.new) }
         ensures exact { let s = state_of start.now.state in
             IfOk result (λ step. scheme.calls.boot s self.old (N.device nvm.old) step self.new (N.device nvm.new)) };
 

@@ -11,14 +11,15 @@ pub struct SchemeStore<S> {
 }
 
 impl<N: Nvm, S: Scheme> BlockStore<N> for SchemeStore<S> {
-    ghost use Rattle.std.specs.Prelude.{◌≡◌};
-    ghost use Rattle.thy_scheme.specs.SchemeStore.{held_by_scheme, IsOneCall};
+    ghost use Rattle.thy_scheme.specs.SchemeStore.{held_by_scheme, loads_by, stores_by, IsOneCall};
 
     ghost holding = { λ store nvm. held_by_scheme S.scheme store.scheme (N.device nvm) };
 
     ghost once = { λ a m b n. IsOneCall S.scheme a (N.device m) b (N.device n) };
 
-    ghost loads = { λ a m b n. b.scheme ≡ a.scheme };
+    ghost loads = { loads_by N.device };
+
+    ghost stores = { stores_by S.scheme N.device };
 
     ghost stays = { λ a m b n. S.scheme.stays a.scheme (N.device m) b.scheme (N.device n) };
 

@@ -1,2 +1,3 @@
 mod FillLemmas
 mod BlockLemmas
+mod ActLemmas

@@ -47,7 +47,6 @@ impl Fills for Relist {
         ensures ok { OnOk result (control.new ≡ control.old) }
         ensures err { OnErr result (control.new ≡ control.old) }
         ensures nvm { Takes (ReadAt header_place) result (N.device nvm.old) (N.device nvm.new) }
-        ensures same_writes { N.writes nvm.new ≡ N.writes nvm.old }
     {
         nvm.read(HEADER_PLACE)?;
         Ok(())

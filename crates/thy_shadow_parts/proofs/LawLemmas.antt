@@ -10,6 +10,7 @@ use Rattle.thy_shadow_parts.proofs.DrainLemmas.{works_drained, IsSoundState-drai
 use Rattle.thy_shadow_parts.specs.Filling.{filling_shadow, IsUnframed}
 use Rattle.thy_shadow_parts.proofs.ListLemmas.{works_are_memory}
 use Rattle.thy_shadow_parts.proofs.FirstLemmas.{start_fits, start_cpu, fresh_loads}
+use Rattle.thy_shadow_parts.proofs.OnceLemmas.{slot_listed_once}
 
 unframed_drained : (s : State) → IsUnframed s → IsUnframed (after_drain s)
 unframed_drained s h = record { state = IsSoundState-drained s h.state; free = h.free; unbegun = h.unbegun }
@@ -26,6 +27,7 @@ pool_is_listed = record {
   same_keeps = λ s. refl;
   ends = λ s n commit slot from lists filled none settled long is slot_is. (tt, works_are_memory s n slot lists settled slot_is);
   renews = λ p commit slot older. absurd (never_older scheme_number p commit (omega arith) older.version);
+  lists_once = slot_listed_once;
   drain_p = λ s. refl;
   drain_fresh = λ s fresh. record { unframed = unframed_drained s fresh.unframed; first = fresh.first };
   drain_lists = λ s commit slot lists. record { unframed = unframed_drained s lists.unframed; table = lists.table };

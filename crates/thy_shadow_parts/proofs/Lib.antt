@@ -6,6 +6,7 @@ pub mod TableLemmas
 pub mod DrainLemmas
 pub mod ListLemmas
 pub mod FirstLemmas
+pub mod OnceLemmas
 pub mod LawLemmas
 pub mod CopyLemmas
 pub mod PhaseLemmas

@@ -446,17 +446,17 @@ unfolding after_store
 after_is b block n s = refl
 
 -- no store into shadow paging writes the NVM
-after_access : (case : StoreCase) (b : ℕ) (s : State) (n : Device) → after (store_action case b s) n ≡ n
+after_access : (case : StoreCase) (b : ℕ) (s : State) (n : Device) → after n.writes (store_action case b s) n ≡ n
 after_access (Into j) b s n = refl
 after_access case b s n = refl
 
 makes_store : (b : ℕ) (block : Block) (s : State) (n : Device) → CanStore shadow_design b s n
-    → MakesStore shadow_design b block s n (after_store b block n s) (after (store_action (store_case b s) b s) n)
+    → MakesStore shadow_design b block s n (after_store b block n s) (after n.writes (store_action (store_case b s) b s) n)
 makes_store b block s n can =
     let of : MakesCase (store_case b s) b block s n (after_case (store_case b s) b block n s) = makes_case b block s n can in
     let made : MakesStore shadow_design b block s n (after_case (store_case b s) b block n s) n
     = record { stored = of.stored; dram = of.dram; copies = of.copies; stays = of.stays; still = of.still } in
-    subst (λ (t : State). MakesStore shadow_design b block s n t (after (store_action (store_case b s) b s) n)) (sym (after_is b block n s))
+    subst (λ (t : State). MakesStore shadow_design b block s n t (after n.writes (store_action (store_case b s) b s) n)) (sym (after_is b block n s))
     (subst (λ (m : Device). MakesStore shadow_design b block s n (after_case (store_case b s) b block n s) m)
     (sym (after_access (store_case b s) b s n)) made)
 

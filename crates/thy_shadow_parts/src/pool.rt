@@ -151,7 +151,6 @@ impl Pool {
         ensures side { OnErr result (frame_of self.now (page_of b) ≡ None) }
         ensures frame { IsFramed (N.device nvm.old) (N.device nvm.new) }
         ensures cause { CountsFault result (N.device nvm.old).faults (N.device nvm.new).faults }
-        ensures same_writes { N.writes nvm.new ≡ N.writes nvm.old }
     {
         self.recall_sound();
         match self.frames.find(b / 64) {
@@ -170,7 +169,6 @@ impl Pool {
         ensures err { OnErr result (HasFailed (N.device nvm.old) (N.device nvm.new)) }
         ensures frame { IsFramed (N.device nvm.old) (N.device nvm.new) }
         ensures cause { CountsFault result (N.device nvm.old).faults (N.device nvm.new).faults }
-        ensures same_writes { N.writes nvm.new ≡ N.writes nvm.old }
     {
         let at = self.place(b / 64, b % 64);
         nvm.read(at)

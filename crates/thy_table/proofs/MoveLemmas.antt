@@ -120,8 +120,8 @@ pub ReadsTheSame-drained : (p : Parameters) (d : Devices) → AreSized p d → R
 ReadsTheSame-drained p d sized = reads_the_same p d (drained d.nvm) sized (length-drained d.nvm) (newest-drained d.nvm)
 
 -- a barrier changes nothing that is read
-pub ReadsTheSame-settled : (p : Parameters) (d : Devices) → AreSized p d → ReadsTheSame p d (record d { nvm = settled d.nvm })
-ReadsTheSame-settled p d sized = reads_the_same p d (settled d.nvm) sized (length-settled d.nvm) (newest-settled d.nvm)
+pub ReadsTheSame-settled : (p : Parameters) (d : Devices) (count : ℕ) → AreSized p d → ReadsTheSame p d (record d { nvm = settled count d.nvm })
+ReadsTheSame-settled p d count sized = reads_the_same p d (settled count d.nvm) sized (length-settled count d.nvm) (newest-settled count d.nvm)
 
 -- a drain of the DRAM changes nothing that is read
 pub ReadsTheSame-dram_drained : (p : Parameters) (d : Devices) → AreSized p d → ReadsTheSame p d (record d { dram = dram_drained d.dram })

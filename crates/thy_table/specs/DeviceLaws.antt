@@ -1,5 +1,5 @@
 -- Laws of places: a write is read at its place, and changes no other place.
-use Rattle.std.specs.Prelude.{◌≡◌, ◌≢◌, false}
+use Rattle.std.specs.Prelude.{◌≡◌, ◌≢◌, ℕ, false}
 use Rattle.thy_block.specs.declared.block.Block.{Block}
 use Rattle.thy_block.specs.declared.parameters.Parameters.{Parameters}
 use Rattle.thy_table.specs.declared.place.Place.{Place}
@@ -49,5 +49,5 @@ abbrev pub LandingMovesNothing : Type 0
 LandingMovesNothing =
     (p : Parameters) (d : Devices) → AreSized p d
     → ReadsTheSame p d (record d { nvm = drained d.nvm })
-    × ReadsTheSame p d (record d { nvm = settled d.nvm })
+    × ((count : ℕ) → ReadsTheSame p d (record d { nvm = settled count d.nvm }))
     × ReadsTheSame p d (record d { dram = dram_drained d.dram })

@@ -32,7 +32,6 @@ pub fn read_place<N: Nvm>(
     ensures side { OnErr result (in_dram place ≡ false) }
     ensures frame { IsFramed (N.device nvm.old) (N.device nvm.new) }
     ensures cause { CountsFault result (N.device nvm.old).faults (N.device nvm.new).faults }
-    ensures same_writes { N.writes nvm.new ≡ N.writes nvm.old }
 {
     let at = number(geometry, place);
     if is_in_dram(place) {

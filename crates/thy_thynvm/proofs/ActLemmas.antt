@@ -20,7 +20,7 @@ use Rattle.thy_thynvm_parts.proofs.ItemLemmas.{copied_is, issued_is}
 move_fails : (s : State) (from to : Place) (m n : Device) → FailsMove s.p from to (devices_of m s.dram) (devices_of n s.dram)
     → HasFailedToWrite (number_of s.p to) (reads s m from) m n
 move_fails s from to m n f = elim f.failed as (λ _. HasFailedToWrite (number_of s.p to) (reads s m from) m n) [
-  | inl r ↦ record { down = r.failed.down; no_more = λ x b h. no_more-with_queued m (number_of s.p to) (reads s m from) x b (r.failed.no_more x b h) }
+  | inl r ↦ record { down = r.failed.down; no_more = λ x b h. no_more-with_queued m (number_of s.p to) (reads s m from) x b (r.failed.no_more x b h); counts = r.failed.counts }
   | inr w ↦ w.failed
 ]
 
@@ -50,7 +50,7 @@ copy_state s m i found =
     ap (λ (o : Option ℕ). after_next_copy o s m) found ∙ copied_is (block_listed i s) s m
     ∙ sym (ap (λ (o : Option ℕ). written_by s o (next_page s)) found)
 
-pub copy_device : (s : State) (m : Device) (i : ℕ) → next_copy s ≡ Some i → devices_after_copy (next_copy s) s m ≡ after (action_next s m) m
+pub copy_device : (s : State) (m : Device) (i : ℕ) → next_copy s ≡ Some i → devices_after_copy (next_copy s) s m ≡ after m.writes (action_next s m) m
 unfolding devices_copied
 copy_device s m i found =
     let b : ℕ = block_listed i s in
@@ -78,7 +78,7 @@ page_state s m j none found =
     ∙ sym (ap (λ (o : Option ℕ). written_by s o (next_page s)) none ∙ ap (λ (o : Option ℕ). written_by s None o) found)
 
 pub page_device : (s : State) (m : Device) (j : ℕ) → next_copy s ≡ None → next_page s ≡ Some j
-    → devices_after_write (next_page s) s m ≡ after (action_next s m) m
+    → devices_after_write (next_page s) s m ≡ after m.writes (action_next s m) m
 unfolding devices_issued
 page_device s m j none found =
     let b : ℕ = block_to_write j s in

@@ -5,7 +5,8 @@ use Rattle.thy_block.specs.declared.nvm.NvmError.{NvmError}
 use Rattle.thy_block.specs.declared.store.Stored.{Stored}
 use Rattle.thy_block.specs.Counts.{Rose}
 use Rattle.thy_block.specs.Device.{Device, IsFramed, CountsFault}
-use Rattle.thy_view.specs.Action.{Action, FailsTo}
+use Rattle.thy_view.specs.Action.{Action, IsAfter, FailsTo}
+use Rattle.thy_view.proofs.ActionLemmas.{access-leaves}
 use Rattle.thy_control.specs.Copies.{next_copy, after_next_copy, devices_after_copy}
 use Rattle.thy_table.specs.declared.cell.Cell.{Cell}
 use Rattle.thy_table.specs.declared.cell.StoreRule.{StoreRule}
@@ -19,7 +20,7 @@ use Rattle.thy_control.proofs.PutLemmas.{put_by-reads}
 use Rattle.thy_checkpoint.specs.Progress.{Acts}
 use Rattle.thy_thynvm_parts.specs.Design.{action_next, written_next, write_there, store_action}
 use Rattle.thy_thynvm.proofs.ActLemmas.{some_copy, no_copy, copy_state, copy_device}
-use Rattle.thy_thynvm_parts.proofs.StoreLemmas.{action_is}
+use Rattle.thy_thynvm_parts.proofs.StoreLemmas.{access, action_is}
 
 -- an action that failed
 pub err_acts : {C T : Type 0} (action : Action) (later : C) (r : Result T NvmError) (s : C) (n : Device) (t : C) (m : Device) → IsErr r
@@ -76,7 +77,9 @@ pub store_acts : (b : ℕ) (block : Block) (s : State) (n : Device) (r : Result 
     → Acts (store_action b block s) (state_after b block s n) r s n t m
 store_acts b block s n (Ok x) t m state device kept failed framed cause = record {
   control = state;
-  device = device ∙ sym (action_is b block s n);
+  device =
+      subst (IsAfter (store_action b block s) n) (sym (device ∙ sym (action_is b block s n)))
+      (access-leaves (store_action b block s) n (access b block s));
   kept = tt;
   failed = tt;
   frame = framed;

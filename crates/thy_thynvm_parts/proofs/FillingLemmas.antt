@@ -26,6 +26,7 @@ use Rattle.thy_thynvm_parts.proofs.AnewLemmas.{renewed_is_the_same}
 use Rattle.thy_thynvm_parts.specs.Filling.{IsEmpty, ListsSlot, loads, next_position, page_place, filling_thynvm, position_in, with_filled}
 use Rattle.thy_thynvm_parts.specs.Start.{no_tables}
 use Rattle.thy_thynvm_parts.proofs.LiveLemmas.{live_in_tables, framed_inside}
+use Rattle.thy_thynvm_parts.proofs.OnceLemmas.{slot_listed_once}
 use Rattle.thy_thynvm_parts.proofs.StartLemmas.{first_memory, first_back, first_faultless}
 use Rattle.thy_thynvm_parts.proofs.WorkLemmas.{loads-are}
 use Rattle.std.proofs.lemmas.Bool.{cases_eq, cases_lt, both_ways}
@@ -268,6 +269,7 @@ filling_is_lawful = record {
       let holds : HoldAll c n = held c n commit slot from lists none settled is filled in
       (holds, memory_same c n commit slot from lists none settled is holds);
   renews = renewed_is_the_same;
+  lists_once = slot_listed_once;
   drain_p = λ c. refl;
   drain_fresh = fresh_drained;
   drain_lists = λ c commit slot lists. ListsSlot-dram commit slot c (filling_thynvm.drained c).dram refl lists;

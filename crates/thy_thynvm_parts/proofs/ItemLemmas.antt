@@ -1,7 +1,7 @@
 -- Every position that is written leads to the next one.
 use Rattle.std.proofs.Common.{◌≡◌, ◌⊎◌, ℕ, ◌+◌, ◌*◌, ◌≤◌, nat_lt, Bool, true, false, if◌then◌else◌, [], replicate, Option, Some, None, refl, sym, ◌∙◌, ap, subst, inl, inr, arith}
 use Rattle.std.proofs.lemmas.List.{length-replicate}
-use Rattle.thy_block.specs.Device.{Device, zero_block}
+use Rattle.thy_block.specs.Device.{Device, Plain, zero_block}
 use Rattle.thy_block.specs.Store.{page_of}
 use Rattle.thy_table.specs.declared.place.Place.{Place}
 use Rattle.thy_table.specs.Places.{in_dram, number_of, image_blocks}
@@ -54,6 +54,8 @@ some_device s = record {
   fits = 0;
   lent = [];
   whole = true;
+  writes = 0;
+  wear = Plain;
 }
 
 some_sized : (s : State) → IsSized s (some_device s)

@@ -4,6 +4,7 @@ pub mod WorkLemmas
 pub mod StartLemmas
 pub mod BootSlotLemmas
 pub mod AnewLemmas
+pub mod OnceLemmas
 pub mod FillingLemmas
 pub mod BootedLemmas
 pub mod RuleLemmas

@@ -136,17 +136,17 @@ held_as CopyFirst b block s n t m h = record {
 
 -- both devices after a write at a place, as an action on the NVM
 acts_there : (side : Bool) (x : ℕ) (block : Block) (d : Devices)
-    → after (write_there side x block) d.nvm ≡ (if side then record d { dram = written d.dram x block } else record d { nvm = written_to d.nvm x block }).nvm
+    → after d.nvm.writes (write_there side x block) d.nvm ≡ (if side then record d { dram = written d.dram x block } else record d { nvm = written_to d.nvm x block }).nvm
 acts_there true x block d = refl
 acts_there false x block d = refl
 
-pub action_is : (b : ℕ) (block : Block) (s : State) (n : Device) → after (store_action b block s) n ≡ (devices_after b block s n).nvm
+pub action_is : (b : ℕ) (block : Block) (s : State) (n : Device) → after n.writes (store_action b block s) n ≡ (devices_after b block s n).nvm
 unfolding devices_after
 action_is b block s n =
     let c : Cell = cell_before b s in
     let r : StoreRule = rule_for b s in
     let x : Place = store_place r c in
-    ap (λ (v : Block). after (write_there (in_dram x) (number_of s.p x) v) n) (put_by-reads r block s n c)
+    ap (λ (v : Block). after n.writes (write_there (in_dram x) (number_of s.p x) v) n) (put_by-reads r block s n c)
     ∙ acts_there (in_dram x) (number_of s.p x) (put_by r block (reads s n) c) (devices_of n s.dram)
 
 framed_there : (side : Bool) (x : ℕ) (block : Block) (d : Devices)
@@ -185,7 +185,7 @@ access_there : (side : Bool) (x : ℕ) (block : Block) → (side ≡ false → 2
 access_there true x block behind = tt
 access_there false x block behind = λ e. let low : 2 ≤ x = behind refl in absurd (omega (arith, e, low))
 
-access : (b : ℕ) (block : Block) (s : State) → IsAccess (store_action b block s)
+pub access : (b : ℕ) (block : Block) (s : State) → IsAccess (store_action b block s)
 access b block s =
     let x : Place = store_place (rule_for b s) (cell_before b s) in
     access_there (in_dram x) (number_of s.p x) (put_by (rule_for b s) block (λ y. block_at s.dram.blocks (number_of s.p y)) (cell_before b s)) (λ side.
@@ -280,7 +280,7 @@ module _ (b : ℕ) (block : Block) (s : State) (n : Device) (can : CanStore thyn
         still = λ h. let no : false ≡ true = h in absurd cc;
       }
 
-  makes : MakesStore thynvm_design b block s n t (after (store_action b block s) n)
+  makes : MakesStore thynvm_design b block s n t (after n.writes (store_action b block s) n)
   makes = subst (λ (m : Device). MakesStore thynvm_design b block s n t m) (sym (action_is b block s n)) makes_device
 
   -- a write of a store that failed

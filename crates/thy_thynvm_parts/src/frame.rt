@@ -24,7 +24,6 @@ pub fn fill<N: Nvm>(
         OnOk result (control.new ≡ with_filled k block control.old) }
     ensures err { OnErr result (control.new ≡ control.old) }
     ensures nvm { Takes (ReadAt (page_place control.old k)) result (N.device nvm.old) (N.device nvm.new) }
-    ensures same_writes { N.writes nvm.new ≡ N.writes nvm.old }
 {
     let _commit = commit;
     control.frame_block((k / PAGE_BLOCKS) as usize, k % PAGE_BLOCKS, nvm)

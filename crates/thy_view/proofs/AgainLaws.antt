@@ -25,9 +25,9 @@ sealed_in o flag kept sealed (At epoch state) one =
     (elim one.0 as (λ _. (kept ≡ Some is) ⊎ (sealed ≡ Some is)) [ inl e ↦ inl e | inr e ↦ inr (flag_some flag sealed is e) ], one.1)
 
 pub goes_on_after_cut : {M : Type 0} (K : KindOf M) → IsLawful K → GoesOnAfterCut K
-goes_on_after_cut K laws o k m next n tear g at powered crash =
+goes_on_after_cut K laws o k m next n tear g wear at powered crash =
     let v = K.view o m n in
-    laws.finds o k m next n (cut_to n tear g) at powered (record {
+    laws.finds o k m next n (cut_to n tear g wear) at powered (record {
       up = refl;
       settled = refl;
       blocks = crash.same_length ∙ laws.sized o k m n at;
@@ -35,9 +35,9 @@ goes_on_after_cut K laws o k m next n tear g at powered crash =
     })
 
 pub goes_on_after_fault : {M : Type 0} (K : KindOf M) → IsLawful K → GoesOnAfterFault K
-goes_on_after_fault K laws o k pick m stopped next n new tear g at leaves framed powered crash =
+goes_on_after_fault K laws o k pick m stopped next n new tear g wear at leaves framed powered crash =
     let v = K.view o m n in
-    laws.finds o k m next n (cut_to new tear g) at powered (record {
+    laws.finds o k m next n (cut_to new tear g wear) at powered (record {
       up = refl;
       settled = refl;
       blocks = crash.same_length ∙ (framed.blocks ∙ laws.sized o k m n at);

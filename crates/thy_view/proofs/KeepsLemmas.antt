@@ -2,15 +2,15 @@
 use Rattle.std.proofs.Common.{◌≡◌, ◌⊎◌, ℕ, List, [], length, Option, Some, None, refl, sym, ◌∙◌, ap, subst, inl, inr, arith}
 use Rattle.thy_block.specs.declared.block.Block.{Block}
 use Rattle.thy_block.specs.declared.mark.Mark.{Mark}
-use Rattle.thy_block.specs.Device.{Device, Crash, IsOneWordApart, IsCut, IsFramed, block_at, settled, written_to, drained}
+use Rattle.thy_block.specs.Device.{Device, Crash, IsOneWordApart, IsCut, IsFramed, Settles, block_at, written_to}
 use Rattle.thy_block.proofs.DeviceLemmas.{length-settled, length-written_to}
 use Rattle.thy_layout.specs.Decoded.{Decoded, At}
 use Rattle.thy_layout.specs.Saved.{Saved, Kept, Ready, InDoubt, IsCopy, IsCrashOfSaved, IsIssued, guarded}
 use Rattle.thy_layout.specs.Fixed.{Reads}
 use Rattle.thy_layout.specs.Spares.{Spares}
 use Rattle.thy_layout.proofs.SavedLemmas.{left_of_saved, IsKept-cut, IsKept-empty, IsSaved-spared, IsReady-settled, IsInDoubt-written, IsInDoubt-failed, IsKept-settled}
-use Rattle.thy_layout.proofs.SparesLemmas.{Spares-same, Spares-drained, Spares-settled, Spares-written, Spares-failed, Spares-failed_to_write}
-use Rattle.thy_view.specs.Action.{Action, Rest, ReadAt, WriteAt, Barrier, Drain, after, FailsTo}
+use Rattle.thy_layout.proofs.SparesLemmas.{Spares-same, Spares-drained, Spares-settled, Spares-written, Spares-failed, Spares-failed_to_write, Spares-unsettled}
+use Rattle.thy_view.specs.Action.{Action, Rest, ReadAt, WriteAt, Barrier, Drain, IsLeftBy, FailsTo}
 use Rattle.thy_view.proofs.SafeLemmas.{Safe-doubt}
 use Rattle.thy_view.proofs.TurnLaws.{at-early}
 use Rattle.thy_view.specs.Booting.{boot_view, found_first, view_of_image}
@@ -137,10 +137,10 @@ Keeps-goes o l s kept sealed old new spares k = record {
 }
 
 Keeps-readies : (o : Origin) (l : Layout) (before next : List Block) (kept : Option Mark) (m : Mark) (old new : Device)
-    → IsIssued (looked_by l) old next → IsOf o l next m → new ≡ settled old
+    → IsIssued (looked_by l) old next → IsOf o l next m → Settles old new
     → Keeps o l old (Kept before) kept (Some m) → Keeps o l new (Ready before next) kept (Some m)
 Keeps-readies o l before next kept m old new issued is e k = record {
-  sized = ap (λ n. length n.image) e ∙ length-settled old ∙ k.sized;
+  sized = ap (λ n. length n.image) e ∙ length-settled new.writes old ∙ k.sized;
   saved = IsReady-settled (looked_by l) before next old new k.saved issued e;
   meant = (k.meant, is);
 }
@@ -162,10 +162,10 @@ Keeps-commits o l before next kept m old new apart how k = elim how as (λ _. Ke
 ]
 
 Keeps-confirms : (o : Origin) (l : Layout) (before next : List Block) (kept : Option Mark) (m : Mark) (old new : Device)
-    → Reads old 1 (block_at next 1) → new ≡ settled old
+    → Reads old 1 (block_at next 1) → Settles old new
     → Keeps o l old (InDoubt before next) kept (Some m) → Keeps o l new (Kept next) (Some m) None
 Keeps-confirms o l before next kept m old new read e k = record {
-  sized = ap (λ n. length n.image) e ∙ length-settled old ∙ k.sized;
+  sized = ap (λ n. length n.image) e ∙ length-settled new.writes old ∙ k.sized;
   saved = IsKept-settled (looked_by l) before next old new k.saved read e;
   meant = k.meant.1;
 }
@@ -191,17 +191,17 @@ Safe-moves layouts o a b k moves =
 
 -- ---- what a cycle's action spares
 
-pub Spares-action : (places : List ℕ) (action : Action) (n : Device) → LeavesAlone places action → Spares places n (after action n)
-Spares-action places Rest n alone = Spares-same places n n refl
-Spares-action places (ReadAt place) n alone = Spares-same places n n refl
-Spares-action places (WriteAt place block) n alone = Spares-written places place block n (written_to n place block) alone refl
-Spares-action places Barrier n alone = Spares-settled places n (settled n) refl
-Spares-action places Drain n alone = Spares-drained places n (drained n) refl
+pub Spares-action : (places : List ℕ) (action : Action) (n new : Device) → LeavesAlone places action → IsLeftBy action n new → Spares places n new
+Spares-action places Rest n new alone left = Spares-same places n new left
+Spares-action places (ReadAt place) n new alone left = Spares-same places n new left
+Spares-action places (WriteAt place block) n new alone left = Spares-written places place block n new alone left
+Spares-action places Barrier n new alone left = Spares-settled places n new left
+Spares-action places Drain n new alone left = Spares-drained places n new left
 
 pub Spares-failed_action : (places : List ℕ) (action : Action) (n new : Device)
     → LeavesAlone places action → FailsTo action n new → IsFramed n new → Spares places n new
 Spares-failed_action places Rest n new alone failed framed = absurd failed
 Spares-failed_action places (ReadAt place) n new alone failed framed = Spares-failed places n new failed framed
 Spares-failed_action places (WriteAt place block) n new alone failed framed = Spares-failed_to_write places place block n new alone failed framed
-Spares-failed_action places Barrier n new alone failed framed = Spares-failed places n new failed framed
+Spares-failed_action places Barrier n new alone failed framed = Spares-unsettled places n new failed framed
 Spares-failed_action places Drain n new alone failed framed = Spares-failed places n new failed framed

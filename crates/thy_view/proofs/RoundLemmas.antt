@@ -2,15 +2,15 @@
 use Rattle.std.proofs.Common.{◌≡◌, ℕ, ◌+◌, ◌<◌, ◌≤◌, nat_lt, Bool, true, false, if◌then◌else◌, List, length, Option, Some, None, refl, sym, ◌∙◌, ap, subst, inl, inr, arith}
 use Rattle.std.proofs.lemmas.Bool.{cases_eq, ltb-true, ltb-false}
 use Rattle.thy_block.specs.declared.block.Block.{Block}
-use Rattle.thy_block.specs.Device.{Device, IsOneWordApart, block_at, newest, settled, drained, written_to, HasFailedToWrite}
+use Rattle.thy_block.specs.Device.{Device, IsOneWordApart, Settles, block_at, newest, drained, written_to, HasFailedToWrite}
 use Rattle.thy_block.proofs.DeviceLemmas.{length-settled, newest-settled}
 use Rattle.thy_layout.specs.Fixed.{Reads}
 use Rattle.thy_layout.specs.Saved.{Kept, InDoubt, guarded, next_image}
 use Rattle.thy_layout.proofs.FixedLemmas.{Reads-written, Reads-elsewhere, Reads-settled, Reads-drained}
-use Rattle.thy_layout.proofs.SparesLemmas.{Spares-written, Spares-failed, Spares-failed_to_write}
+use Rattle.thy_layout.proofs.SparesLemmas.{Spares-written, Spares-unsettled, Spares-failed_to_write}
 use Rattle.thy_layout.specs.Layout.{looked_by}
 use Rattle.thy_layout.proofs.AskingLemmas.{map-alike}
-use Rattle.thy_view.specs.Action.{after, IsBootAction}
+use Rattle.thy_view.specs.Action.{IsLeftBy, IsBootAction}
 use Rattle.thy_view.specs.declared.round.Round.{Round}
 use Rattle.thy_view.specs.declared.round.Round.TheVariants.{Write, Settle, Commit, Confirm}
 use Rattle.thy_view.specs.Issuing.{CheckpointParts, ArePlaced, AreIssued}
@@ -66,38 +66,38 @@ round_asks w Confirm = tt
 -- ---- the checkpoints
 
 pub rounds_move : RoundsMove
-rounds_move o l m w (Write k) before next kept n spared =
-    next_by (λ (q : Round). Move o l (standing n (Kept before) kept (Some m)) (standing (written_to n (w.place k) (w.block k)) (saved_in q before next) kept (Some m)))
+rounds_move o l m w (Write k) before next kept n new spared left =
+    next_by (λ (q : Round). Move o l (standing n (Kept before) kept (Some m)) (standing new (saved_in q before next) kept (Some m)))
     k w.blocks (λ more. goes) (λ last. goes)
   where
-    goes : Move o l (standing n (Kept before) kept (Some m)) (standing (written_to n (w.place k) (w.block k)) (Kept before) kept (Some m))
+    goes : Move o l (standing n (Kept before) kept (Some m)) (standing new (Kept before) kept (Some m))
     goes =
-        Goes (Kept before) kept (Some m) n (written_to n (w.place k) (w.block k))
-        (Spares-written (guarded (looked_by l) (Kept before)) (w.place k) (w.block k) n (written_to n (w.place k) (w.block k)) spared refl)
-rounds_move o l m w Settle before next kept n made = Readies before (next_image n w.commit) kept m n (settled n) made.1 made.0 refl
-rounds_move o l m w Commit before next kept n commit =
-    Commits before next kept m n (written_to n 1 w.commit) (subst (IsOneWordApart (block_at before 1)) (sym commit.0) commit.1)
-    (inl (ap (written_to n 1) (sym commit.0)))
-rounds_move o l m w Confirm before next kept n made =
-    Confirms before next kept m n (settled n) (subst (Reads n 1) (sym made.0) made.1) refl
+        Goes (Kept before) kept (Some m) n new
+        (Spares-written (guarded (looked_by l) (Kept before)) (w.place k) (w.block k) n new spared left)
+rounds_move o l m w Settle before next kept n new made left = Readies before (next_image n w.commit) kept m n new made.1 made.0 left
+rounds_move o l m w Commit before next kept n new commit left =
+    Commits before next kept m n new (subst (IsOneWordApart (block_at before 1)) (sym commit.0) commit.1)
+    (inl (left ∙ ap (written_to n 1) (sym commit.0)))
+rounds_move o l m w Confirm before next kept n new made left =
+    Confirms before next kept m n new (subst (Reads n 1) (sym made.0) made.1) left
 
 pub failed_rounds_move : FailedRoundsMove
 failed_rounds_move o l m w (Write k) before next kept n new spared failed framed =
     Goes (Kept before) kept (Some m) n new
     (Spares-failed_to_write (guarded (looked_by l) (Kept before)) (w.place k) (w.block k) n new spared failed framed)
 failed_rounds_move o l m w Settle before next kept n new made failed framed =
-    Goes (Kept before) kept (Some m) n new (Spares-failed (guarded (looked_by l) (Kept before)) n new failed framed)
+    Goes (Kept before) kept (Some m) n new (Spares-unsettled (guarded (looked_by l) (Kept before)) n new failed framed)
 failed_rounds_move o l m w Commit before next kept n new commit failed framed =
     Commits before next kept m n new (subst (IsOneWordApart (block_at before 1)) (sym commit.0) commit.1)
     (inr (subst (λ (b : Block). HasFailedToWrite 1 b n new) (sym commit.0) failed, framed))
 failed_rounds_move o l m w Confirm before next kept n new made failed framed =
-    Goes (InDoubt before next) kept (Some m) n new (Spares-failed (guarded (looked_by l) (InDoubt before next)) n new failed framed)
+    Goes (InDoubt before next) kept (Some m) n new (Spares-unsettled (guarded (looked_by l) (InDoubt before next)) n new failed framed)
 
 -- ---- what was written
 
 module _ (w : RoundWrites) where
-  written_settled : (k : ℕ) (n : Device) → HasWritten w k n → HasWritten w k (settled n)
-  written_settled k n h = record { each = λ i l. Reads-settled (w.place i) (w.block i) n (settled n) (h.each i l) refl }
+  written_settled : (k : ℕ) (n new : Device) → Settles n new → HasWritten w k n → HasWritten w k new
+  written_settled k n new e h = record { each = λ i l. Reads-settled (w.place i) (w.block i) n new (h.each i l) e }
 
   written_drained : (k : ℕ) (n : Device) → HasWritten w k n → HasWritten w k (drained n)
   written_drained k n h = record { each = λ i l. Reads-drained (w.place i) (w.block i) n (drained n) (h.each i l) refl }
@@ -109,76 +109,74 @@ module _ (w : RoundWrites) where
   drain_keeps_written Confirm n h = (written_drained w.blocks n h.0, Reads-drained 1 w.commit n (drained n) h.1 refl)
 
   -- one block more of a round was written
-  written_more : (image_blocks k : ℕ) (n : Device) → AreApart image_blocks w → length n.image ≡ image_blocks → k < w.blocks → HasWritten w k n
-      → HasWritten w (k + 1) (written_to n (w.place k) (w.block k))
-  written_more image_blocks k n apart sized low h =
-      let new : Device = written_to n (w.place k) (w.block k) in
+  written_more : (image_blocks k : ℕ) (n new : Device) → AreApart image_blocks w → length n.image ≡ image_blocks → k < w.blocks → HasWritten w k n
+      → new ≡ written_to n (w.place k) (w.block k) → HasWritten w (k + 1) new
+  written_more image_blocks k n new apart sized low h left =
       let inside = apart.inside k low in
       record {
         each = λ i l. elim (cases_eq i k) as (λ _. Reads new (w.place i) (w.block i)) [
           | inl e ↦
               subst (λ (j : ℕ). Reads new (w.place j) (w.block j)) (sym e)
-              (Reads-written (w.place k) (w.block k) n new (omega (arith, inside, sized)) refl)
+              (Reads-written (w.place k) (w.block k) n new (omega (arith, inside, sized)) left)
           | inr other ↦
               Reads-elsewhere (w.place i) (w.block i) (w.place k) (w.block k) n new (h.each i (omega arith))
-              (λ e. let same = apart.once i k (omega (arith, low)) low e in omega arith) refl
+              (λ e. let same = apart.once i k (omega (arith, low)) low e in omega arith) left
         ];
       }
 
-  pub rounds_write : (image_blocks : ℕ) (r : Round) (n : Device) → AreApart image_blocks w → length n.image ≡ image_blocks → IsInRound w.blocks r
-      → HasWrittenBefore w r n → HasWrittenThen w (next_round w.blocks r) (after (round_action w r) n)
-  rounds_write image_blocks (Write k) n apart sized low h =
-      let new : Device = written_to n (w.place k) (w.block k) in
-      let wrote : HasWritten w (k + 1) new = written_more image_blocks k n apart sized low h in
+  pub rounds_write : (image_blocks : ℕ) (r : Round) (n new : Device) → AreApart image_blocks w → length n.image ≡ image_blocks → IsInRound w.blocks r
+      → HasWrittenBefore w r n → IsLeftBy (round_action w r) n new → HasWrittenThen w (next_round w.blocks r) new
+  rounds_write image_blocks (Write k) n new apart sized low h left =
+      let wrote : HasWritten w (k + 1) new = written_more image_blocks k n new apart sized low h left in
       next_by (λ (q : Round). IsInRound w.blocks q × HasWrittenBefore w q new) k w.blocks (λ more. (more, wrote))
       (λ last. let all : k + 1 ≡ w.blocks = omega (arith, low, last) in (tt, subst (λ (j : ℕ). HasWritten w j new) all wrote))
-  rounds_write image_blocks Settle n apart sized low h = (tt, written_settled w.blocks n h)
-  rounds_write image_blocks Commit n apart sized low h =
-      let new : Device = written_to n 1 w.commit in (
-        tt,
-        (
-          record { each = λ i l. Reads-elsewhere (w.place i) (w.block i) 1 w.commit n new (h.each i l) (apart.elsewhere i l) refl },
-          Reads-written 1 w.commit n new (omega (arith, apart.room, sized)) refl,
-        ),
-      )
-  rounds_write image_blocks Confirm n apart sized low h = (written_settled w.blocks n h.0, refl)
+  rounds_write image_blocks Settle n new apart sized low h left = (tt, written_settled w.blocks n new left h)
+  rounds_write image_blocks Commit n new apart sized low h left = (
+    tt,
+    (
+      record { each = λ i l. Reads-elsewhere (w.place i) (w.block i) 1 w.commit n new (h.each i l) (apart.elsewhere i l) left },
+      Reads-written 1 w.commit n new (omega (arith, apart.room, sized)) left,
+    ),
+  )
+  rounds_write image_blocks Confirm n new apart sized low h left =
+      (written_settled w.blocks n new left h.0, ap (λ (m : Device). m.queue) left)
 
 -- ---- the slot of a checkpoint
 
 module _ (image_blocks : ℕ) (parts : CheckpointParts) (commit : Block) (placed : ArePlaced image_blocks parts) where
-  issued_settled : (k : ℕ) (n : Device) (memory : List Block) → AreIssued image_blocks parts n memory k → AreIssued image_blocks parts (settled n) memory k
-  issued_settled k n memory h = record {
-    sized = length-settled n ∙ h.sized;
-    memory_is = map-alike (newest (settled n)) (newest n) parts.memory
-        (λ x inside. let low = placed.memory_inside x inside in newest-settled n x (omega (arith, low, h.sized)))
+  issued_settled : (k : ℕ) (n new : Device) (memory : List Block) → Settles n new → AreIssued image_blocks parts n memory k → AreIssued image_blocks parts new memory k
+  issued_settled k n new memory e h = record {
+    sized = ap (λ (m : Device). length m.image) e ∙ length-settled new.writes n ∙ h.sized;
+    memory_is = map-alike (newest new) (newest n) parts.memory
+        (λ x inside.
+        let low = placed.memory_inside x inside in
+        ap (λ (m : Device). newest m x) e ∙ newest-settled new.writes n x (omega (arith, low, h.sized)))
         ∙ h.memory_is;
-    slot = record { each = λ i l. Reads-settled (parts.slot_place + i) (parts.slot i) n (settled n) (h.slot.each i l) refl };
+    slot = record { each = λ i l. Reads-settled (parts.slot_place + i) (parts.slot i) n new (h.slot.each i l) e };
   }
 
-  pub rounds_issue : (r : Round) (n : Device) (memory : List Block) → IsInRound parts.slot_blocks r → AreIssuedBefore image_blocks parts commit r n memory
-      → AreIssuedThen image_blocks parts commit (next_round parts.slot_blocks r) (after (round_action (slot_writes parts commit) r) n) memory
-  rounds_issue (Write k) n memory low h =
-      let new : Device = written_to n (parts.slot_place + k) (parts.slot k) in
-      let wrote : AreIssued image_blocks parts new memory (k + 1) = slot_goes_on image_blocks parts n new memory k placed h low refl in
+  pub rounds_issue : (r : Round) (n new : Device) (memory : List Block) → IsInRound parts.slot_blocks r → AreIssuedBefore image_blocks parts commit r n memory
+      → IsLeftBy (round_action (slot_writes parts commit) r) n new → AreIssuedThen image_blocks parts commit (next_round parts.slot_blocks r) new memory
+  rounds_issue (Write k) n new memory low h left =
+      let wrote : AreIssued image_blocks parts new memory (k + 1) = slot_goes_on image_blocks parts n new memory k placed h low left in
       next_by (λ (q : Round). IsInRound parts.slot_blocks q × AreIssuedBefore image_blocks parts commit q new memory) k parts.slot_blocks (λ more. (more, wrote))
       (λ last.
       let all : k + 1 ≡ parts.slot_blocks = omega (arith, low, last) in
       (tt, subst (λ (j : ℕ). AreIssued image_blocks parts new memory j) all wrote))
-  rounds_issue Settle n memory low h = (tt, issued_settled parts.slot_blocks n memory h)
-  rounds_issue Commit n memory low h =
-      let new : Device = written_to n 1 commit in (
-        tt,
-        (
-          elsewhere_keeps image_blocks parts n new memory parts.slot_blocks placed h 1 commit (omega arith)
-              (record {
-                no_slot = λ i l e. omega (arith, placed.slot_behind, e);
-                no_memory = λ inside. let behind = placed.memory_behind 1 inside in omega (arith, behind);
-              })
-              refl,
-          Reads-written 1 commit n new (omega (arith, placed.slot_behind, placed.slot_inside, h.sized)) refl,
-        ),
-      )
-  rounds_issue Confirm n memory low h = issued_settled parts.slot_blocks n memory h.0
+  rounds_issue Settle n new memory low h left = (tt, issued_settled parts.slot_blocks n new memory left h)
+  rounds_issue Commit n new memory low h left = (
+    tt,
+    (
+      elsewhere_keeps image_blocks parts n new memory parts.slot_blocks placed h 1 commit (omega arith)
+          (record {
+            no_slot = λ i l e. omega (arith, placed.slot_behind, e);
+            no_memory = λ inside. let behind = placed.memory_behind 1 inside in omega (arith, behind);
+          })
+          left,
+      Reads-written 1 commit n new (omega (arith, placed.slot_behind, placed.slot_inside, h.sized)) left,
+    ),
+  )
+  rounds_issue Confirm n new memory low h left = issued_settled parts.slot_blocks n new memory left h.0
 
 -- what says the same of each number of blocks says it before each action
 pub issued_over : (image_blocks : ℕ) (a b : CheckpointParts) (commit : Block) (r : Round) (n m : Device) (old new : List Block)

@@ -1,8 +1,8 @@
 -- What stays safe.
 use Rattle.std.proofs.Common.{◌≡◌, ◌⊎◌, Option, Some, None, inl, inr}
 use Rattle.thy_block.specs.declared.mark.Mark.{Mark}
-use Rattle.thy_block.specs.Device.{Device, HasFailed, IsFramed}
-use Rattle.thy_block.proofs.CrashLemmas.{Crash-failed}
+use Rattle.thy_block.specs.Device.{Device, HasFailed, HasFailedToSettle, IsFramed}
+use Rattle.thy_block.proofs.CrashLemmas.{Crash-failed, Crash-unsettled}
 use Rattle.thy_layout.specs.Decoded.{Decoded, Nothing as NothingFound, Refused as RefusedImage, At, Reading}
 use Rattle.thy_block.specs.Marks.{mark}
 use Rattle.thy_view.specs.Origin.{Origin}
@@ -11,6 +11,10 @@ use Rattle.thy_view.specs.Safe.{ceiling, Safe, IsOneOf, SameIsNoDoubt}
 -- a call that failed makes nothing more possible, unless it was a write
 pub Safe-failed : (read : Reading) (o : Origin) (kept doubt : Option Mark) (old new : Device) → Safe read o kept doubt old → HasFailed old new → IsFramed old new → Safe read o kept doubt new
 Safe-failed read o kept doubt old new safe failed framed = λ g c. safe g (Crash-failed failed framed c)
+
+pub Safe-unsettled : (read : Reading) (o : Origin) (kept doubt : Option Mark) (old new : Device) → Safe read o kept doubt old → HasFailedToSettle old new → IsFramed old new
+    → Safe read o kept doubt new
+Safe-unsettled read o kept doubt old new safe failed framed = λ g c. safe g (Crash-unsettled failed framed c)
 
 -- safe with no doubt is safe with any
 pub Safe-doubt : (read : Reading) (o : Origin) (kept doubt : Option Mark) (n : Device) → Safe read o kept None n → Safe read o kept doubt n

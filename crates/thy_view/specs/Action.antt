@@ -7,7 +7,7 @@ use Rattle.thy_layout.specs.declared.engine_step.EngineStep.TheVariants.{Barrier
 use Rattle.thy_view.specs.declared.did.Did.{Did}
 use Rattle.thy_view.specs.declared.did.Did.TheVariants.{Boot, Loaded, Restarted, Refused, Moved, Flushed, Promoted, Engine, Committed, NvmDrained}
 use Rattle.thy_view.specs.declared.view.View.{View}
-use Rattle.thy_block.specs.Device.{Device, written_to, settled, drained, HasFailed, HasFailedToWrite}
+use Rattle.thy_block.specs.Device.{Device, written_to, settled, drained, IsSettled, HasFailed, HasFailedToSettle, HasFailedToWrite}
 use Rattle.thy_block.specs.Places.{commit_place}
 
 pub data Action : Type 0 where
@@ -18,18 +18,28 @@ pub data Action : Type 0 where
   Barrier : Action
   Drain : Action
 
--- the device after an action that succeeded
-abbrev pub after : Action → Device → Device
-after Rest n = n
-after (ReadAt place) n = n
-after (WriteAt place block) n = written_to n place block
-after Barrier n = settled n
-after Drain n = drained n
+-- the device after an action that succeeded, and with this count of writes if that was a barrier
+abbrev pub after : ℕ → Action → Device → Device
+after count Rest n = n
+after count (ReadAt place) n = n
+after count (WriteAt place block) n = written_to n place block
+after count Barrier n = settled count n
+after count Drain n = drained n
+
+-- a device is as an action leaves it, whatever it counts
+abbrev pub IsLeftBy : Action → Device → Device → Type 0
+IsLeftBy action n new = new ≡ after new.writes action n
+
+-- a device is as an action leaves it that succeeded
+abbrev pub IsAfter : Action → Device → Device → Type 0
+IsAfter Barrier n new = IsSettled n new
+IsAfter action n new = IsLeftBy action n new
 
 -- the device after an action that failed
 abbrev pub FailsTo : Action → Device → Device → Type 0
 FailsTo Rest old new = ⊥
 FailsTo (WriteAt place block) old new = HasFailedToWrite place block old new
+FailsTo Barrier old new = HasFailedToSettle old new
 FailsTo action old new = HasFailed old new
 
 -- an action neither lets writes land nor waits for them, and leaves the commit block alone
@@ -80,7 +90,7 @@ Asks did action = AsksBy false did action
 pub record ActsBy (migrates : Bool) (did : Did) (n new : Device) : Type 0 where
   pub action : Action
   pub asked : AsksBy migrates did action
-  pub left : new ≡ after action n
+  pub left : IsAfter action n new
 
 abbrev pub Acts : Did → Device → Device → Type 0
 Acts did n new = ActsBy false did n new

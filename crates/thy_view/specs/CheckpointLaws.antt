@@ -5,7 +5,7 @@ use Rattle.thy_block.specs.declared.mark.Mark.{Mark}
 use Rattle.thy_block.specs.Device.{Device, IsCut, IsFramed}
 use Rattle.thy_layout.specs.Saved.{Saved, Kept}
 use Rattle.thy_layout.specs.Spares.{Spares}
-use Rattle.thy_view.specs.Action.{Action, after, FailsTo}
+use Rattle.thy_view.specs.Action.{Action, IsLeftBy, FailsTo}
 use Rattle.thy_view.specs.Booting.{found_first, view_of_image}
 use Rattle.thy_view.specs.Origin.{Origin, IsOrigin}
 use Rattle.thy_view.specs.Safe.{ceiling, Safe}
@@ -67,8 +67,8 @@ BootShows =
 
 abbrev pub ActionSpares : Type 0
 ActionSpares =
-    (places : List ℕ) (action : Action) (n : Device)
-    → LeavesAlone places action → Spares places n (after action n)
+    (places : List ℕ) (action : Action) (n new : Device)
+    → LeavesAlone places action → IsLeftBy action n new → Spares places n new
 
 abbrev pub FailedActionSpares : Type 0
 FailedActionSpares =

@@ -11,9 +11,9 @@ use Rattle.thy_block.specs.declared.mark.Mark.{Mark}
 use Rattle.thy_block.specs.declared.nvm.NvmError.{NvmError}
 use Rattle.thy_block.specs.Bytes.{bytes_of}
 use Rattle.thy_block.specs.Counts.{Rose}
-use Rattle.thy_block.specs.Device.{Device, HasFailed, fitted}
+use Rattle.thy_block.specs.Device.{Device, CountAlike, HasFailed, fitted}
 use Rattle.thy_block.specs.Places.{dram_blocks}
-use Rattle.thy_dram.specs.Contents.{Contents}
+use Rattle.thy_dram.specs.Contents.{Contents, fresh}
 use Rattle.thy_isa.specs.declared.state.MachState.{MachState}
 use Rattle.thy_isa.specs.Step.{State, state_of}
 use Rattle.thy_block.specs.Flat.{AllLong}
@@ -286,8 +286,10 @@ pub record IsSeenAlike {M : Type 0} (K : KindOf M) (o : Origin) (turns : List �
 
 -- what holds of every machine of a type
 pub record IsLawful {M : Type 0} (K : KindOf M) : Type 0 where
-  -- power can come on
-  pub powers : (p : Parameters) → (m : M) × K.powered p m
+  -- power can come on, over a DRAM of zeros
+  pub powers : (p : Parameters) → (m : M) × K.powered p m × (K.dram m ≡ fresh (dram_blocks p) p.dramq)
+  -- over a DRAM it comes on in one way
+  pub powered_once : (p : Parameters) (m x : M) → K.powered p m → K.powered p x → K.dram m ≡ K.dram x → m ≡ x
   -- an image of zeros has no checkpoint
   pub finds_nothing : (p : Parameters) (shape : Shape) (n : Device)
       → shape.blocks ≡ K.blocks p → K.decode p ceiling (fitted shape [] n).image ≡ Nothing
@@ -316,6 +318,8 @@ pub record IsLawful {M : Type 0} (K : KindOf M) : Type 0 where
   pub counts_dram : (m : M) → (K.pressure m).dram ≡ (K.dram m).queued
   -- the pressure that a machine reports fits its view and its gauge
   pub pressed : (o : Origin) (k : ℕ) (m : M) (n : Device) → K.is_at o k m n → IsPressed K o m n
+  -- the device is up at every moment
+  pub up : (o : Origin) (k : ℕ) (m : M) (n : Device) → K.is_at o k m n → n.down ≡ false
   -- whatever a power cut leaves at a moment is the committed checkpoint, whole, or the one in doubt
   pub is_safe : (o : Origin) (k : ℕ) (m : M) (n : Device)
       → K.is_at o k m n → Safe K.decode o (K.view o m n).done (doubt_of (K.view o m n)) n
@@ -324,3 +328,6 @@ pub record IsLawful {M : Type 0} (K : KindOf M) : Type 0 where
       → K.is_at o k m n → AgreeBelow o turns (reach (K.view o m n)) → K.is_at (with_turns o turns) k m n
   pub seen_alike : (o : Origin) (turns : List ℕ) (k : ℕ) (m : M) (n : Device)
       → K.is_at o k m n → AgreeBelow o turns (reach (K.view o m n)) → IsSeenAlike K o turns m n
+  -- a cycle has one outcome, whatever the turns, if what the device counts has one
+  pub one_outcome : (o : Origin) (turns other : List ℕ) (actor : Actor) (m x y : M) (n u v : Device) (d e : Did)
+      → K.makes (with_turns o turns) actor m n d x u → K.makes (with_turns o other) actor m n e y v → CountAlike n u v → (d ≡ e) × (x ≡ y) × (u ≡ v)

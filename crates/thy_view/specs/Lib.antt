@@ -14,7 +14,6 @@ pub mod OneHart
 pub mod Kind
 pub mod Advances
 pub mod Laws
-pub mod Restart
 pub mod Again
 pub mod Issuing
 pub mod Keeps

@@ -2,7 +2,7 @@
 use Rattle.std.specs.Prelude.{◌≡◌, ◌⊎◌, List, Contains, ℕ, Option, Some, None}
 use Rattle.thy_block.specs.declared.block.Block.{Block}
 use Rattle.thy_block.specs.declared.mark.Mark.{Mark}
-use Rattle.thy_block.specs.Device.{Device, IsOneWordApart, block_at, written_to, settled, HasFailedToWrite, IsFramed}
+use Rattle.thy_block.specs.Device.{Device, IsOneWordApart, Settles, block_at, written_to, HasFailedToWrite, IsFramed}
 use Rattle.thy_block.specs.Places.{commit_place}
 use Rattle.thy_layout.specs.Fixed.{Reads}
 use Rattle.thy_layout.specs.Saved.{Saved, Kept, Ready, InDoubt, IsIssued, guarded}
@@ -41,7 +41,7 @@ pub data Move (o : Origin) (l : Layout) : Standing → Standing → Type 0 where
       → Move o l (standing n (Kept before) kept None) (standing n (Kept before) kept (Some m))
   -- a barrier after all writes of the sealed checkpoint
   Readies : (before next : List Block) (kept : Option Mark) (m : Mark) (old new : Device)
-      → IsIssued (looked_by l) old next → IsOf o l next m → new ≡ settled old
+      → IsIssued (looked_by l) old next → IsOf o l next m → Settles old new
       → Move o l (standing old (Kept before) kept (Some m)) (standing new (Ready before next) kept (Some m))
   -- the write of the next image's commit block, which differs in one word at most from the commit block before it
   Commits : (before next : List Block) (kept : Option Mark) (m : Mark) (old new : Device)
@@ -49,7 +49,7 @@ pub data Move (o : Origin) (l : Layout) : Standing → Standing → Type 0 where
       → Move o l (standing old (Ready before next) kept (Some m)) (standing new (InDoubt before next) kept (Some m))
   -- the barrier after the write of the commit block
   Confirms : (before next : List Block) (kept : Option Mark) (m : Mark) (old new : Device)
-      → Reads old commit_place (block_at next commit_place) → new ≡ settled old
+      → Reads old commit_place (block_at next commit_place) → Settles old new
       → Move o l (standing old (InDoubt before next) kept (Some m)) (standing new (Kept next) (Some m) None)
 
 -- any number of moves

@@ -8,7 +8,7 @@ use Rattle.thy_block.specs.Places.{commit_place}
 use Rattle.thy_layout.specs.Fixed.{Reads}
 use Rattle.thy_layout.specs.Saved.{Saved, Kept, Ready, InDoubt, IsIssued, next_image, guarded}
 use Rattle.thy_layout.specs.Layout.{Layout, looked_by}
-use Rattle.thy_view.specs.Action.{after, FailsTo}
+use Rattle.thy_view.specs.Action.{IsLeftBy, FailsTo}
 use Rattle.thy_view.specs.Origin.{Origin}
 use Rattle.thy_view.specs.declared.round.Round.{Round}
 use Rattle.thy_view.specs.declared.round.Round.TheVariants.{Write, Settle, Commit, Confirm}
@@ -52,10 +52,10 @@ MayTake o l m w Confirm before next n = (block_at next commit_place ≡ w.commit
 -- An action of a round that has what it needs is a move. The mark that is written may be the one that is kept.
 abbrev pub RoundsMove : Type 0
 RoundsMove =
-    (o : Origin) (l : Layout) (m : Mark) (w : RoundWrites) (r : Round) (before next : List Block) (kept : Option Mark) (n : Device)
-    → MayTake o l m w r before next n
+    (o : Origin) (l : Layout) (m : Mark) (w : RoundWrites) (r : Round) (before next : List Block) (kept : Option Mark) (n new : Device)
+    → MayTake o l m w r before next n → IsLeftBy (round_action w r) n new
     → Move o l (standing n (saved_in r before next) kept (Some m))
-    (standing_then (next_round w.blocks r) (after (round_action w r) n) before (made_after w.commit r n next) kept m)
+    (standing_then (next_round w.blocks r) new before (made_after w.commit r n next) kept m)
 
 -- each action of a round is a move also if it fails
 abbrev pub FailedRoundsMove : Type 0

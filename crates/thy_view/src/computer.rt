@@ -5,7 +5,6 @@ ghost use Rattle.thy_dram.specs.Contents.{lost};
 ghost use Rattle.thy_view.specs.Advances.{IfAdvanced, IsOthersCycle, SimulatesRow, row_of};
 ghost use Rattle.thy_view.specs.Kind.{KindOf, IsLawful, CanStep, CanRead, CanSnapshot, IsDramOf, Simulates, FailsSafe, Snapshots, SnapshotsStopped, ShowsConsole, LeavesAlonePast, ShowsLoading, HasFailedToRead};
 ghost use Rattle.thy_view.specs.Origin.{Origin};
-ghost use Rattle.thy_view.specs.Restart.{RestartsUnwritten};
 ghost use Rattle.thy_view.specs.declared.view.View.{View};
 
 use crate::{Advance, CoreError, Row, Stepped};
@@ -51,7 +50,6 @@ pub trait Computer: Drop {
         ensures safe { IfAdvanced result (FailsSafe kind start.now pick self.old self.new (N.device nvm.old) (N.device nvm.new)) }
         ensures frame { IsFramed (N.device nvm.old) (N.device nvm.new) }
         ensures cause { CountsFault result (N.device nvm.old).faults (N.device nvm.new).faults }
-        ensures no_writes { RestartsUnwritten kind self.old (N.device nvm.old) (N.writes nvm.old) (N.writes nvm.new) }
         ensures left { result ≡ Ok None → (self.new ≡ self.old) × (nvm.new ≡ nvm.old) }
         ensures others { result ≡ Ok None → IsOthersCycle kind pick self.old (N.device nvm.old) };
 
@@ -77,8 +75,7 @@ pub trait Computer: Drop {
         ensures steps { Simulates kind start.now pick self.old self.new (N.device nvm.old) (N.device nvm.new) result }
         ensures safe { FailsSafe kind start.now pick self.old self.new (N.device nvm.old) (N.device nvm.new) result }
         ensures frame { IsFramed (N.device nvm.old) (N.device nvm.new) }
-        ensures cause { CountsFault result (N.device nvm.old).faults (N.device nvm.new).faults }
-        ensures no_writes { RestartsUnwritten kind self.old (N.device nvm.old) (N.writes nvm.old) (N.writes nvm.new) };
+        ensures cause { CountsFault result (N.device nvm.old).faults (N.device nvm.new).faults };
 
     /// One cycle: the pick's, or the hart's if the pick's actor has nothing to do. Allocates nothing.
     ///
@@ -88,8 +85,7 @@ pub trait Computer: Drop {
         ensures steps { Simulates kind start.now pick self.old self.new (N.device nvm.old) (N.device nvm.new) result }
         ensures safe { FailsSafe kind start.now pick self.old self.new (N.device nvm.old) (N.device nvm.new) result }
         ensures frame { IsFramed (N.device nvm.old) (N.device nvm.new) }
-        ensures cause { CountsFault result (N.device nvm.old).faults (N.device nvm.new).faults }
-        ensures no_writes { RestartsUnwritten kind self.old (N.device nvm.old) (N.writes nvm.old) (N.writes nvm.new) };
+        ensures cause { CountsFault result (N.device nvm.old).faults (N.device nvm.new).faults };
 
     /// Whether a step has failed since power came on.
     fn failed(&self) -> bool

@@ -1,7 +1,7 @@
 -- A barrier of the NVM, as drains of its queue: it keeps the checkpoints of any lawful scheme.
-use Rattle.std.proofs.Common.{◌≡◌, ℕ, ◌<◌, Option, List, [], ◌∷◌, length, take, drop, refl, sym, ◌∙◌, ap, subst, inl, inr, arith}
+use Rattle.std.proofs.Common.{◌≡◌, ℕ, ◌<◌, if◌then◌else◌, Option, List, [], ◌∷◌, length, take, drop, refl, sym, ◌∙◌, ap, subst, inl, inr, arith}
 use Rattle.thy_block.specs.declared.nvm.Write.{Write}
-use Rattle.thy_block.specs.Device.{Device, applied, drained, settled}
+use Rattle.thy_block.specs.Device.{Device, Settles as IsSettledTo, Wear, applied, drained, moved_on, moves_next, settled}
 use Rattle.thy_block.specs.Store.{Holding}
 use Rattle.thy_view.specs.Origin.{Origin}
 use Rattle.thy_scheme.specs.CheckpointMarks.{CheckpointMarks}
@@ -41,14 +41,18 @@ Keeps-on K a l b m c n first second = record {
 
 -- ---- the device
 
--- if nothing is queued a barrier does nothing
-settled-none : (n : Device) → n.queue ≡ [] → settled n ≡ n
-settled-none n e =
+-- a device of which every write has landed
+abbrev landed_all : Device → Device
+landed_all n = record n { image = applied n.image n.queue; queue = [] }
+
+-- if nothing is queued, nothing lands
+landed-none : (n : Device) → n.queue ≡ [] → landed_all n ≡ n
+landed-none n e =
     ap (λ (q : List Write). record n { image = applied n.image q; queue = [] }) e ∙ ap (λ (q : List Write). record n { queue = q }) (sym e)
 
 -- a barrier goes on where a drain ends, if a write is queued
-settled-on : (n : Device) (w : Write) (ws : List Write) → n.queue ≡ w ∷ ws → settled (drained n) ≡ settled n
-settled-on n w ws e =
+landed-on : (n : Device) (w : Write) (ws : List Write) → n.queue ≡ w ∷ ws → landed_all (drained n) ≡ landed_all n
+landed-on n w ws e =
     ap (λ (q : List Write). record n { image = applied (applied n.image (take 1 q)) (drop 1 q); queue = [] }) e
     ∙ ap (λ (q : List Write). record n { image = applied n.image q; queue = [] }) (sym e)
 
@@ -60,19 +64,28 @@ pub record Settles {S : Type 0} (K : SchemeOf S) (o : Origin) (k : CheckpointMar
   pub owes : OwesNoMore K s n s new
 
 module _ {S : Type 0} (K : SchemeOf S) (laws : IsLawful K) (o : Origin) (k : CheckpointMarks) (s : S) where
-  lands : (q : List Write) (n : Device) → n.queue ≡ q → Stands K o k s n → Settles K o k s n (settled n)
+  lands : (q : List Write) (n : Device) → n.queue ≡ q → Stands K o k s n → Settles K o k s n (landed_all n)
   lands [] n e stands =
-      subst (Settles K o k s n) (sym (settled-none n e)) (record { sound = stands.sound; keeps = Keeps-same K s n; owes = omega arith })
+      subst (Settles K o k s n) (sym (landed-none n e)) (record { sound = stands.sound; keeps = Keeps-same K s n; owes = omega arith })
   lands (w ∷ ws) n e stands =
       let holds : RunHolds K o k s n = laws.run_holds o k s n stands in
       let some : 0 < length n.queue = omega (arith, ap length e) in
       let rest : (drained n).queue ≡ ws = ap (drop 1) e in
-      let on : Settles K o k s (drained n) (settled (drained n)) = lands ws (drained n) rest (record { sound = holds.drained_sound some; up = stands.up }) in
-      subst (Settles K o k s n) (settled-on n w ws e) (record {
+      let on : Settles K o k s (drained n) (landed_all (drained n)) = lands ws (drained n) rest (record { sound = holds.drained_sound some; up = stands.up }) in
+      subst (Settles K o k s n) (landed-on n w ws e) (record {
         sound = on.sound;
-        keeps = Keeps-on K s n s (drained n) s (settled (drained n)) (holds.drained_keeps some) on.keeps;
+        keeps = Keeps-on K s n s (drained n) s (landed_all (drained n)) (holds.drained_keeps some) on.keeps;
         owes = let first = holds.drained_owes some in omega (arith, first, on.owes);
       })
 
-  pub settles : (n : Device) → Stands K o k s n → Settles K o k s n (settled n)
-  settles n stands = lands n.queue n refl stands
+  -- a scheme settles with a barrier, whatever that counted
+  pub settles : (n new : Device) → Stands K o k s n → IsSettledTo n new → Settles K o k s n new
+  settles n new stands e =
+      let all : Settles K o k s n (landed_all n) = lands n.queue n refl stands in
+      let holds : RunHolds K o k s (landed_all n) = laws.run_holds o k s (landed_all n) (record { sound = all.sound; up = stands.up }) in
+      let wear : Wear = if moves_next n then moved_on n.wear else n.wear in
+      subst (Settles K o k s n) (sym e) (record {
+        sound = holds.counted_sound new.writes wear;
+        keeps = Keeps-on K s n s (landed_all n) s (settled new.writes n) all.keeps (holds.counted_keeps new.writes wear);
+        owes = let last = holds.counted_owes new.writes wear in omega (arith, all.owes, last);
+      })

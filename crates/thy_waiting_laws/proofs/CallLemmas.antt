@@ -1,15 +1,15 @@
 -- What a call of the scheme below makes of the one that waits, and what a barrier does.
-use Rattle.std.proofs.Common.{◌≡◌, ℕ, ◌-◌, ◌<◌, ◌≤◌, Bool, true, false, is_some, if◌then◌else◌, Option, Some, None, refl, sym, ◌∙◌, ap, inl, arith}
+use Rattle.std.proofs.Common.{◌≡◌, ℕ, ◌-◌, ◌<◌, ◌≤◌, Bool, true, false, is_some, length, if◌then◌else◌, Option, Some, None, refl, sym, ◌∙◌, ap, inl, arith}
 use Rattle.std.proofs.lemmas.Bool.{both_ways, ltb-true, ltb-false}
 use Rattle.thy_block.specs.declared.mark.Mark.{Mark}
-use Rattle.thy_block.specs.Device.{Device, HasFailed, IsFramed, settled}
+use Rattle.thy_block.specs.Device.{Device, HasFailedToSettle, IsFramed, IsSettled}
 use Rattle.thy_isa.specs.declared.state.CpuState.{CpuState}
 use Rattle.thy_layout.specs.declared.engine_step.EngineStep.{EngineStep}
 use Rattle.thy_layout.specs.declared.engine_step.EngineStep.TheVariants.{Idle, Copied, PageBlock, StateBlock, TableBlock, Barrier, CommitWritten, Committed}
 use Rattle.thy_view.specs.declared.did.Did.{Did}
 use Rattle.thy_view.specs.Action.{Barrier as BarrierAction, Acts}
 use Rattle.thy_view.specs.Origin.{Origin}
-use Rattle.thy_view.proofs.SafeLemmas.{Safe-failed}
+use Rattle.thy_view.proofs.SafeLemmas.{Safe-unsettled}
 use Rattle.thy_view.proofs.ActionLemmas.{down-after}
 use Rattle.thy_scheme.specs.CheckpointMarks.{CheckpointMarks, doubt_in, marks_after}
 use Rattle.thy_scheme.specs.Scheme.{SchemeOf, Stands}
@@ -23,7 +23,7 @@ use Rattle.thy_waiting_laws.proofs.RunLemmas.{neither, few-to-come, way-below, c
 -- ---- the device stays up
 
 up-after : (did : Did) (n new : Device) → n.down ≡ false → Acts did n new → new.down ≡ false
-up-after did n new up acts = ap (λ (d : Device). d.down) acts.left ∙ down-after acts.action n ∙ up
+up-after did n new up acts = down-after acts.action n new acts.left ∙ up
 
 -- ---- by steps of the engine
 
@@ -151,12 +151,12 @@ module _ {S : Type 0} (K : SchemeOf S) (laws : IsLawful K) (never : AppliesNothi
   engine-fails-over new f = record { step = f.step; acted = f.acted; safe = f.safe }
 
   -- a barrier
-  pub waits-on : is_waiting w ≡ true → Engines (waits_over K) o k Barrier w n (record w { left = w.left - 1 }) (settled n)
-  waits-on on =
+  pub waits-on : (new : Device) → IsSettled n new → is_waiting w ≡ true → Engines (waits_over K) o k Barrier w n (record w { left = w.left - 1 }) new
+  waits-on new left on =
       let some : 0 < w.left = ltb-true 0 w.left on in
       let idle : K.under_way w.below ≡ false
       = way-below K laws never o k w.below n lower ∙ ap (λ (m : Option Mark). is_some m) (stands.sound.apart some) in
-      let s : Settles K o k w.below n (settled n) = settles K laws o k w.below n lower in
+      let s : Settles K o k w.below n new = settles K laws o k w.below n new lower left.device in
       let next : Waiting S = record w { left = w.left - 1 } in
       let before : to_come K w ≡ w.left = ap (λ (b : Bool). if b then barriers else w.left) idle in
       let come : to_come K next ≡ w.left - 1 = ap (λ (b : Bool). if b then barriers else w.left - 1) idle in
@@ -167,19 +167,19 @@ module _ {S : Type 0} (K : SchemeOf S) (laws : IsLawful K) (never : AppliesNothi
           few = let few = stands.sound.few in omega (arith, few);
           apart = λ more. stands.sound.apart some;
         };
-        keeps = keeps-over K laws never w n next (settled n) s.keeps (omega (arith, before, come));
+        keeps = keeps-over K laws never w n next new s.keeps (omega (arith, before, come));
         owes = s.owes;
-        acts = λ lap. record { action = BarrierAction; asked = refl; left = refl };
+        acts = λ lap. record { action = BarrierAction; asked = refl; left = left };
         dram = inl refl;
         writes = λ writes. absurd (both_ways false refl writes);
-        queue = omega arith;
+        queue = omega (arith, ap (λ (m : Device). length m.queue) left.device);
         nearer = omega (arith, before, come, some);
       }
 
   -- a barrier that failed is a step of the engine that failed
-  pub waiting-fails : (new : Device) → HasFailed n new → IsFramed n new → EngineFails (waits_over K) o k n new
+  pub waiting-fails : (new : Device) → HasFailedToSettle n new → IsFramed n new → EngineFails (waits_over K) o k n new
   waiting-fails new failed frame = record {
     step = Barrier;
     acted = λ lap. record { action = BarrierAction; asked = refl; failed = failed };
-    safe = Safe-failed K.decode o (Some k.done) (doubt_in k) n new (run-holds K laws never o k w n stands).safe failed frame;
+    safe = Safe-unsettled K.decode o (Some k.done) (doubt_in k) n new (run-holds K laws never o k w n stands).safe failed frame;
   }

@@ -1,7 +1,7 @@
 -- What holds behind the boot of a scheme that waits.
 use Rattle.std.proofs.Common.{◌≡◌, ℕ, ◌<◌, ◌≤◌, ◌||◌, not, Bool, true, false, is_some, nat_lt, if◌then◌else◌, refl, sym, ◌∙◌, ap, ap₂, subst, arith}
 use Rattle.std.proofs.lemmas.Bool.{ltb-true, not-true}
-use Rattle.thy_block.specs.Device.{Device, drained}
+use Rattle.thy_block.specs.Device.{Device, drained, counting}
 use Rattle.thy_view.specs.Origin.{Origin}
 use Rattle.thy_scheme.specs.CheckpointMarks.{CheckpointMarks}
 use Rattle.thy_scheme.specs.Scheme.{SchemeOf, Stands}
@@ -85,6 +85,9 @@ module _ {S : Type 0} (K : SchemeOf S) (laws : IsLawful K) (never : AppliesNothi
       drained_sound = λ some. record { below = holds.drained_sound some; few = stands.sound.few; apart = stands.sound.apart };
       drained_keeps = λ some. keeps-over w n w (drained n) (holds.drained_keeps some) (omega arith);
       drained_owes = holds.drained_owes;
+      counted_sound = λ writes wear. record { below = holds.counted_sound writes wear; few = stands.sound.few; apart = stands.sound.apart };
+      counted_keeps = λ writes wear. keeps-over w n w (counting writes wear n) (holds.counted_keeps writes wear) (omega arith);
+      counted_owes = holds.counted_owes;
     }
 
     -- loads and stores, which only come while nothing is under way

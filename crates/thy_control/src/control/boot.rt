@@ -84,7 +84,6 @@ impl Control {
         requires up { (N.device nvm.old).down ≡ false }
         ensures copies { CopiesFrame j k self.old (N.device nvm.old) result self.new (N.device nvm.new) }
         ensures booting { IsBooting self.new }
-        ensures same_writes { N.writes nvm.new ≡ N.writes nvm.old }
 
         // Both checkpoints have every block as before, and the places of this one hold what they have to.
         ensures keeps { OnOk result (KeepsCheckpoints self.old (N.device nvm.old) self.new (N.device nvm.new)) }
@@ -101,8 +100,7 @@ impl Control {
         requires block { k < 64 }
         requires sized { IsSized self.old (N.device nvm.old) }
         requires up { (N.device nvm.old).down ≡ false }
-        ensures copies { CopiesFrame j k self.old (N.device nvm.old) result self.new (N.device nvm.new) }
-        ensures same_writes { N.writes nvm.new ≡ N.writes nvm.old }
+        ensures { CopiesFrame j k self.old (N.device nvm.old) result self.new (N.device nvm.new) }
     {
         self.recall_tables();
         let from = Place::AlternatePage { entry: j, block: k };

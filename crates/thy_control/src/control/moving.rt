@@ -54,7 +54,6 @@ pub(super) fn move_to_dram<N: Nvm>(
     ensures dram { OnErr result (dram.new ≡ dram.old) }
     ensures frame { IsFramed (N.device nvm.old) (N.device nvm.new) }
     ensures cause { CountsFault result (N.device nvm.old).faults (N.device nvm.new).faults }
-    ensures same_writes { N.writes nvm.new ≡ N.writes nvm.old }
 {
     let block = read_place(from, geometry, nvm, dram)?;
     dram.write(number(geometry, to), &block);

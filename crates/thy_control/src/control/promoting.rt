@@ -78,7 +78,6 @@ impl Control {
         ensures held { OnOk result (WhereHeld HoldsWork self.old (N.device nvm.old) self.new (N.device nvm.new)) }
         ensures fills { FillsNext self.old (N.device nvm.old) result self.new (N.device nvm.new) }
         ensures side { OnErr result (ReadsNvm (next_promotion self.old) self.old) }
-        ensures same_writes { N.writes nvm.new ≡ N.writes nvm.old }
 
         // Whether or not it failed, nothing new is possible at the checkpoints' places, and both tables are as they were.
         ensures stays { Stays self.old (N.device nvm.old) self.new (N.device nvm.new) }
@@ -117,7 +116,6 @@ impl Control {
         requires promoting { 0 < promoted self.old.ptt }
         ensures fills { FillsNext self.old (N.device nvm.old) result self.new (N.device nvm.new) }
         ensures side { OnErr result (ReadsNvm (next_promotion self.old) self.old) }
-        ensures same_writes { N.writes nvm.new ≡ N.writes nvm.old }
     {
         self.recall_tables();
         match self.seek_promotion() {
@@ -139,7 +137,6 @@ impl Control {
         requires up { (N.device nvm.old).down ≡ false }
         ensures fills { FillsBlock b self.old (N.device nvm.old) result self.new (N.device nvm.new) }
         ensures side { OnErr result (in_dram (work_place (cell_of self.old b)) ≡ false) }
-        ensures same_writes { N.writes nvm.new ≡ N.writes nvm.old }
     {
         a_promotion_keeps_versions();
         a_promotion_keeps_others();

@@ -8,8 +8,8 @@ use Rattle.thy_scheme.proofs.BootingLaws.{sound-boot}
 use Rattle.thy_core.proofs.CycleLaws.{taken_err, boot_over, boot_cycle, boot_failed}
 use Rattle.thy_core.proofs.boot.boot.Goals as goal
 
-pub returns-in_err-step-clause-taken : goal.returns-in_err-step-clause-taken
-returns-in_err-step-clause-taken g c =
+pub returns-in_err-step : goal.returns-in_err-step
+returns-in_err-step g c =
     let K = g.S.Scheme.scheme in
     let m = machine_of c.args.m.now in
     let n = g.N.Nvm.device c.args.nvm.now in
@@ -22,8 +22,8 @@ returns-in_err-step-clause-taken g c =
     boot_failed K o cycles m n at next new booting (failed.err o begins (record { boots = boots; up = at.sound.up })) failed.left refl)
     failed.frame failed.cause
 
-pub returns-clause-taken : goal.returns-clause-taken
-returns-clause-taken g c =
+pub returns : goal.returns
+returns g c =
     let K = g.S.Scheme.scheme in
     let m = machine_of c.args.m.now in
     let n = g.N.Nvm.device c.args.nvm.now in
@@ -40,9 +40,3 @@ returns-clause-taken g c =
       frame = done.frame;
       cause = done.cause;
     }
-
-pub returns-in_err-step-clause-no_writes : goal.returns-in_err-step-clause-no_writes
-returns-in_err-step-clause-no_writes g c = c.in_err-step.ensures.no_writes
-
-pub returns-clause-no_writes : goal.returns-clause-no_writes
-returns-clause-no_writes g c = c.in_ok-step.ensures.no_writes

@@ -9,7 +9,7 @@ pub returns-clause-steps : goal.returns-clause-steps
 returns-clause-steps g c = record {
   cycle = c.cycle-taken.result;
   behind = machine_of c.cycle-taken.new.m;
-  taken = c.cycle-taken.ensures.taken;
+  taken = c.cycle-taken.ensures;
   next_is = c.report.ensures.notes;
   result_is = c.report.ensures.says
       ∙ ap (λ stall. reported stall c.has_halted-ended.result c.cycle-taken.result) c.stall_reported.ensures

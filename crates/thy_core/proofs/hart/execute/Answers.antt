@@ -9,7 +9,7 @@ use Rattle.thy_scheme.proofs.BegunLaws.{ended-hand}
 use Rattle.thy_core.specs.Cycles.{HasInput, did_by}
 use Rattle.thy_core.specs.MachineParts.{machine_of}
 use Rattle.thy_core.proofs.CalmLaws.{calm_kept}
-use Rattle.thy_core.proofs.CycleLaws.{taken_err, err_by, framed_once, failed_once, kept_once, hart_rests, hart_runs, hart_ready, hart_call, hart_cycle, hart_failed, begun_back}
+use Rattle.thy_core.proofs.CycleLaws.{taken_err, err_by, framed_once, failed_once, up_once, kept_once, hart_rests, hart_runs, hart_ready, hart_call, hart_cycle, hart_failed, begun_back}
 use Rattle.thy_core.proofs.hart.execute.Goals as goal
 
 pub begin-requires-clause-own : goal.begin-requires-clause-own
@@ -67,7 +67,8 @@ returns-clause-taken g c =
       simulates = λ o cycles input at turn.
           let call = hart_call K g.N.Nvm.device o c.begin.new.m c.step.new.store x y h c.step.new.cache
           c.in_ok-step.step c.args.input.now c.free-free.result c.under_way-under_way.result input c.free-free.ensures c.under_way-under_way.ensures
-          done.step done.once done.stays done.untouched done.loads in
+          done.step done.once done.stays done.untouched done.loads
+          (up_once K g.N.Nvm.device c.begin.new.m.store c.step.new.store x y c.requires.turn.at_moment.sound.up done.once done.cause) done.called in
           let here = subst (λ (b : Machine _). HartCall K (given o.input (K.free b.scheme) (K.under_way b.scheme)) b n h
           c.step.new.cache c.step.new.store.scheme (g.N.Nvm.device y) c.in_ok-step.step) c.begin.ensures.parts call in
           let is = c.count.ensures.parts

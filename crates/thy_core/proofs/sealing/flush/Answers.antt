@@ -3,7 +3,7 @@ use Rattle.thy_view.specs.declared.did.Stall.TheVariants.{Sealing}
 use Rattle.thy_view.specs.NextActor.{Stalled}
 use Rattle.thy_core.specs.Cycles.{IsAnyRun}
 use Rattle.thy_core.specs.MachineParts.{machine_of}
-use Rattle.thy_core.proofs.CycleLaws.{taken_err, framed_once, failed_once, kept_once, flush_cycle, flush_failed}
+use Rattle.thy_core.proofs.CycleLaws.{taken_err, framed_once, failed_once, kept_once, flushed_is, flush_cycle, flush_failed}
 use Rattle.thy_core.proofs.sealing.flush.Goals as goal
 
 pub returns-in_err-_flushed : goal.returns-in_err-_flushed
@@ -39,6 +39,8 @@ returns g c =
             opened = done.open;
             sized = done.sized;
             access = once.access;
+            made = flushed_is K g.N.Nvm.device c.args.m.now c.flush_one.new.store c.args.nvm.now c.flush_one.new.nvm c.flush_one.new.self
+                c.in_ok-_flushed._flushed (λ is. c.requires.dirty (done.clean.0 (ap Ok is))) done.made done.cache;
           });
       fails = λ o cycles _ at sealing. tt;
       frame = framed_once K g.N.Nvm.device c.args.m.now.store c.flush_one.new.store c.args.nvm.now c.flush_one.new.nvm (inr once);

@@ -24,7 +24,7 @@ returns-clause-state g c =
     (c.state_with.ensures ∙ ap (λ (cpu : CpuState). state_with cpu memory console) c.processor.ensures)
     c.in_ok-memory.ensures.bytes
     (c.in_ok-console.ensures.console
-    ∙ ap (λ (n : Device). drop 0 (console_bytes h.geometry (memory_of K m n) c.cpu.result.now.console_len)) c.in_ok-memory.ensures.same
+    ∙ ap (λ (n : Device). drop 0 (console_bytes h.geometry (memory_of K m n) c.cpu.result.console_len)) c.in_ok-memory.ensures.same
     ∙ ap (λ (cpu : CpuState). drop 0 (console_bytes h.geometry (memory_of K m (g.N.Nvm.device c.args.nvm.now)) cpu.console_len)) c.cpu.ensures
     ∙ ap (λ len. drop 0 (console_bytes h.geometry (memory_of K m (g.N.Nvm.device c.args.nvm.now)) len))
     (sym (console_fronted (front_of m.begun) m.hart.cpu)))

@@ -1,13 +1,9 @@
-use Rattle.std.proofs.Common.{◌≡◌, Some, refl, sym, ◌∙◌, ap}
-use Rattle.thy_view.specs.declared.view.Phase.TheVariants.{Boot}
-use Rattle.thy_view.specs.declared.view.View.{View}
+use Rattle.std.proofs.Common.{sym, ◌∙◌, ap}
 use Rattle.thy_view.specs.NextActor.{Advances}
-use Rattle.thy_scheme.specs.Sound.{Sound}
-use Rattle.thy_scheme.proofs.BootingLaws.{sound-boot, view-boot}
 use Rattle.thy_scheme.proofs.MomentLaws.{sound-here}
 use Rattle.thy_core.specs.MachineParts.{machine_of, actor_seen, next_actor_seen}
 use Rattle.thy_core.proofs.CalmLaws.{knows_nothing}
-use Rattle.thy_core.proofs.TakenLaws.{at_run, moment_of, phase_in, actor_is, turned, reported_steps, reported_fails, reported_counts, reported_notes}
+use Rattle.thy_core.proofs.TakenLaws.{at_run, moment_of, actor_is, turned, reported_steps, reported_fails, reported_counts, reported_notes}
 use Rattle.thy_core.proofs.step.step_other.Goals as goal
 
 pub queued-requires : goal.queued-requires
@@ -69,16 +65,6 @@ returns-clause-failed g c =
     reported_notes g.S.Scheme.scheme g.met.S.Scheme.lawful c.args.start.now c.args.pick c.queued.result (actor_seen c.in-Other.actor)
     (machine_of c.args.m.now) (machine_of c.take_other.new.m) (g.N.Nvm.device c.args.nvm.now) (g.N.Nvm.device c.take_other.new.nvm) c.take_other.result
     c.queued.ensures (sym (ap next_actor_seen c.in-Other.is) ∙ c.actor_of.ensures) c.take_other.ensures.steps c.requires.can
-
-pub returns-clause-no_writes : goal.returns-clause-no_writes
-returns-clause-no_writes g c = λ o k found here restarts stays.
-    let K = g.S.Scheme.scheme in
-    let m = machine_of c.args.m.now in
-    let n = g.N.Nvm.device c.args.nvm.now in
-    let sound : Sound K o k m n = sound-here K o k m n here in
-    let booting : m.phase ≡ Boot = sym (phase_in K g.met.S.Scheme.lawful o k m n m.phase sound refl) ∙ restarts.phase in
-    let seen : (K.boot_view o m.scheme n).done ≡ Some found = sym (ap (λ (v : View). v.done) (view-boot K o m n booting)) ∙ restarts.done in
-    c.take_other.ensures.no_writes booting o found (sound-boot K o k m n sound booting).boots seen stays
 
 pub returns-clause-known : goal.returns-clause-known
 returns-clause-known g c = knows_nothing g.S.Scheme.scheme c.take_other.new.m c.take_other.ensures.unmarked

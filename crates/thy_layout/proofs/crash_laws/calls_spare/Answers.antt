@@ -1,4 +1,4 @@
-use Rattle.thy_layout.proofs.SparesLemmas.{Spares-drained, Spares-settled, Spares-written, Spares-failed, Spares-failed_to_write}
+use Rattle.thy_layout.proofs.SparesLemmas.{Spares-drained, Spares-settled, Spares-written, Spares-failed, Spares-unsettled, Spares-failed_to_write}
 use Rattle.thy_layout.proofs.crash_laws.calls_spare.Goals as goal
 
 pub returns-clause-drain : goal.returns-clause-drain
@@ -12,6 +12,9 @@ returns-clause-write c = Spares-written
 
 pub returns-clause-failed : goal.returns-clause-failed
 returns-clause-failed c = Spares-failed
+
+pub returns-clause-failed_barrier : goal.returns-clause-failed_barrier
+returns-clause-failed_barrier c = Spares-unsettled
 
 pub returns-clause-failed_write : goal.returns-clause-failed_write
 returns-clause-failed_write c = Spares-failed_to_write

@@ -2,4 +2,4 @@ use Rattle.thy_table.proofs.MoveLemmas.{ReadsTheSame-drained, ReadsTheSame-settl
 use Rattle.thy_table.proofs.move_laws.landing_moves_nothing.Goals as goal
 
 pub returns : goal.returns
-returns c = λ p d sized. (ReadsTheSame-drained p d sized, ReadsTheSame-settled p d sized, ReadsTheSame-dram_drained p d sized)
+returns c = λ p d sized. (ReadsTheSame-drained p d sized, λ count. ReadsTheSame-settled p d count sized, ReadsTheSame-dram_drained p d sized)

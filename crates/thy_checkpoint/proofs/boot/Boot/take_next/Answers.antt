@@ -4,14 +4,12 @@ use Rattle.thy_isa.specs.Step.{State, state_of}
 use Rattle.thy_checkpoint.specs.declared.boot_stage.Stage.{Stage}
 use Rattle.thy_checkpoint.specs.declared.boot_stage.Stage.TheVariants.{Reads, Migrates}
 use Rattle.thy_checkpoint.specs.Boot.{Booting}
-use Rattle.thy_checkpoint.specs.Counts.{Counts}
-use Rattle.thy_checkpoint.specs.Steps.{CanStepAt, action_at}
-use Rattle.thy_checkpoint.proofs.CountLemmas.{counts_read}
+use Rattle.thy_checkpoint.specs.Steps.{CanStepAt}
 use Rattle.thy_checkpoint.proofs.ActLemmas.{takes_read, takes_migration}
 use Rattle.thy_checkpoint.proofs.boot.Boot.take_next.Goals as goal
 
-pub returns-in-Reads-clause-step : goal.returns-in-Reads-clause-step
-returns-in-Reads-clause-step g c =
+pub returns-in-Reads : goal.returns-in-Reads
+returns-in-Reads g c =
     let n : Device = g.N.Nvm.device c.args.nvm.now in
     let b : Booting = c.args.self.now in
     let s : State = state_of c.args.start.now.state in
@@ -21,19 +19,8 @@ returns-in-Reads-clause-step g c =
     (subst (λ (q : Stage). CanStepAt g.F.Fills.filling q s n b c.args.control.now) is c.requires.can)
     c.read_next.ensures.goes c.read_next.ensures.fills c.read_next.ensures.block c.read_next.ensures.boot c.read_next.ensures.control c.read_next.ensures.nvm
 
-pub returns-in-Reads-clause-writes : goal.returns-in-Reads-clause-writes
-returns-in-Reads-clause-writes g c =
-    let F = g.F.Fills.filling in
-    let b : Booting = c.args.self.now in
-    let s : State = state_of c.args.start.now.state in
-    let old = g.N.Nvm.writes c.args.nvm.now in
-    let new = g.N.Nvm.writes c.read_next.new.nvm in
-    let is : b.stage ≡ Reads c.in-Reads.at = sym c.stage.ensures ∙ c.in-Reads.is in
-    subst (λ (q : Stage). Counts (action_at F q s b c.args.control.now) c.read_next.result old new) (sym is)
-    (counts_read F b c.args.control.now c.read_next.result old new c.in-Reads.at c.read_next.ensures.same_writes)
-
-pub returns-in-Migrates-clause-step : goal.returns-in-Migrates-clause-step
-returns-in-Migrates-clause-step g c =
+pub returns-in-Migrates : goal.returns-in-Migrates
+returns-in-Migrates g c =
     let n : Device = g.N.Nvm.device c.args.nvm.now in
     let b : Booting = c.args.self.now in
     let s : State = state_of c.args.start.now.state in

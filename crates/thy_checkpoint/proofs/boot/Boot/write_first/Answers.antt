@@ -39,8 +39,8 @@ pub write-requires-in-Commit-clause-place : goal.write-requires-in-Commit-clause
 write-requires-in-Commit-clause-place g c =
     omega (arith, c.requires.can.sized, head_inside g.F.Fills.filling g.met.F.Fills.lawful c.args.self.now.p)
 
-pub returns-in-Write-clause-nvm : goal.returns-in-Write-clause-nvm
-returns-in-Write-clause-nvm g c =
+pub returns-in-Write : goal.returns-in-Write
+returns-in-Write g c =
     let F = g.F.Fills.filling in
     let s : State = state_of c.args.state.now in
     let k : ℕ = c.in-Write.k in

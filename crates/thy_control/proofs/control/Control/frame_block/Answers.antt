@@ -16,14 +16,13 @@ returns g c =
     let r = c.load_frame.result in
     let t : State = c.load_frame.new.self in
     let n : Device = g.N.Nvm.device c.load_frame.new.nvm in
-    let copies = c.load_frame.ensures.copies in
+    let copies = c.load_frame.ensures in
     let booting = c.requires.booting in
     let law = c.a_frame_is_loaded.ensures in
     record {
       copies = copies;
       booting = IsBooting-after c.args.j c.args.k s t m r
           booting copies.state copies.kept;
-      same_writes = c.load_frame.ensures.same_writes;
       keeps = at_result (KeepsCheckpoints s m) r t n copies.state copies.nvm
           (KeepsCheckpoints-frame c.args.j c.args.k s c.recall_tables.ensures booting c.requires.may m
           c.requires.sized law);

@@ -27,7 +27,6 @@ returns g c =
           fills.nvm all.held;
       fills = fills;
       side = c.fill_lowest.ensures.side;
-      same_writes = c.fill_lowest.ensures.same_writes;
       stays = stays_by keeps others s m t
           n r c.recall_tables.ensures
           c.requires.sized c.requires.promoting fills.state fills.nvm fills.kept fills.err

@@ -1,7 +1,6 @@
 use Rattle.std.proofs.Common.{sym, ◌∙◌, ap, subst}
 use Rattle.thy_view.specs.Advances.{IfAdvanced, IsOthersCycle}
 use Rattle.thy_view.specs.Kind.{CanStep, Simulates, FailsSafe}
-use Rattle.thy_view.specs.Restart.{RestartsUnwritten}
 use Rattle.thy_scheme.specs.Kind.{kind_over}
 use Rattle.thy_scheme.specs.Machine.{Machine}
 use Rattle.thy_core.specs.Calm.{is_calm}
@@ -26,11 +25,6 @@ pub returns-clause-safe : goal.returns-clause-safe
 returns-clause-safe g c =
     subst (λ (m : Machine g.row.S.Denot). IfAdvanced c.step_hart.result (FailsSafe (kind_over g.S.Scheme.scheme) c.args.start.now c.args.pick m (machine_of c.step_hart.new.m) (g.N.Nvm.device c.args.nvm.now)
     (g.N.Nvm.device c.step_hart.new.nvm))) (c.mark_calm.ensures.same ∙ c.self.view_is) c.step_hart.ensures.safe
-
-pub returns-clause-no_writes : goal.returns-clause-no_writes
-returns-clause-no_writes g c =
-    subst (λ (m : Machine g.row.S.Denot). RestartsUnwritten (kind_over g.S.Scheme.scheme) m (g.N.Nvm.device c.args.nvm.now)
-    (g.N.Nvm.writes c.args.nvm.now) (g.N.Nvm.writes c.step_hart.new.nvm)) (c.mark_calm.ensures.same ∙ c.self.view_is) c.step_hart.ensures.no_writes
 
 -- a mark is no part of what a machine is
 pub returns-clause-left : goal.returns-clause-left

@@ -1,7 +1,6 @@
 use Rattle.std.proofs.Common.{Ok, sym, ◌∙◌, ap, subst}
 use Rattle.thy_view.specs.Advances.{IfAdvanced, IsOthersCycle}
 use Rattle.thy_view.specs.Kind.{Simulates, FailsSafe}
-use Rattle.thy_view.specs.Restart.{RestartsUnwritten}
 use Rattle.thy_scheme.specs.Kind.{kind_over}
 use Rattle.thy_core.proofs.machine.Machine.step.Goals as goal
 
@@ -38,10 +37,3 @@ returns-in-Ok-None-clause-safe g c =
     let left = c.advance.ensures.left (c.in-Ok-None.is ∙ ap Ok c.in-Ok-None.field-0-is) in
     subst (λ m. FailsSafe K c.args.start.now c.args.pick m c.take_other.new.self (g.N.Nvm.device c.args.nvm.now) new c.take_other.result) left.0
     (subst (λ x. FailsSafe K c.args.start.now c.args.pick c.advance.new.self c.take_other.new.self (g.N.Nvm.device x) new c.take_other.result) left.1 c.take_other.ensures.safe)
-
-pub returns-in-Ok-None-clause-no_writes : goal.returns-in-Ok-None-clause-no_writes
-returns-in-Ok-None-clause-no_writes g c =
-    let K = kind_over g.S.Scheme.scheme in
-    let left = c.advance.ensures.left (c.in-Ok-None.is ∙ ap Ok c.in-Ok-None.field-0-is) in
-    subst (λ m. RestartsUnwritten K m (g.N.Nvm.device c.args.nvm.now) (g.N.Nvm.writes c.args.nvm.now) (g.N.Nvm.writes c.take_other.new.nvm)) left.0
-    (subst (λ x. RestartsUnwritten K c.advance.new.self (g.N.Nvm.device x) (g.N.Nvm.writes x) (g.N.Nvm.writes c.take_other.new.nvm)) left.1 c.take_other.ensures.no_writes)

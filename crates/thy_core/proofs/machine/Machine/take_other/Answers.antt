@@ -1,7 +1,6 @@
 use Rattle.std.proofs.Common.{sym, subst}
 use Rattle.thy_view.specs.Advances.{IsOthersCycle}
 use Rattle.thy_view.specs.Kind.{CanStep, Simulates, FailsSafe}
-use Rattle.thy_view.specs.Restart.{RestartsUnwritten}
 use Rattle.thy_scheme.specs.Kind.{kind_over}
 use Rattle.thy_scheme.specs.Machine.{Machine}
 use Rattle.thy_core.specs.MachineParts.{machine_of}
@@ -20,8 +19,3 @@ pub returns-clause-safe : goal.returns-clause-safe
 returns-clause-safe g c =
     subst (λ (m : Machine g.row.S.Denot). FailsSafe (kind_over g.S.Scheme.scheme) c.args.start.now c.args.pick m (machine_of c.step_other.new.m) (g.N.Nvm.device c.args.nvm.now)
     (g.N.Nvm.device c.step_other.new.nvm) c.step_other.result) c.self.view_is c.step_other.ensures.safe
-
-pub returns-clause-no_writes : goal.returns-clause-no_writes
-returns-clause-no_writes g c =
-    subst (λ (m : Machine g.row.S.Denot). RestartsUnwritten (kind_over g.S.Scheme.scheme) m (g.N.Nvm.device c.args.nvm.now)
-    (g.N.Nvm.writes c.args.nvm.now) (g.N.Nvm.writes c.step_other.new.nvm)) c.self.view_is c.step_other.ensures.no_writes

@@ -1,6 +1,6 @@
 use Rattle.std.proofs.Common.{refl}
 use Rattle.thy_scheme.proofs.scheme_store.SchemeStoreBlockStore.load.Goals as goal
-use Rattle.thy_scheme.proofs.SchemeStoreLemmas.{load_once, load_up, failure_counts, load_counts}
+use Rattle.thy_scheme.proofs.SchemeStoreLemmas.{load_once, load_up, load_leaves, failure_counts, load_counts}
 
 -- one action, or none
 pub returns-clause-once : goal.returns-clause-once
@@ -21,3 +21,9 @@ pub returns-clause-cause : goal.returns-clause-cause
 returns-clause-cause g c =
     load_counts g.S.Scheme.scheme g.met.S.Scheme.lawful c.args.self.now.scheme (g.N.Nvm.device c.args.nvm.now) (g.N.Nvm.device c.load.new.nvm) c.args.b c.load.result
     c.requires c.load.ensures.same c.load.ensures.err
+
+pub returns-clause-loads : goal.returns-clause-loads
+returns-clause-loads g c = record {
+  scheme = refl;
+  nvm = load_leaves (g.N.Nvm.device c.args.nvm.now) (g.N.Nvm.device c.load.new.nvm) c.load.result c.load.ensures.same c.load.ensures.err;
+}
