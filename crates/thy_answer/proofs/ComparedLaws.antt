@@ -93,10 +93,10 @@ module _ {N : Type 0} (c : Choice) (d : NvmOf N) (x : Subject) (first : Bool) (s
 
   -- a run that has not ended, and has one of these statuses, has no line
   no_line : (e : Bool) → ended ≡ e → e ≡ false → r.run.status ≤ 1
-      → scheme_lines scheme (all_of r.run.events) (d.writes new.around.nvm) ++ stop_line x.job.config.limit seen.ending.stop ≡ []
+      → scheme_lines scheme (all_of r.run.events) (d.device new.around.nvm).writes ++ stop_line x.job.config.limit seen.ending.stop ≡ []
   no_line e is none low =
       let stop : (status : Status) × (seen.ending.stop ≡ Ended status) = ended_low seen.ending.stop (subst (λ n. n ≤ 1) run_is low) in
-      ap (λ b. (if b then scheme_line (scheme_name scheme) (all_of r.run.events) (d.writes new.around.nvm) else []) ++ stop_line x.job.config.limit seen.ending.stop) (is ∙ none)
+      ap (λ b. (if b then scheme_line (scheme_name scheme) (all_of r.run.events) (d.device new.around.nvm).writes else []) ++ stop_line x.job.config.limit seen.ending.stop) (is ∙ none)
       ∙ ap (stop_line x.job.config.limit) stop.1
 
   heard_low : new.status ≤ 1 → r.failed ≡ false

@@ -59,13 +59,12 @@ outside shelf device terminal report =
 abbrev pub with_device : Device → Outside → Outside
 with_device n o = record o { device = n }
 
--- what devices of a type mean: what they hold, and how many writes they have taken since they were fitted
+-- what devices of a type mean
 pub record NvmOf (N : Type 0) : Type 0 where
   pub device : N → Device
-  pub writes : N → ℕ
 
-abbrev pub nvm_of : {N : Type 0} → (N → Device) → (N → ℕ) → NvmOf N
-nvm_of device writes = record { device = device; writes = writes }
+abbrev pub nvm_of : {N : Type 0} → (N → Device) → NvmOf N
+nvm_of device = record { device = device }
 
 -- what a call finds outside, or leaves there, with the device itself
 pub record Around (N : Type 0) : Type 0 where

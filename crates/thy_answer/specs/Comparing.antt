@@ -92,7 +92,7 @@ pub record RunsBy {N : Type 0} (c : Choice) (d : NvmOf N) (x : Subject) (first :
   pub events_are : events ≡ Scheme (scheme_number scheme) ∷ all_of run.events
   pub failed : Bool
   pub lines : Sent failed old.around.report new.around.report
-      (scheme_lines scheme (all_of run.events) (d.writes new.around.nvm) ++ stop_line x.job.config.limit over.ran.seen.ending.stop)
+      (scheme_lines scheme (all_of run.events) (d.device new.around.nvm).writes ++ stop_line x.job.config.limit over.ran.seen.ending.stop)
   pub status : new.status ≡ line_status (has_ended (all_of run.events)) failed run.status
   pub cycles : new.cycles ≡ run.cycles
 

@@ -1,12 +1,13 @@
 -- Part of the claim.
 -- The device that a run sees: the one that is handed in, or, with a gap, the levelled lines that it holds. A saved image has no
 -- trace of the gap: a run with a gap can be resumed without, and the other way round.
-use Rattle.std.specs.Prelude.{◌≡◌, ℕ, ◌+◌, ◌==◌, if◌then◌else◌, Bool, true, List, map, length, take, Option, Some, None}
+use Rattle.std.specs.Prelude.{◌≡◌, ◌≢◌, ℕ, ◌+◌, ◌-◌, ◌<◌, ◌^◌, ◌==◌, if◌then◌else◌, Bool, true, false, List, map, length, take, Option, Some, None}
 use Rattle.thy_block.specs.declared.block.Block.{Block}
 use Rattle.thy_block.specs.declared.outside.PutError.{PutError}
-use Rattle.thy_block.specs.Device.{Device, Crash}
+use Rattle.thy_block.specs.Device.{Device, Crash, Plain, Levels}
 use Rattle.thy_block.specs.Outside.{Stock}
 use Rattle.thy_block.specs.Flat.{flat}
+use Rattle.thy_gap.specs.Lines.{moved_times, unmoved, registers_in}
 use Rattle.thy_gap.specs.Seen.{unmapped}
 use Rattle.thy_layout.specs.Decoded.{Reading}
 use Rattle.thy_text.specs.Event.{Event}
@@ -30,6 +31,16 @@ pub record IsFoundAs (gap : ℕ) (handed seen : Device) : Type 0 where
   pub fits : seen.fits ≡ handed.fits
   pub whole : seen.whole ≡ handed.whole
 
+-- what the run sees says how often a line has moved; the registers that the device holds, if it is up, are what this count
+-- makes of the first ones, while the count has not saturated
+pub record HasMoved (handed seen : Device) : Type 0 where
+  pub every : ℕ
+  pub since : ℕ
+  pub moves : ℕ
+  pub says : seen.wear ≡ Levels every since moves
+  pub registers : handed.down ≡ false → moves < 2 ^ 64 - 1
+      → registers_in handed.image ≡ moved_times moves (unmoved (length seen.image))
+
 -- what the run sees of the device afterwards: the device itself; with a gap, what the images of the device are to it,
 -- and all else the same
 pub record IsLeftAs (gap : ℕ) (handed seen : Device) : Type 0 where
@@ -44,6 +55,8 @@ pub record IsLeftAs (gap : ℕ) (handed seen : Device) : Type 0 where
   pub faults : seen.faults ≡ handed.faults
   pub fits : seen.fits ≡ handed.fits
   pub whole : seen.whole ≡ handed.whole
+  -- with a gap over a device whose barriers make no write of their own
+  pub moved : gap ≢ 0 → handed.wear ≡ Plain → HasMoved handed seen
 
 -- ---- what follows for the device that is handed back, without the one that the run saw
 

@@ -50,7 +50,7 @@ pub fn thynvm<H: Shelf, T: Sink, R: Sink, N: Nvm>(
         (T.stream terminal.old) (R.stream report.old) in
         let after = around (H.stock shelf.new) nvm.new
         (T.stream terminal.new) (R.stream report.new) in
-        let nvms = nvm_of N.device N.writes in
+        let nvms = nvm_of N.device in
         let machines = by_scheme ⟦<Machine<Thynvm> as Computer>⟧.kind
         ⟦<Machine<Journal> as Computer>⟧.kind
         ⟦<Machine<Shadow> as Computer>⟧.kind in
@@ -79,7 +79,7 @@ pub fn observed<H: Shelf, T: Sink, R: Sink, N: Nvm, O: Observer>(
         (T.stream terminal.old) (R.stream report.old) in
         let after = around (H.stock shelf.new) nvm.new
         (T.stream terminal.new) (R.stream report.new) in
-        let nvms = nvm_of N.device N.writes in
+        let nvms = nvm_of N.device in
         let machines = by_scheme ⟦<Machine<Thynvm> as Computer>⟧.kind
         ⟦<Machine<Journal> as Computer>⟧.kind
         ⟦<Machine<Shadow> as Computer>⟧.kind in

@@ -66,8 +66,8 @@ module _ {N : Type 0} (c : Choice) (d : NvmOf N) (x : Subject) (p : Plan) (first
         events_are = refl;
         failed = h.failed;
         lines =
-            subst (λ stop. Sent h.failed old.report new.report (scheme_lines scheme h.ran.events (d.writes new.nvm) ++ stop_line x.job.config.limit stop)) (sym r.1)
-            (subst (λ l. Sent h.failed old.report new.report (scheme_lines scheme h.ran.events (d.writes new.nvm) ++ stop_line l h.ran.stop)) plan_for.same_limit h.lines);
+            subst (λ stop. Sent h.failed old.report new.report (scheme_lines scheme h.ran.events (d.device new.nvm).writes ++ stop_line x.job.config.limit stop)) (sym r.1)
+            (subst (λ l. Sent h.failed old.report new.report (scheme_lines scheme h.ran.events (d.device new.nvm).writes ++ stop_line l h.ran.stop)) plan_for.same_limit h.lines);
         status = h.status;
         cycles = h.cycles;
       }

@@ -54,7 +54,7 @@ pub record HasRunNext {M N : Type 0} (K : KindOf M) (d : NvmOf N) (name : List �
   pub events : events_of next ≡ events_of so_far ++ Scheme (scheme_number p.config.scheme) ∷ ran.events
   pub failed : Bool
   pub lines : Sent failed old.report new.report
-      (scheme_lines p.config.scheme ran.events (d.writes new.nvm) ++ stop_line p.geometry.limit ran.stop)
+      (scheme_lines p.config.scheme ran.events (d.device new.nvm).writes ++ stop_line p.geometry.limit ran.stop)
   pub status : next.status ≡ line_status (has_ended ran.events) failed ran.status
   pub cycles : next.cycles ≡ ran.cycles
 

@@ -196,7 +196,7 @@ fn run_next<M: Computer, H: Shelf, U: Sink, R: Sink, N: Nvm>(
 ) -> Compared
     requires can { CanRun plan.now [] }
     requires reads { ReadsFiles M.kind plan.now.geometry }
-    ensures { let d = nvm_of N.device N.writes in
+    ensures { let d = nvm_of N.device in
         let old = around (H.stock shelf.old) nvm.old (U.stream terminal.old) (R.stream report.old) in
         let new = around (H.stock shelf.new) nvm.new (U.stream terminal.new) (R.stream report.new) in
         RunsNext M.kind d name.now plan.now old new so_far result }
@@ -254,7 +254,7 @@ fn compare_plan<A: Computer, B: Computer, C: Computer, H: Shelf, T: Sink, R: Sin
     requires shadow { (p : Numbers) → p.scheme ≡ SchemeName.Shadow → ReadsFiles C.kind p }
     requires can { (scheme : SchemeName) → CanRun (plan_under scheme plan) [] }
     ensures { let machines = by_scheme A.kind B.kind C.kind in
-        let d = nvm_of N.device N.writes in
+        let d = nvm_of N.device in
         let before = around (H.stock shelf.old) nvm.old (T.stream terminal.old) (R.stream report.old) in
         let after = around (H.stock shelf.new) nvm.new (T.stream terminal.new) (R.stream report.new) in
         Compares machines d name.now plan before after result }
@@ -312,7 +312,7 @@ pub fn compare<A: Computer, B: Computer, C: Computer, H: Shelf, T: Sink, R: Sink
     requires journal { (p : Numbers) → p.scheme ≡ SchemeName.Journal → ReadsFiles B.kind p }
     requires shadow { (p : Numbers) → p.scheme ≡ SchemeName.Shadow → ReadsFiles C.kind p }
     ensures { let machines = by_scheme A.kind B.kind C.kind in
-        let d = nvm_of N.device N.writes in
+        let d = nvm_of N.device in
         let before = around (H.stock shelf.old) nvm.old (T.stream terminal.old) (R.stream report.old) in
         let after = around (H.stock shelf.new) nvm.new (T.stream terminal.new) (R.stream report.new) in
         CompareAnswered machines d name.now (job_of job) before after result }

@@ -49,7 +49,7 @@ pub fn carry_out<
         (T.stream terminal.old) (R.stream report.old) in
         let after = around (H.stock shelf.new) nvm.new
         (T.stream terminal.new) (R.stream report.new) in
-        let nvms = nvm_of N.device N.writes in
+        let nvms = nvm_of N.device in
         let machines = by_scheme A.kind B.kind C.kind in
         let words = map string_bytes words.now in
         AnswerSeen machines nvms O.has_seen O.has_seen_last words before after result observer.new }

@@ -9,14 +9,15 @@ use Rattle.thy_block.specs.declared.nvm.FitError.{FitError}
 use Rattle.thy_block.specs.declared.nvm.FitError.TheVariants.{Failed, Memory}
 use Rattle.thy_block.specs.declared.outside.PutError.{PutError}
 use Rattle.thy_block.specs.Counts.{next}
-use Rattle.thy_block.specs.Device.{Device, Crash, HasFailedToFit, IsCut, lent_by}
+use Rattle.thy_block.specs.Device.{Device, Crash, HasFailedToFit, IsCut, lent_by, Wear}
 use Rattle.thy_block.specs.Outside.{Stock}
 use Rattle.thy_block.proofs.LoanLemmas.{framed_within, same_loan}
 use Rattle.thy_block.specs.Flat.{flat}
 use Rattle.thy_gap.specs.declared.registers.Registers.{Registers}
 use Rattle.thy_gap.specs.Lines.{no_lines}
-use Rattle.thy_gap.specs.Meaning.{ImageMeansSeen, CrashMeansSeen, LeftMeansSeen}
-use Rattle.thy_gap.specs.Seen.{seen, unmapped}
+use Rattle.thy_gap.specs.Meaning.{ImageMeansSeen, CrashMeansSeen, LeftMeansSeen, RegistersMeanMoves}
+use Rattle.thy_gap.specs.Levelled.{looks, wear_over}
+use Rattle.thy_gap.specs.Seen.{unmapped}
 use Rattle.thy_gap.proofs.SeenLemmas.{length-unmap}
 use Rattle.thy_layout.specs.Decoded.{Decoded}
 use Rattle.thy_text.specs.Event.{Event, Scheme, EpochEnd, Commit, Cut, Restart, Reload, Ended}
@@ -72,27 +73,33 @@ IsLeftAs-direct gap n none = record {
   faults = refl;
   fits = refl;
   whole = refl;
+  moved = λ some plain. absurd (some none);
 }
 
 -- ---- with one, over a device that is lent
 
 -- lines before they are fitted
-pub IsFoundAs-levelled : (gap : ℕ) (name : GName) (n : Device) → 0 < gap → IsFoundAs gap n (seen no_lines (lent_by name n))
-IsFoundAs-levelled gap name n some = record { direct = λ none. absurd (omega (arith, none, some)); faults = refl; fits = refl; whole = refl }
+pub IsFoundAs-levelled : (gap every since moves : ℕ) (name : GName) (n : Device) → 0 < gap
+    → IsFoundAs gap n (looks every since moves no_lines (lent_by name n))
+IsFoundAs-levelled gap every since moves name n some = record { direct = λ none. absurd (omega (arith, none, some)); faults = refl; fits = refl; whole = refl }
 
 -- a cut leaves the same of a device that is lent
 crash_lent : (name : GName) (n : Device) (g : List Block) → Crash n g → Crash (lent_by name n) g
 crash_lent name n g c = record { same_length = c.same_length; each = c.each }
 
-pub IsLeftAs-levelled : (gap : ℕ) (name : GName) (r : Registers) (n : Device) → 0 < gap → 0 < length (seen r (lent_by name n)).image
-    → ImageMeansSeen (lent_by name n) (seen r (lent_by name n)) → CrashMeansSeen (lent_by name n) (seen r (lent_by name n)) → LeftMeansSeen (lent_by name n) (seen r (lent_by name n))
-    → IsLeftAs gap n (seen r (lent_by name n))
-IsLeftAs-levelled gap name r n some lines image crash left =
+pub IsLeftAs-levelled : (gap every since moves : ℕ) (name : GName) (r : Registers) (n : Device) → 0 < gap
+    → 0 < length (looks every since moves r (lent_by name n)).image
+    → ImageMeansSeen (lent_by name n) (looks every since moves r (lent_by name n))
+    → CrashMeansSeen (lent_by name n) (looks every since moves r (lent_by name n))
+    → LeftMeansSeen (lent_by name n) (looks every since moves r (lent_by name n))
+    → RegistersMeanMoves (lent_by name n) (looks every since moves r (lent_by name n)) moves
+    → IsLeftAs gap n (looks every since moves r (lent_by name n))
+IsLeftAs-levelled gap every since moves name r n some lines image crash left moved =
     let fitted : (r.lines == 0) ≡ false = ne_eqb r.lines 0 (λ e. omega (arith, e, lines, length-unmap r n.image)) in
     record {
       direct = λ none. absurd (omega (arith, none, some));
       image = through-levelled gap some n.image ∙ image lines;
-      crash = λ g c. subst (Crash (seen r (lent_by name n))) (sym (through-levelled gap some g)) (crash lines g (crash_lent name n g c));
+      crash = λ g c. subst (Crash (looks every since moves r (lent_by name n))) (sym (through-levelled gap some g)) (crash lines g (crash_lent name n g c));
       left = map_both (through gap) unmapped (through-levelled gap some) n.left ∙ left lines;
       picks = ap (λ b. if b then [] else n.picks) fitted;
       queue_room = refl;
@@ -101,6 +108,13 @@ IsLeftAs-levelled gap name r n some lines image crash left =
       faults = refl;
       fits = refl;
       whole = refl;
+      moved = λ more plain. record {
+        every = every;
+        since = since;
+        moves = moves;
+        says = ap (λ (w : Wear). wear_over w every since moves) plain;
+        registers = λ up few. moved lines up few;
+      };
     }
 
 -- ---- a fit that failed
@@ -110,8 +124,11 @@ within n = record n { lent = drop 1 n.lent }
 
 -- a fit that failed failed on the device that is lent
 pub failed_within : (e : FitError) (name other : GName) (old new : Device) → HasFailedToFit e (lent_by name old) (lent_by other new) → HasFailedToFit e old new
-failed_within Failed name other old new (failed, framed, rose) =
-    (record { down = failed.down; no_more = failed.no_more }, framed_within name other (record old { fits = next old.fits }) new framed, rose)
+failed_within Failed name other old new (failed, framed, rose) = (
+  record { down = failed.down; no_more = failed.no_more; counts = record { writes = failed.counts.writes; wear = failed.counts.wear } },
+  framed_within name other (record old { fits = next old.fits }) new framed,
+  rose,
+)
 failed_within (Memory e) name other old new (inl same) = inl (ap within same)
 failed_within (Memory e) name other old new (inr same) = inr (ap within same)
 

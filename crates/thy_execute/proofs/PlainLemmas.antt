@@ -17,7 +17,6 @@ use Rattle.thy_answer.specs.declared.answer.Answer.{Answer}
 use Rattle.thy_run.specs.declared.ending.Stop.{Stop}
 use Rattle.thy_files.specs.declared.source.Program.{Program}
 use Rattle.thy_view.specs.Origin.{at, runs_at}
-use Rattle.thy_view.specs.WithTurns.{with_turns}
 use Rattle.thy_answer.specs.Answering.{Outside, IsPlainOf, ClosesRun, StopsAt, plain_stop, stop_line, stop_status}
 use Rattle.thy_files.specs.Beginnings.{IsProgramOf}
 use Rattle.thy_answer.specs.Sources.{Beginning, file, origin_for}
@@ -45,11 +44,11 @@ stops_at job b contents input limit k is s = record {
     runs_is j = ap (λ (s : State). is_running s.status) (begun_steps job b input (start_state (parameters_of job.config) contents) j is refl)
 
 -- a program's run on the plain machine is the run of its job, and stops in this state
-pub IsPlainOf-ran : (name : List ℕ) (job : Job) (before after : Outside) (p : Program) (first last : Machine) (s : MachState) (limit k : ℕ) (terminal_failed report_failed : Bool) (stop : Stop) (a : Answer) (with_turns : Stream) → IsProgramOf (file name) job before.shelf p
+pub IsPlainOf-ran : (name : List ℕ) (job : Job) (before after : Outside) (p : Program) (first last : Machine) (s : MachState) (limit k : ℕ) (terminal_failed report_failed : Bool) (stop : Stop) (a : Answer) (reported : Stream) → IsProgramOf (file name) job before.shelf p
     → after.shelf ≡ before.shelf → first ≡ loaded p.geometry (contents_of p.image) (bytes_of p.input) → limit ≡ p.geometry.limit → MachineStops first limit k → last ≡ after_steps k first → state_of s ≡ last.state
-    → Sent terminal_failed before.terminal after.terminal (bytes_of s.console) → Sent report_failed before.report with_turns (ended_lines job.digest s.status s.count (bytes_of s.memory)) → stop ≡ plain_stop terminal_failed report_failed s.status
-    → ClosesRun report_failed (stop_line limit stop) with_turns after.report → a.events ≡ of_run [] → a.cycles ≡ k → a.status ≡ stop_status stop → (h : IsPlainOf name job before after a) × (h.last ≡ state_of s)
-IsPlainOf-ran name job before after p first last s limit k terminal_failed report_failed stop a with_turns program faults is bound stops done state shown read why closes events cycles status =
+    → Sent terminal_failed before.terminal after.terminal (bytes_of s.console) → Sent report_failed before.report reported (ended_lines job.digest s.status s.count (bytes_of s.memory)) → stop ≡ plain_stop terminal_failed report_failed s.status
+    → ClosesRun report_failed (stop_line limit stop) reported after.report → a.events ≡ of_run [] → a.cycles ≡ k → a.status ≡ stop_status stop → (h : IsPlainOf name job before after a) × (h.last ≡ state_of s)
+IsPlainOf-ran name job before after p first last s limit k terminal_failed report_failed stop a reported program faults is bound stops done state shown read why closes events cycles status =
     let contents : Contents = contents_of p.image in
     let input : List ℕ = program.program.input in
     let plain_start : Machine = loaded (parameters_of job.config) contents input in
@@ -67,9 +66,9 @@ IsPlainOf-ran name job before after p first last s limit k terminal_failed repor
         terminal_failed = terminal_failed;
         report_failed = report_failed;
         shown_all = shown;
-        with_turns = with_turns;
+        reported = reported;
         read_all = read;
-        closes = subst (λ l. ClosesRun report_failed (stop_line l (plain_stop terminal_failed report_failed s.status)) with_turns after.report) most (subst (λ x. ClosesRun report_failed (stop_line limit x) with_turns after.report) why closes);
+        closes = subst (λ l. ClosesRun report_failed (stop_line l (plain_stop terminal_failed report_failed s.status)) reported after.report) most (subst (λ x. ClosesRun report_failed (stop_line limit x) reported after.report) why closes);
         status = status ∙ ap stop_status why;
         events = events;
       },

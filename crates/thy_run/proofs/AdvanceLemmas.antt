@@ -200,10 +200,10 @@ module _ {M : Type 0} (K : KindOf M) (laws : IsLawful K) (plan : Plan) (p q : Pr
       let due_now : (nat_lt q.passed (length plan.config.cuts) && slice_index plan.config.cuts q.passed == k + 1) ≡ true =
       subst (λ c. (nat_lt q.passed (length plan.config.cuts) && slice_index plan.config.cuts q.passed == c) ≡ true) at_cycle due in
       let is_cut : is_due K o plan.config.cuts x ≡ true = due_both (is_halt next.phase) _ (going_on is) due_now in
-      let device : m' ≡ cut_to m (tear plan.config.tears q.passed) m'.image = cut.cut.device in
+      let device : m' ≡ cut_to m (tear plan.config.tears q.passed) m'.image m'.wear = cut.cut.device in
       let left : Decoded = K.decode o.geometry ceiling m'.image in
       let kept : AgreeBelow (line_of plan (turns_then plan turns r.did)) (cut_turns K plan (turns_then plan turns r.did) m') (reach (view_of_image o.start.count left)) = kept_agrees o (turns_then plan turns r.did) left in
-      let law = goes_on_after_cut K laws (line_of plan (turns_then plan turns r.did)) (k + 1) q.machine q'.machine m (tear plan.config.tears q.passed) m'.image noted.steps.is_step.at_next cut.powered cut.cut.crash in
+      let law = goes_on_after_cut K laws (line_of plan (turns_then plan turns r.did)) (k + 1) q.machine q'.machine m (tear plan.config.tears q.passed) m'.image m'.wear noted.steps.is_step.at_next cut.powered cut.cut.crash in
       let was : K.view (line_of plan (turns_then plan turns r.did)) q'.machine m' ≡ view_of_image o.start.count left = ap (K.view (line_of plan (turns_then plan turns r.did)) q'.machine) device ∙ law.1 in
       let was_at : K.is_at (line_of plan (turns_then plan turns r.did)) (k + 1) q'.machine m' = subst (λ d. K.is_at (line_of plan (turns_then plan turns r.did)) (k + 1) q'.machine d) (sym device) law.0 in
       let so_far : AgreeBelow (line_of plan (turns_then plan turns r.did)) (cut_turns K plan (turns_then plan turns r.did) m') (reach (K.view (line_of plan (turns_then plan turns r.did)) q'.machine m')) =

@@ -65,7 +65,7 @@ late_of p v m h l is =
 
 -- ---- the view
 
-runs_agree : (p : Origin) (t : List ℕ) (k : ℕ) → AgreeBelow p t k → runs_at (with_turns p t) k ≡ runs_at p k
+pub runs_agree : (p : Origin) (t : List ℕ) (k : ℕ) → AgreeBelow p t k → runs_at (with_turns p t) k ≡ runs_at p k
 runs_agree p t k agree = ap (λ (s : State). is_running s.status) (at-agrees p t k agree)
 
 over_agrees : (p : Origin) (t : List ℕ) (retired count : ℕ) (over : Option EndCause) → AgreeBelow p t count → OverFits p retired count over

@@ -21,6 +21,7 @@ pub mod SoonLaws
 pub mod StrideLaws
 pub mod PickLaws
 pub mod PromiseLaws
+pub mod AlikeLaws
 pub mod ConsoleLaws
 pub mod GatherLemmas
 pub mod NoteLemmas

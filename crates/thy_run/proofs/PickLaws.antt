@@ -37,7 +37,7 @@ keeps_by : {M : Type 0} (K : KindOf M) (o : Origin) (given : Given) (w x next : 
     → (b : Bool) → MatchBool b (IsCutOff K o (tear given.config.tears x.passed) x next) (next ≡ x) → StaysFitted given next.passed next.device
 keeps_by {M = M} K o given w x next step h true cut =
     let here = StaysFitted-step K o given w x step h in
-    let device : next.device ≡ cut_to x.device (tear given.config.tears x.passed) next.device.image = cut.cut.device in
+    let device : next.device ≡ cut_to x.device (tear given.config.tears x.passed) next.device.image next.device.wear = cut.cut.device in
     let passed : next.passed ≡ suc x.passed = ap (λ (y : World M). y.passed) cut.next_is ∙ (let more : x.passed + 1 ≡ suc x.passed = omega arith in more) in
     record {
       picks = ap (λ (n : Device). n.picks) device ∙ ap (λ (l : List ℕ). l ++ tear given.config.tears x.passed ∷ []) here.picks ∙ sym (ap (torn given.config.tears) passed);

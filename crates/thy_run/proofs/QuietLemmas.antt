@@ -49,7 +49,7 @@ drawn_on K plan fitted p n k turns harts mix pick same is after goes = record {
 }
 
 -- a cycle that passes lets the run continue
-passes_on : {M : Type 0} (K : KindOf M) (plan : Plan) (fitted : Device) (p q : Progress M) (n m : Device) (k : ℕ) (turns : List ℕ) (r : Stepped) → GoesOn K plan fitted p n k turns → Passes K plan p q n m k turns r [] → GoesOn K plan fitted q m (k + 1) (turns_then plan turns r.did)
+pub passes_on : {M : Type 0} (K : KindOf M) (plan : Plan) (fitted : Device) (p q : Progress M) (n m : Device) (k : ℕ) (turns : List ℕ) (r : Stepped) → GoesOn K plan fitted p n k turns → Passes K plan p q n m k turns r [] → GoesOn K plan fitted q m (k + 1) (turns_then plan turns r.did)
 passes_on K plan fitted p q n m k turns r goes c = record {
   ran =
       let e : suc k ≡ k + 1 = omega arith in

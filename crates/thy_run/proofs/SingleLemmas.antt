@@ -3,7 +3,9 @@ use Rattle.std.proofs.Common.{◌≡◌, ℕ, zero, suc, ◌+◌, ◌<◌, ◌�
 use Rattle.std.specs.Prelude.{slice_index}
 use Rattle.std.proofs.lemmas.Bool.{ltb-true, and_parts}
 use Rattle.thy_block.specs.Device.{Device}
-use Rattle.thy_block.specs.Outside.{Stream}
+use Rattle.thy_block.specs.Outside.{Stream, Took}
+use Rattle.thy_text.specs.Event.{Event}
+use Rattle.thy_text.specs.Lines.{report_of}
 use Rattle.thy_view.specs.Kind.{KindOf, IsLawful}
 use Rattle.thy_view.specs.Origin.{Origin}
 use Rattle.thy_view.specs.declared.did.Stepped.{Stepped}
@@ -11,14 +13,15 @@ use Rattle.thy_run.specs.declared.ending.Stop.TheVariants.{Nvm}
 use Rattle.thy_run.specs.declared.plan.Plan.{Plan}
 use Rattle.thy_run.specs.declared.progress.Progress.{Progress}
 use Rattle.thy_run.specs.Due.{IsQuiet}
-use Rattle.thy_run.specs.Going.{origin_of, given_of, world_at, IsPlanned, GoesOn, IsStepped, IsStuck}
-use Rattle.thy_run.specs.Quiet.{IsLed}
+use Rattle.thy_run.specs.Going.{origin_of, given_of, reporting_of, turns_then, world_at, IsPlanned, GoesOn, IsStepped, IsStuck}
+use Rattle.thy_run.specs.Laws.{released_of}
 use Rattle.thy_run.specs.Rounds.{Running, RunEnds, ending_of}
+use Rattle.thy_run.specs.Seeing.{IsDoneBy}
 use Rattle.thy_run.specs.Watching.{Taken, IsListed, taken_in}
 use Rattle.thy_run.specs.World.{World, Given, Ran}
-use Rattle.thy_run.proofs.AdvanceLemmas.{IsBroken-stuck}
+use Rattle.thy_run.proofs.AdvanceLemmas.{IsBroken-stuck, quiet_goes}
 use Rattle.thy_run.proofs.OutcomeLemmas.{ComesTo-unlisted}
-use Rattle.thy_run.proofs.QuietLemmas.{IsLed-on, Running-led}
+use Rattle.thy_run.proofs.QuietLemmas.{passes_on}
 use Rattle.thy_run.proofs.SeeingLemmas.{length-listed}
 
 -- the cycles of a run are listed somewhere
@@ -40,10 +43,6 @@ cycles_long K plan fitted p n k turns goes =
     let e : length seen.0 ≡ k = length-listed K (origin_of plan) (given_of plan fitted) k (world_at p n k turns) seen.0 seen.1 in
     omega (arith, e)
 
--- an observer that sees nothing
-abbrev silent : Unit {0} → List Taken → Type 0
-silent o seen = Unit {0}
-
 -- if no cut is listed, none falls
 pub none_due : (cuts : List ℕ) (passed cycle : ℕ) → cuts ≡ [] → (nat_lt passed (length cuts) && slice_index cuts passed == cycle) ≡ true → ⊥
 none_due [] passed cycle none due =
@@ -53,19 +52,20 @@ none_due (c ∷ cs) passed cycle none due = absurd (cc)
 
 module _ {M : Type 0} (K : KindOf M) (laws : IsLawful K) (plan : Plan) (fitted : Device) (p next : Progress M) (n new : Device) (done : ℕ) (turns : List ℕ) (t0 t r0 r : Stream)
     (planned : IsPlanned plan) (running : Running K plan fitted p n done turns t0 t r0 r) where
-  led_here : IsLed K silent plan fitted p p n done done tt
-  led_here =
-      let seen = listed_of K (origin_of plan) (given_of plan fitted) done (world_at p n done turns) running.goes.ran in
-      record { turns = turns; goes = running.goes; watched = (seen.0, seen.1, tt); unlisted = refl; uncut = refl; fresh = refl; more = omega arith }
-
   -- a cycle that has nothing to report
   pub Running-quiet : (x : Stepped) → IsStepped K plan p next n new done turns x → IsQuiet plan.config.cuts next x (done + 1)
-      → (after : List ℕ) × Running K plan fitted next new (done + 1) after t0 t r0 r
-  unfolding led_here
+      → (after : List ℕ) × Running K plan fitted next new (done + 1) after t0 t r0 r × IsDoneBy K plan p next n new done turns after x
   Running-quiet x stepped quiet =
-      let led : IsLed K silent plan fitted p next new done (done + 1) tt =
-      IsLed-on K laws silent plan fitted p p next n new done done x tt tt planned led_here stepped quiet (λ seen h. tt) in
-      (led.turns, Running-led K silent plan fitted p next n new done (done + 1) turns tt t0 t r0 r running led)
+      let passes = quiet_goes K laws plan fitted p n done turns planned running.goes next new x stepped quiet in
+      let unlisted : next.events ≡ p.events = ap (λ (y : Progress M). y.events) stepped.same in (
+        turns_then plan turns x.did,
+        record {
+          goes = passes_on K plan fitted p next n new done turns x running.goes passes;
+          shown_all = subst (λ (l : List Event). Took t0 t (released_of (origin_of plan) l)) (sym unlisted) running.shown_all;
+          read_all = subst (λ (l : List Event). Took r0 r (report_of (reporting_of plan) l)) (sym unlisted) running.read_all;
+        },
+        (passes.0.cycle, passes.0.by_step, passes.0.has_fallen),
+      )
 
   -- one whose step failed
   pub RunEnds-stuck : done < plan.geometry.limit → IsStuck K plan p next n new turns → RunEnds K plan fitted new (ending_of Nvm next done) t0 t r0 r

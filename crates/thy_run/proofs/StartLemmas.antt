@@ -5,6 +5,8 @@ use Rattle.thy_block.specs.declared.bytes.Bytes.{Bytes}
 use Rattle.thy_block.specs.declared.mix.Mix.{Mix}
 use Rattle.thy_block.specs.Mix.{mix_start}
 use Rattle.thy_block.specs.Device.{Device}
+use Rattle.thy_block.specs.Places.{dram_blocks}
+use Rattle.thy_dram.specs.Contents.{fresh}
 use Rattle.thy_block.specs.Outside.{Stream}
 use Rattle.thy_view.specs.Kind.{KindOf, IsLawful}
 use Rattle.thy_text.specs.Event.{Event}
@@ -34,9 +36,10 @@ first_doubt o None = refl
 first_doubt o (Some m) = refl
 
 -- power comes on for the first time
-pub first_of : {M : Type 0} (K : KindOf M) (laws : IsLawful K) → (plan : Plan) (m : M) (t : Bytes) (n : Device) → IsPlanned plan → K.powered plan.geometry m → IsFitted K plan n
+pub first_of : {M : Type 0} (K : KindOf M) (laws : IsLawful K) → (plan : Plan) (m : M) (t : Bytes) (n : Device) → IsPlanned plan → K.powered plan.geometry m
+    → K.dram m ≡ fresh (dram_blocks plan.geometry) plan.geometry.dramq → IsFitted K plan n
     → IsFirst K (origin_of plan) (given_of plan n) (world_at (first_progress plan m t) n 0 [])
-first_of {M = M} K laws plan m t n planned powered f =
+first_of {M = M} K laws plan m t n planned powered zeros f =
     let o : Origin = origin_of plan in
     let law = laws.begins o m f.shape f.start f.before planned.origin powered f.fits in
     let at_first : K.is_at o 0 m n = subst (K.is_at o 0 m) (sym f.is_fitted) law.0 in
@@ -46,6 +49,7 @@ first_of {M = M} K laws plan m t n planned powered f =
       unlisted = refl;
       device = refl;
       powered = powered;
+      dram = zeros;
       at_moment = at_first;
       found = view;
       safe = subst (λ (d : Option Mark). Safe K.decode o (first_view o).done d n) (first_doubt o o.kept) (subst S view (laws.is_safe o 0 m n at_first));
@@ -75,7 +79,7 @@ pub Running-first : {M : Type 0} (K : KindOf M) (laws : IsLawful K) → (plan : 
     → IsStarted K plan p → Running K plan n p n 0 [] t t r r
 Running-first {M = M} K laws plan p n t r planned f started =
     let o : Origin = origin_of plan in
-    let first = first_of K laws plan p.machine p.turns n planned started.powered f in
+    let first = first_of K laws plan p.machine p.turns n planned started.powered started.dram f in
     let here : Running K plan n (first_progress plan p.machine p.turns) n 0 [] t t r r = record {
       goes = record {
         ran = first;
@@ -101,7 +105,7 @@ RunEnds-unpowered K laws plan events b n t r planned f none = (
   record {
     stopped = record {
       last = world_at (first_progress plan (laws.powers plan.geometry).0 b) n 0 [];
-      ran = first_of K laws plan (laws.powers plan.geometry).0 b n planned (laws.powers plan.geometry).1 f;
+      ran = first_of K laws plan (laws.powers plan.geometry).0 b n planned (laws.powers plan.geometry).1 (laws.powers plan.geometry).2 f;
       at_stop = inl (refl, (none, refl));
     };
     few = omega arith;

@@ -243,8 +243,8 @@ image_phase count (At epoch state) = (refl, refl)
 -- after a cut the device is safe for what it was safe for
 pub IsSafe-cut : {M : Type 0} (K : KindOf M) → (o : Origin) (m : Marks) (pick : ℕ) (old new : Device) → IsCut pick old new → IsSafe K.decode o m old → IsSafe K.decode o m new
 IsSafe-cut K o m pick old new cut safe = λ h crash.
-    let at_cut : Crash (cut_to old pick new.image) h = subst (λ n. Crash n h) cut.device crash in
-    subst (λ g. MayStand (course_of o) m (K.decode o.geometry ceiling g)) (sym (Crash-cut_to old pick new.image h at_cut)) (safe new.image cut.crash)
+    let at_cut : Crash (cut_to old pick new.image new.wear) h = subst (λ n. Crash n h) cut.device crash in
+    subst (λ g. MayStand (course_of o) m (K.decode o.geometry ceiling g)) (sym (Crash-cut_to old pick new.image h new.wear at_cut)) (safe new.image cut.crash)
 
 module _ {M : Type 0} (K : KindOf M) (o : Origin) (x next : World M) (h : Coheres K o x) (late : x.fresh ≡ false) (going : is_halt (seen K o x).phase ≡ false)
     (safe : Safe K.decode (line o x) (seen K o x).done (doubt_of (seen K o x)) x.device) (pick : ℕ) (cut : IsCutOff K o pick x next) where

@@ -8,6 +8,7 @@ pub mod Strides
 pub mod Laws
 pub mod Sending
 pub mod Watching
+pub mod Alike
 pub mod Endings
 pub mod Going
 pub mod Stopping

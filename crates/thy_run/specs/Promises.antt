@@ -186,7 +186,7 @@ Concludes {M = M} K has_seen keeps plan q next r readings cycle before after old
     → Running K plan fitted p n k turns t before.terminal u before.report
     → Watched K has_seen plan fitted p n k turns old_o
     → CycleTaken K has_seen keeps plan fitted p next n m k turns t before.terminal after.terminal u before.report
-    after.report old_o new_o outcome
+    after.report old_o new_o r outcome
 
 -- ---- the loop
 

@@ -4,6 +4,8 @@ use Rattle.thy_block.specs.declared.nvm.Shape.{Shape}
 use Rattle.thy_block.specs.Device.{Device, fitted}
 use Rattle.thy_block.specs.Mix.{mix_start}
 use Rattle.thy_block.specs.Outside.{Stream, Took}
+use Rattle.thy_block.specs.Places.{dram_blocks}
+use Rattle.thy_dram.specs.Contents.{fresh}
 use Rattle.thy_block.specs.declared.block.Block.{Block}
 use Rattle.thy_view.specs.Kind.{IsFittedFor, KindOf}
 use Rattle.thy_text.specs.Lines.{report_of}
@@ -96,6 +98,7 @@ first_progress plan machine turns = record {
 -- no turn is listed, and with two harts there is room for the turns of an epoch
 pub record IsStarted {M : Type 0} (K : KindOf M) (plan : Plan) (p : Progress M) : Type 0 where
   pub powered : K.powered plan.geometry p.machine
+  pub dram : K.dram p.machine ≡ fresh (dram_blocks plan.geometry) plan.geometry.dramq
   pub first : p ≡ first_progress plan p.machine p.turns
   pub empty : bytes_of p.turns ≡ []
   pub room : HasTurnsRoom plan.geometry (room_of p.turns)

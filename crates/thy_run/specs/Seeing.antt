@@ -1,5 +1,5 @@
 -- What the loop promises of its observer.
-use Rattle.std.specs.Prelude.{◌≡◌, ℕ, ◌+◌, List, length, Result, Ok, Err}
+use Rattle.std.specs.Prelude.{◌≡◌, ℕ, ◌+◌, false, List, length, Result, Ok, Err}
 use Rattle.thy_block.specs.Bytes.{bytes_of}
 use Rattle.thy_block.specs.Device.{Device}
 use Rattle.thy_block.specs.Outside.{Stream}
@@ -15,7 +15,7 @@ use Rattle.thy_run.specs.Going.{origin_of, given_of, world_at, IsStepped, Awaits
 use Rattle.thy_run.specs.Rounds.{Running, ComesTo, RunEnds}
 use Rattle.thy_run.specs.Sending.{Sinks}
 use Rattle.thy_run.specs.Watching.{Taken, IsListed}
-use Rattle.thy_run.specs.World.{Given}
+use Rattle.thy_run.specs.World.{Given, Cycle, is_due}
 use Rattle.thy_view.specs.Origin.{Origin}
 
 -- an observer has seen the cycles of the run up to here
@@ -58,15 +58,31 @@ SeenBy K has_seen keeps plan fitted p next n new done turns after old_o new_o (S
     Watched K has_seen plan fitted next new (done + 1) after new_o
 SeenBy K has_seen keeps plan fitted p next n new done turns after old_o new_o (Breaks stop) = new_o ≡ old_o
 
--- a cycle came to this, and the observer has seen so
+-- the cycle is done by this step, no cut fell after it, and then these turns are reported
+abbrev pub IsDoneBy : {M : Type 0} → KindOf M → Plan → Progress M → Progress M → Device → Device → ℕ → (turns after : List ℕ)
+    → Stepped → Type 0
+IsDoneBy K plan p next n new done turns after r =
+    (c : Cycle K (origin_of plan) plan.config.cuts plan.config.tears (world_at p n done turns) (world_at next new (done + 1) after))
+    × (c.steps.r ≡ r) × (is_due K (origin_of plan) plan.config.cuts c.between ≡ false)
+
+-- a cycle that is done, and after which no cut falls, is the one of this step
+abbrev pub StepsBy : {M : Type 0} → KindOf M → Plan → Progress M → Progress M → Device → Device → ℕ → (turns after : List ℕ)
+    → Stepped → Outcome → Type 0
+StepsBy K plan p next n new done turns after r Goes = IsDoneBy K plan p next n new done turns after r
+StepsBy K plan p next n new done turns after r (Cuts bytes) = Unit {0}
+StepsBy K plan p next n new done turns after r (Stops stop) = IsDoneBy K plan p next n new done turns after r
+StepsBy K plan p next n new done turns after r (Breaks stop) = Unit {0}
+
+-- a cycle of this step came to this, and the observer has seen so
 pub record CycleTaken {M O : Type 0} (K : KindOf M) (has_seen : O → List Taken → Type 0)
     (keeps : O → List Taken → Stepped → Type 0) (plan : Plan) (fitted : Device) (p next : Progress M) (n new : Device)
-    (done : ℕ) (turns : List ℕ) (terminal showing shown report reading read : Stream) (old_o new_o : O)
+    (done : ℕ) (turns : List ℕ) (terminal showing shown report reading read : Stream) (old_o new_o : O) (r : Stepped)
     (outcome : Outcome) : Type 0 where
   -- the turns that are reported after the cycle
   pub after : List ℕ
   pub comes_to : ComesTo K plan fitted p next n new done turns after terminal showing shown report reading read outcome
   pub seen : SeenBy K has_seen keeps plan fitted p next n new done turns after old_o new_o outcome
+  pub by_step : StepsBy K plan p next n new done turns after r outcome
 
 -- a cycle whose step was taken from a run that continues comes to this
 abbrev pub Reports : {M O : Type 0} → KindOf M → (O → List Taken → Type 0) → (O → List Taken → Stepped → Type 0)
@@ -77,7 +93,7 @@ Reports {M = M} K has_seen keeps plan q next m new done r before after old_o new
     → Running K plan fitted p n done turns t before.terminal u before.report
     → Watched K has_seen plan fitted p n done turns old_o
     → CycleTaken K has_seen keeps plan fitted p next n new done turns t before.terminal after.terminal u before.report
-    after.report old_o new_o outcome
+    after.report old_o new_o r outcome
 
 -- after a cut the run continues, and the observer has seen its cycle
 pub record CutMade {M O : Type 0} (K : KindOf M) (has_seen : O → List Taken → Type 0) (plan : Plan) (fitted : Device)

@@ -8,6 +8,7 @@ use Rattle.thy_run.specs.declared.singles.SingleCycle.{SingleCycle}
 use Rattle.thy_run.specs.declared.singles.SingleCycle.TheVariants.{Goes, Stops, Breaks}
 use Rattle.thy_run.specs.Going.{GoesOn, IsStepped, IsStuck}
 use Rattle.thy_run.specs.Rounds.{Running, RunEnds, ending_of}
+use Rattle.thy_run.specs.Seeing.{IsDoneBy}
 use Rattle.thy_run.specs.Sending.{Sinks}
 use Rattle.thy_view.specs.declared.did.Stepped.{Stepped}
 use Rattle.thy_view.specs.Kind.{KindOf}
@@ -27,17 +28,19 @@ abbrev pub IsRunning : {M : Type 0} → KindOf M → Plan → Progress M → Dev
 IsRunning K plan p n done now =
     (fitted : Device) × (turns : List ℕ) × (t : Stream) × (r : Stream) × Running K plan fitted p n done turns t now.terminal r now.report
 
--- what a cycle of such a run came to: it continues, one cycle further, or it ends
-abbrev pub SingleMade : {M : Type 0} → KindOf M → Plan → Device → Progress M → Device → ℕ → Stream → Stream → Sinks → SingleCycle → Type 0
-SingleMade K plan fitted next new done t r after (Goes stepped) =
-    (turns : List ℕ) × Running K plan fitted next new (done + 1) turns t after.terminal r after.report
-SingleMade K plan fitted next new done t r after (Stops stop) =
+-- what a cycle of such a run came to: it is done by the step that is returned, and the run continues; or the run ends
+abbrev pub SingleMade : {M : Type 0} → KindOf M → Plan → Device → Progress M → Progress M → Device → Device → ℕ → List ℕ → Stream → Stream → Sinks
+    → SingleCycle → Type 0
+SingleMade K plan fitted p next n new done turns t r after (Goes stepped) =
+    (reported : List ℕ) × Running K plan fitted next new (done + 1) reported t after.terminal r after.report
+    × IsDoneBy K plan p next n new done turns reported stepped
+SingleMade K plan fitted p next n new done turns t r after (Stops stop) =
     RunEnds K plan fitted new (ending_of stop next (done + 1)) t after.terminal r after.report
-SingleMade K plan fitted next new done t r after (Breaks stop) =
+SingleMade K plan fitted p next n new done turns t r after (Breaks stop) =
     RunEnds K plan fitted new (ending_of stop next done) t after.terminal r after.report
 
 -- this from each run that continues here
 abbrev pub SinglesTo : {M : Type 0} → KindOf M → Plan → Progress M → Progress M → Device → Device → ℕ → Sinks → Sinks → SingleCycle → Type 0
 SinglesTo K plan p next n new done before after result =
     (fitted : Device) (turns : List ℕ) (t r : Stream) → Running K plan fitted p n done turns t before.terminal r before.report
-    → SingleMade K plan fitted next new done t r after result
+    → SingleMade K plan fitted p next n new done turns t r after result

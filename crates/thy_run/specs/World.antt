@@ -6,7 +6,8 @@ use Rattle.thy_block.specs.declared.mark.Mark.{Mark}
 use Rattle.thy_block.specs.declared.mix.Mix.{Mix}
 use Rattle.thy_block.specs.Device.{Device, IsCut}
 use Rattle.thy_block.specs.Mix.{mix_start, mix_pick, mix_next}
-use Rattle.thy_dram.specs.Contents.{lost}
+use Rattle.thy_block.specs.Places.{dram_blocks}
+use Rattle.thy_dram.specs.Contents.{lost, fresh}
 use Rattle.thy_layout.specs.Decoded.{Decoded}
 use Rattle.thy_view.specs.Kind.{KindOf, IsStep}
 use Rattle.thy_text.specs.declared.reporting.Reporting.{Reporting}
@@ -154,11 +155,12 @@ pub record Given : Type 0 where
 abbrev pub reporting : Given → Reporting
 reporting given = record { digest = given.digest; harts = given.config.harts }
 
--- power comes on for the first time, over a device that was fitted; no turn is reported yet
+-- power comes on for the first time, over a device that was fitted and a DRAM of zeros; no turn is reported yet
 pub record IsFirst {M : Type 0} (K : KindOf M) (o : Origin) (given : Given) (w : World M) : Type 0 where
   pub unlisted : w.turns ≡ []
   pub device : w.device ≡ given.fitted
   pub powered : K.powered o.geometry w.machine
+  pub dram : K.dram w.machine ≡ fresh (dram_blocks o.geometry) o.geometry.dramq
   pub at_moment : K.is_at (line o w) 0 w.machine w.device
   pub found : seen K o w ≡ first_view o
   pub safe : Safe K.decode (line o w) (first_view o).done None w.device

@@ -1,6 +1,8 @@
 //! The cycles of a run, one after another.
-ghost use Rattle.std.specs.Prelude.{◌≡◌, ◌<◌, ◌+◌, [], length, IfOk};
+ghost use Rattle.std.specs.Prelude.{◌≡◌, ◌<◌, ◌+◌, [], IfOk};
 ghost use Rattle.thy_block.specs.Bytes.{bytes_of, room_of};
+ghost use Rattle.thy_block.specs.Places.{dram_blocks};
+ghost use Rattle.thy_dram.specs.Contents.{fresh};
 ghost use Rattle.thy_view.specs.Kind.{IsDramOf};
 ghost use Rattle.thy_run.specs.Going.{IsPlanned, HasTurnsRoom};
 ghost use Rattle.thy_run.specs.Promises.{IsAwaiting, RunsTo};
@@ -95,14 +97,16 @@ fn cut_power<M: Computer, T: Sink, R: Sink, N: Nvm, O: Observer>(
 
 /// The DRAM of a machine whose power comes on for the first time.
 fn first_dram(alloc: Global, geometry: &Geometry) -> Result<Dram, AllocError>
-    ensures { IfOk result (λ d. IsDramOf geometry.now d) }
+    ensures of { IfOk result (λ d. IsDramOf geometry.now d) }
+    ensures zeros { IfOk result (λ d. d ≡ fresh (dram_blocks geometry.now) geometry.now.dramq) }
 {
     Dram::new(alloc, geometry.dram_blocks(), geometry.numbers().dramq)
 }
 
 /// A machine whose power comes on for the first time.
 fn first_machine<M: Computer>(alloc: Global, geometry: &Geometry) -> Result<M, AllocError>
-    ensures { IfOk result (λ m. M.kind.powered geometry.now m) }
+    ensures powered { IfOk result (λ m. M.kind.powered geometry.now m) }
+    ensures dram { IfOk result (λ m. M.kind.dram m ≡ fresh (dram_blocks geometry.now) geometry.now.dramq) }
 {
     let dram = first_dram(alloc, geometry)?;
     let machine = M::power_on(alloc, geometry, dram)?;

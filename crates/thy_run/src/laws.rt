@@ -1,4 +1,5 @@
 //! The laws of runs, each as the contract of a function that does nothing.
+ghost use Rattle.thy_run.specs.Alike.{TwoRunsAreOne, TwoRunsShowOne};
 ghost use Rattle.thy_run.specs.Laws.{OneMoreCutIsSafe, RunKeepsPromise};
 ghost use Rattle.thy_run.specs.Progress.{RunIsBusy, RunIsSoonOver, RunNeverRests};
 ghost use Rattle.thy_run.specs.Strides.{RunStrides};
@@ -38,4 +39,15 @@ pub fn no_cycle_of_a_run_rests<M: Computer>()
 /// Of two epochs in a row that a run reports, with no power cut between them, one retired an instruction.
 pub fn every_run_strides<M: Computer>()
     ensures { RunStrides M.kind }
+{}
+
+/// Two runs of the same rules are one: from what a run is given and what its cuts left follow machine, device, events and
+/// turns after each cycle, if the device says what its barriers write.
+pub fn two_runs_are_one<M: Computer>()
+    ensures { TwoRunsAreOne M.kind }
+{}
+
+/// An observer sees the same cycles in both: what each did, its stall, and the cuts after it.
+pub fn two_runs_show_one<M: Computer>()
+    ensures { TwoRunsShowOne M.kind }
 {}

@@ -23,7 +23,7 @@ pub use cycles::run;
 pub use ending::{Ending, Stop};
 pub use laws::{
     every_run_is_busy, every_run_is_soon_over, every_run_keeps_its_promise, every_run_strides,
-    no_cycle_of_a_run_rests, one_more_cut_is_safe,
+    no_cycle_of_a_run_rests, one_more_cut_is_safe, two_runs_are_one, two_runs_show_one,
 };
 pub use observer::{Observer, Silent};
 pub use plan::Plan;

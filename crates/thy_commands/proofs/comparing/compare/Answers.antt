@@ -40,7 +40,7 @@ pub returns : goal.returns
 returns g c =
     let job : Job = job_of c.args.job in
     let machines = by_scheme g.A.Computer.kind g.B.Computer.kind g.C.Computer.kind in
-    let d = nvm_of g.N.Nvm.device g.N.Nvm.writes in
+    let d = nvm_of g.N.Nvm.device in
     let old : Stock = g.H.Shelf.stock c.args.shelf.now in
     let middle : Stock = g.H.Shelf.stock c.prepare.new.shelf in
     let same : middle ≡ old = stock_same old middle c.in-Ok.ensures.held c.in-Ok.ensures.calm in

@@ -32,7 +32,7 @@ run_next-third-requires-clause-reads g c = c.requires.shadow c.put_under-3.new.p
 pub returns-then-first-gt1 : goal.returns-then-first-gt1
 returns-then-first-gt1 g c =
     let machines = by_scheme g.A.Computer.kind g.B.Computer.kind g.C.Computer.kind in
-    let d = nvm_of g.N.Nvm.device g.N.Nvm.writes in
+    let d = nvm_of g.N.Nvm.device in
     let before = around (g.H.Shelf.stock c.args.shelf.now) c.args.nvm.now (g.T.Sink.stream c.args.terminal.now) (g.R.Sink.stream c.args.report.now) in
     let w = around (g.H.Shelf.stock c.run_next-first.new.shelf) c.run_next-first.new.nvm (g.T.Sink.stream c.run_next-first.new.terminal) (g.R.Sink.stream c.run_next-first.new.report) in
     let nothing : IsNothing c.nothing-nothing.result = record { events = c.nothing-nothing.ensures.events; status = c.nothing-nothing.ensures.status; cycles = c.nothing-nothing.ensures.cycles } in
@@ -44,7 +44,7 @@ returns-then-first-gt1 g c =
 pub returns-then-second-gt1 : goal.returns-then-second-gt1
 returns-then-second-gt1 g c =
     let machines = by_scheme g.A.Computer.kind g.B.Computer.kind g.C.Computer.kind in
-    let d = nvm_of g.N.Nvm.device g.N.Nvm.writes in
+    let d = nvm_of g.N.Nvm.device in
     let before = around (g.H.Shelf.stock c.args.shelf.now) c.args.nvm.now (g.T.Sink.stream c.args.terminal.now) (g.R.Sink.stream c.args.report.now) in
     let w = around (g.H.Shelf.stock c.run_next-first.new.shelf) c.run_next-first.new.nvm (g.T.Sink.stream c.run_next-first.new.terminal) (g.R.Sink.stream c.run_next-first.new.report) in
     let nothing : IsNothing c.nothing-nothing.result = record { events = c.nothing-nothing.ensures.events; status = c.nothing-nothing.ensures.status; cycles = c.nothing-nothing.ensures.cycles } in
@@ -61,7 +61,7 @@ returns-then-second-gt1 g c =
 pub returns : goal.returns
 returns g c =
     let machines = by_scheme g.A.Computer.kind g.B.Computer.kind g.C.Computer.kind in
-    let d = nvm_of g.N.Nvm.device g.N.Nvm.writes in
+    let d = nvm_of g.N.Nvm.device in
     let before = around (g.H.Shelf.stock c.args.shelf.now) c.args.nvm.now (g.T.Sink.stream c.args.terminal.now) (g.R.Sink.stream c.args.report.now) in
     let w = around (g.H.Shelf.stock c.run_next-first.new.shelf) c.run_next-first.new.nvm (g.T.Sink.stream c.run_next-first.new.terminal) (g.R.Sink.stream c.run_next-first.new.report) in
     let nothing : IsNothing c.nothing-nothing.result = record { events = c.nothing-nothing.ensures.events; status = c.nothing-nothing.ensures.status; cycles = c.nothing-nothing.ensures.cycles } in

@@ -4,7 +4,7 @@ use Rattle.thy_base.specs.declared.config.Config.{Config}
 use Rattle.thy_block.specs.declared.nvm.FitError.{FitError}
 use Rattle.thy_block.specs.declared.nvm.Shape.{Shape}
 use Rattle.thy_block.specs.Device.{Device, HasFailedToFit, fitted, lent_by}
-use Rattle.thy_gap.specs.Seen.{seen}
+use Rattle.thy_gap.specs.Levelled.{looks}
 use Rattle.thy_gap.proofs.SeenLemmas.{length-unmap}
 use Rattle.thy_answer.proofs.LawLemmas.{some_blocks}
 use Rattle.thy_answer.specs.Answering.{Outside, outside, shape_for}
@@ -28,10 +28,10 @@ pub run_fitted-ran-requires-clause-fitted : goal.run_fitted-ran-requires-clause-
 run_fitted-ran-requires-clause-fitted g c = record {
   shape = c.shape_of-shape.result;
   start = c.args.blocks.items;
-  before = seen c.over-lines.result.registers (lent_by c.over-lines.result.inner.ghost_name (g.N.Nvm.device c.over-lines.result.inner.now));
+  before = looks c.over-lines.result.every c.over-lines.result.since c.over-lines.result.moves c.over-lines.result.registers (lent_by c.over-lines.result.inner.ghost_name (g.N.Nvm.device c.over-lines.result.inner.now));
   fits =
       fitted_for_plan g.M.Computer.kind g.met.M.Computer.lawful c.args.plan.now c.requires.reads c.args.blocks.items c.shape_of-shape.result
-      (seen c.over-lines.result.registers (lent_by c.over-lines.result.inner.ghost_name (g.N.Nvm.device c.over-lines.result.inner.now))) c.requires.can
+      (looks c.over-lines.result.every c.over-lines.result.since c.over-lines.result.moves c.over-lines.result.registers (lent_by c.over-lines.result.inner.ghost_name (g.N.Nvm.device c.over-lines.result.inner.now))) c.requires.can
       (ap (λ (s : Shape). s.blocks) c.shape_of-shape.ensures.shape);
   queue = ap (λ (s : Shape). s.queue) c.shape_of-shape.ensures.shape;
   cuts = ap (λ (s : Shape). s.cuts) c.shape_of-shape.ensures.shape;
@@ -64,10 +64,10 @@ returns-in-Ok-clause-runs g c = λ job names p.
     let last = c.run_fitted-ran.new.nvm.inner in
     let before : Outside = outside (g.H.Shelf.stock c.args.shelf.now) (g.N.Nvm.device c.args.nvm.now) (g.T.Sink.stream c.args.terminal.now) (g.R.Sink.stream c.args.report.now) in
     let after : Outside = outside (g.H.Shelf.stock c.run_fitted-ran.new.shelf) (g.N.Nvm.device c.nvm-1.given.0) (g.T.Sink.stream c.run_fitted-ran.new.terminal) (g.R.Sink.stream c.run_fitted-ran.new.report) in
-    let found : Device = seen c.over-lines.result.registers (lent_by first.ghost_name (g.N.Nvm.device first.now)) in
-    let left : Device = seen c.run_fitted-ran.new.nvm.registers (lent_by last.ghost_name (g.N.Nvm.device last.now)) in
+    let found : Device = looks c.over-lines.result.every c.over-lines.result.since c.over-lines.result.moves c.over-lines.result.registers (lent_by first.ghost_name (g.N.Nvm.device first.now)) in
+    let left : Device = looks c.run_fitted-ran.new.nvm.every c.run_fitted-ran.new.nvm.since c.run_fitted-ran.new.nvm.moves c.run_fitted-ran.new.nvm.registers (lent_by last.ghost_name (g.N.Nvm.device last.now)) in
     let some : 0 < job.config.gap = subst (λ (x : Config). 0 < x.gap) p.config c.requires.levelled in
-    let fit : seen c.fit.new.self.registers (lent_by filled.ghost_name (g.N.Nvm.device filled.now)) ≡ fitted (shape_for K job.config) c.args.blocks.items found =
+    let fit : looks c.fit.new.self.every c.fit.new.self.since c.fit.new.self.moves c.fit.new.self.registers (lent_by filled.ghost_name (g.N.Nvm.device filled.now)) ≡ fitted (shape_for K job.config) c.args.blocks.items found =
     c.in-Ok.ensures.ok ∙ ap (λ s. fitted s c.args.blocks.items found) (c.shape_of-shape.ensures.shape ∙ shape_planned K (named c.args.source) job before.shelf c.args.plan.now c.args.blocks.items p) in
     let blocks : 0 < c.shape_of-shape.result.blocks =
     (let has = some_blocks c.args.plan.now.geometry in omega (arith, has, ap (λ (s : Shape). s.blocks) c.shape_of-shape.ensures.shape ∙ c.requires.reads.blocks)) in
@@ -80,11 +80,12 @@ returns-in-Ok-clause-runs g c = λ job names p.
     let stands : c.nvm-1.given.0 ≡ last.now = c.nvm-1.given.1 lent ∙ ap (λ l. l.now) c.into_inner-loan.ensures in
     let is_found : IsFoundAs job.config.gap before.device found =
     subst (λ x. IsFoundAs job.config.gap (g.N.Nvm.device x) found) (ap (λ l. l.inner.now) c.over-lines.ensures)
-    (subst (λ r. IsFoundAs job.config.gap (g.N.Nvm.device first.now) (seen r (lent_by first.ghost_name (g.N.Nvm.device first.now)))) (sym (ap (λ l. l.registers) c.over-lines.ensures))
-    (IsFoundAs-levelled job.config.gap first.ghost_name (g.N.Nvm.device first.now) some)) in
+    (subst (λ r. IsFoundAs job.config.gap (g.N.Nvm.device first.now) (looks c.over-lines.result.every c.over-lines.result.since c.over-lines.result.moves r (lent_by first.ghost_name (g.N.Nvm.device first.now)))) (sym (ap (λ l. l.registers) c.over-lines.ensures))
+    (IsFoundAs-levelled job.config.gap c.over-lines.result.every c.over-lines.result.since c.over-lines.result.moves first.ghost_name (g.N.Nvm.device first.now) some)) in
     let is_left : IsLeftAs job.config.gap after.device left =
     subst (λ x. IsLeftAs job.config.gap (g.N.Nvm.device x) left) (sym stands)
-    (IsLeftAs-levelled job.config.gap last.ghost_name c.run_fitted-ran.new.nvm.registers (g.N.Nvm.device last.now) some lines
-    c.recall_meaning.ensures.image c.recall_meaning.ensures.crash c.recall_meaning.ensures.left) in
+    (IsLeftAs-levelled job.config.gap c.run_fitted-ran.new.nvm.every c.run_fitted-ran.new.nvm.since c.run_fitted-ran.new.nvm.moves last.ghost_name c.run_fitted-ran.new.nvm.registers (g.N.Nvm.device last.now) some lines
+    c.recall_meaning.ensures.image c.recall_meaning.ensures.crash c.recall_meaning.ensures.left
+    c.recall_meaning.ensures.moves) in
     RunOverSeen-seen K g.O.Observer.has_seen (named c.args.source) job before p.program after found left c.run_fitted-ran.result c.run_fitted-ran.new.observer is_found is_left
     (c.run_fitted-ran.ensures.runs job c.args.blocks.items found names p fit)

@@ -58,6 +58,7 @@ returns-in_default g c = λ fitted p n m k turns t u ready running w.
           (subst L first c.write_lines-progress.ensures.lines) (λ same. c.write_lines-progress.ensures.none (first ∙ ap length (sym same)))
           (broken_ready K g.met.M.Computer.lawful plan fitted p q n m k turns c.args.stepped.now c.args.readings c.args.cycle c.requires.planned ready e c.in_default.ensures.err);
       seen = refl;
+      by_step = tt;
     }
 
 -- a cut falls after the cycle
@@ -82,6 +83,7 @@ returns-then-is_due g c = λ fitted p n m k turns t u ready running w.
             (sym c.is_due.ensures ∙ c.if-is_due.true),
         Awaited-kept K g.O.Observer.has_seen g.O.Observer.keeps plan fitted p q' n m k turns r c.args.observer.now c.keep.new.self w c.keep.ensures,
       );
+      by_step = tt;
     }
 
 -- a sink failed
@@ -121,6 +123,7 @@ returns-in-Some g c = λ fitted p n m k turns t u ready running w.
       after = after;
       comes_to = ends_unheard K plan fitted p q' n m k turns after r false bytes terminal_failed report_failed t t1 t2 u r1 r2 running ready.few sent lines done c.in-Some.stop (sym c.in-Some.ensures);
       seen = Watched-done K S plan fitted p q' n m k turns after r false bytes (c.len-2.result - c.len-first.result) c.args.observer.now c.see.new.self done many w c.see.ensures;
+      by_step = (done.cycle, done.by_step, done.has_fallen);
     }
 
 -- the program has ended
@@ -155,6 +158,7 @@ returns-in-Some-ended g c = λ fitted p n m k turns t u ready running w.
       after = after;
       comes_to = ends_finished K plan fitted p q' n m k turns r bytes c.in-Some-ended.status terminal_failed report_failed t t1 t2 u r1 r2 running ready.few sent lines done (sym c.in_default-stop.ensures);
       seen = Watched-done K S plan fitted p q' n m k turns after r false bytes (c.len-2.result - c.len-first.result) c.args.observer.now c.see.new.self done.0 many w c.see.ensures;
+      by_step = (done.0.cycle, done.0.by_step, done.0.has_fallen);
     }
 
 -- the run continues
@@ -194,4 +198,5 @@ returns g c = λ fitted p n m k turns t u ready running w.
       after = after;
       comes_to = Running-done K plan fitted p q' n m k turns after r false bytes terminal_failed report_failed t t1 t2 u r1 r2 running ready.few sent lines done (sym c.in_default-stop.ensures);
       seen = Watched-done K S plan fitted p q' n m k turns after r false bytes (c.len-2.result - c.len-first.result) c.args.observer.now c.see.new.self done.0 many w c.see.ensures;
+      by_step = (done.0.cycle, done.0.by_step, done.0.has_fallen);
     }

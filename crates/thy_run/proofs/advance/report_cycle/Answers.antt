@@ -51,7 +51,7 @@ returns-in-Ok g c = λ fitted p n turns t u stepped running w.
     let v = seen K (origin_of plan) (world_at p n c.args.done turns) in
     let D : Device → Type 0 = λ d. CycleTaken K g.O.Observer.has_seen g.O.Observer.keeps plan fitted p c.conclude.new.progress n d c.args.done turns
     t (g.T.Sink.stream c.args.terminal.now) (g.T.Sink.stream c.conclude.new.terminal) u (g.R.Sink.stream c.args.report.now) (g.R.Sink.stream c.conclude.new.report)
-    c.args.observer.now c.conclude.new.observer c.conclude.result in
+    c.args.observer.now c.conclude.new.observer r c.conclude.result in
     subst D (sym c.in-Ok.ensures.same)
     (c.conclude.ensures fitted p n m c.args.done turns t u
     (record {
@@ -82,4 +82,5 @@ returns-in-Err g c = λ fitted p n turns t u stepped running w.
           (IsBroken-read K g.met.M.Computer.lawful plan fitted p n c.args.done turns c.requires.planned running.goes q m c.args.stepped stepped d c.in-Err.error
           c.in-Err.ensures.err c.gather.ensures.frame c.in-Err.ensures.due));
       seen = refl;
+      by_step = tt;
     }

@@ -24,7 +24,7 @@ returns-in_default-clause-seen g c =
     (first_progress plan m plan.start.input) n 0 [] c.args.observer.now
     (RunEnds-unpowered K laws plan c.new.result plan.start.input n (g.T.Sink.stream c.args.terminal.now) (g.R.Sink.stream c.args.report.now) c.requires.planned c.requires.fitted c.new.ensures)
     refl
-    (Watched-first K g.O.Observer.has_seen plan (first_progress plan m plan.start.input) n c.args.observer.now (first_of K laws plan m plan.start.input n c.requires.planned (laws.powers plan.geometry).1 c.requires.fitted) c.requires.unseen)
+    (Watched-first K g.O.Observer.has_seen plan (first_progress plan m plan.start.input) n c.args.observer.now (first_of K laws plan m plan.start.input n c.requires.planned (laws.powers plan.geometry).1 (laws.powers plan.geometry).2 c.requires.fitted) c.requires.unseen)
 
 pub returns-in_default-clause-ran : goal.returns-in_default-clause-ran
 returns-in_default-clause-ran g c = (returns-in_default-clause-seen g c).0

@@ -41,7 +41,7 @@ returns-in-Goes g c = λ fitted turns t r running.
     let n = g.N.Nvm.device c.args.nvm.now in
     let seen = cycles_of K c.args.plan.now fitted p n c.args.done turns running.goes in
     let made = c.in-Goes.ensures fitted p n turns t r (c.in-Some.ensures fitted turns running.goes) running (seen.0, seen.1, tt) in
-    (made.after, made.comes_to)
+    (made.after, made.comes_to, made.by_step)
 
 pub returns-in-Stops : goal.returns-in-Stops
 returns-in-Stops g c = λ fitted turns t r running.
