@@ -1,3 +1,5 @@
 pub mod SweepLemmas
 pub mod RowLemmas
 pub mod SameLemmas
+pub mod KeptLemmas
+pub mod SweptLemmas

@@ -21,8 +21,8 @@ limit_most p r = omega arith
 few_left : (done limit : ℕ) → done ≤ limit → limit ≤ 10 ^ 12 → done + 10 ^ 12 ≤ 2 ^ 62
 few_left done limit few most = omega (arith, few, most)
 
-module _ {M : Type 0} (K : KindOf M) (plan : Plan) (fitted : Device) (p : Progress M) (n : Device) (done : ℕ) (now : Sinks) (room : Room)
-    (planned : IsPlanned plan) (few : done ≤ plan.geometry.limit) (h : IsSwept K plan fitted p n done now room) where
+module _ {M : Type 0} (K : KindOf M) (plan : Plan) (fitted : Device) (p : Progress M) (n : Device) (done : ℕ) (before now : Sinks) (room : Room)
+    (planned : IsPlanned plan) (few : done ≤ plan.geometry.limit) (h : IsSwept K plan fitted p n done before now room) where
   abbrev world : World M
   world = world_at p n done h.turns
 

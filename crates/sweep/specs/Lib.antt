@@ -1,3 +1,6 @@
 pub mod Naming
 pub mod Sweeping
 pub mod Rows
+pub mod Kept
+pub mod Concluding
+pub mod Swept

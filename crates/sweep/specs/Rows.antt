@@ -1,19 +1,25 @@
--- What the images led to that were tried of one cycle.
-use Rattle.std.specs.Prelude.{◌≡◌, ℕ, List, [], ◌∷◌, Option, Some, None}
+-- What the images led to that were tried of one cycle, and which these are.
+use Rattle.std.specs.Prelude.{◌≡◌, ℕ, ◌+◌, ◌-◌, ◌^◌, ◌<◌, ◌==◌, ◌&&◌, min, nat_lt, nat_le, Bool, true, false, if◌then◌else◌, MatchBool, List, [], ◌∷◌, ◌++◌, length, map, slice_index_or, Option, Some, None}
 use Rattle.std.specs.List.{AllByRecursion}
 use Rattle.thy_block.specs.declared.block.Block.{Block}
 use Rattle.thy_block.specs.declared.mix.Mix.{Mix}
+use Rattle.thy_block.specs.Counts.{next}
 use Rattle.thy_block.specs.Device.{Device}
 use Rattle.thy_isa.specs.declared.state.MachState.{MachState}
+use Rattle.thy_nvm.specs.Calls.{is_listed}
+use Rattle.thy_nvm.specs.Pick.{picked}
 use Rattle.thy_run.specs.declared.plan.Plan.{Plan}
 use Rattle.thy_run.specs.Going.{origin_of}
 use Rattle.thy_run.specs.World.{World}
 use Rattle.thy_sweep.specs.declared.lead.Booted.{Booted}
 use Rattle.thy_sweep.specs.declared.lead.Lead.{Lead}
+use Rattle.thy_sweep.specs.Choices.{Place, chosen, count_of, places_of}
+use Rattle.thy_sweep.specs.Images.{crash_images}
 use Rattle.thy_sweep.specs.Leads.{noted}
-use Rattle.thy_trial.specs.Rooms.{IsRunAt}
+use Rattle.thy_trial.specs.Rooms.{IsRunAt, counted_at, number_by}
 use Rattle.thy_trial.specs.Trials.{FewBefore, IsTried}
 use Rattle.thy_view.specs.Kind.{KindOf}
+use Rattle.sweep.specs.declared.asked.Asked.{Asked}
 use Rattle.sweep.specs.declared.row.Row.{Row}
 use Rattle.sweep.specs.Sweeping.{most_cycles}
 
@@ -40,10 +46,81 @@ abbrev pub noted_all : List Try → List Lead → List Lead
 noted_all [] leads = leads
 noted_all (t ∷ ts) leads = noted_all ts (noted_if t.booted leads)
 
+-- these images were counted
+abbrev pub tried_all : List Try → ℕ → ℕ
+tried_all [] tried = tried
+tried_all (t ∷ ts) tried = tried_all ts (next tried)
+
 -- Images were tried, each as after a cut of the run, and a row has their boots in addition.
-pub record HasTried {M : Type 0} (K : KindOf M) (plan : Plan) (n : Device) (mix : Mix) (old new : Row) : Type 0 where
-  pub tries : List Try
+pub record HasTried {M : Type 0} (K : KindOf M) (plan : Plan) (n : Device) (mix : Mix) (tries : List Try) (old new : Row) : Type 0 where
   pub each : AllByRecursion (WasTried K plan n mix) tries
   pub leads : new.leads.items ≡ noted_all tries old.leads.items
+  pub tried : new.tried ≡ tried_all tries old.tried
+  pub first : new.first ≡ old.first
   pub queued : new.queued ≡ old.queued
   pub images : new.images ≡ old.images
+
+-- ---- which images are tried
+
+-- how many picks are asked for, and which they are: those listed; if none is, those below the number of all
+abbrev pub picks_of : Asked → ℕ
+picks_of a = if length a.picks.items == 0 then a.all else length a.picks.items
+
+abbrev pub pick_of : Asked → ℕ → ℕ
+pick_of a i = slice_index_or a.picks.items i i
+
+-- the numbers of images that were tried, as they are counted
+abbrev pub numbers_of : Device → List Try → List ℕ
+numbers_of n = map (λ (t : Try). counted_at n t.image)
+
+-- no number is listed twice
+abbrev pub AreApart : List ℕ → Type 0
+AreApart [] = Unit {0}
+AreApart (k ∷ ks) = (is_listed k ks ≡ false) × AreApart ks
+
+-- the image of a pick was tried
+abbrev pub IsOfPick : Device → ℕ → Try → Type 0
+IsOfPick n pick t = (t.pick ≡ pick) × (t.image ≡ picked n.whole pick n.image n.queue)
+
+-- The image of a pick was tried, and its number is listed then; or it was not, and its number was listed already.
+pub record NotesPick {M : Type 0} (K : KindOf M) (plan : Plan) (n : Device) (mix : Mix) (pick : ℕ) (listed listing : List ℕ) (old new : Row) : Type 0 where
+  pub tries : List Try
+  pub has : HasTried K plan n mix tries old new
+  pub are : AllByRecursion (IsOfPick n pick) tries
+  pub lists : listing ≡ listed ++ numbers_of n tries
+  pub known : is_listed (number_by pick n) listing ≡ true
+  pub apart : n.whole ≡ true → AreApart listed → AreApart listing
+
+-- the image of a number was tried
+pub record NotesNumber {M : Type 0} (K : KindOf M) (plan : Plan) (n : Device) (mix : Mix) (number : ℕ) (old new : Row) : Type 0 where
+  pub one : Try
+  pub has : HasTried K plan n mix (one ∷ []) old new
+  pub is : one.image ≡ chosen (places_of n) number n.image
+
+-- the image is one of a pick that is asked for
+abbrev pub IsOfPicks : Asked → Device → ℕ → Try → Type 0
+IsOfPicks a n count t = (i : ℕ) × (i < count) × IsOfPick n (pick_of a i) t
+
+-- Of this number of picks that are asked for each image was tried, by its number, and no other. If blocks land whole, none was
+-- tried twice.
+pub record TriesPicks {M : Type 0} (K : KindOf M) (plan : Plan) (n : Device) (mix : Mix) (a : Asked) (count : ℕ) (old new : Row) : Type 0 where
+  pub tries : List Try
+  pub has : HasTried K plan n mix tries old new
+  pub every : (i : ℕ) → i < count → is_listed (number_by (pick_of a i) n) (numbers_of n tries) ≡ true
+  pub only : AllByRecursion (IsOfPicks a n count) tries
+  pub apart : n.whole ≡ true → AreApart (numbers_of n tries)
+
+-- these images were tried, in this order
+pub record TriesImages {M : Type 0} (K : KindOf M) (plan : Plan) (n : Device) (mix : Mix) (images : List (List Block)) (old new : Row) : Type 0 where
+  pub tries : List Try
+  pub has : HasTried K plan n mix tries old new
+  pub are : map (λ (t : Try). t.image) tries ≡ images
+
+-- the images of these places are all to be tried: there are at most the number that is asked for
+abbrev pub wants : ℕ → List Place → Bool
+wants all places = nat_lt 0 all && nat_le (min (count_of places) (2 ^ 128 - 1)) all
+
+-- the images that are asked for were tried: every one that a cut can leave, or the images of the picks
+abbrev pub TriesAsked : {M : Type 0} → KindOf M → Plan → Device → Mix → Asked → Row → Row → Type 0
+TriesAsked K plan n mix a old new =
+    MatchBool (wants a.all (places_of n)) (TriesImages K plan n mix (crash_images n) old new) (TriesPicks K plan n mix a (picks_of a) old new)

@@ -1,4 +1,8 @@
 //! What a sweep comes to so far: its text, its open row, and its sums.
+ghost use Rattle.std.specs.Prelude.{◌≡◌, true, false, None, Some, OnOk, option_map};
+ghost use Rattle.thy_sweep.specs.Sums.{no_rows};
+ghost use Rattle.sweep.specs.Concluding.{is_empty};
+ghost use Rattle.sweep.specs.Kept.{closed_into, extended};
 
 use crate::row::Row;
 use std::alloc::{AllocError, Global};
@@ -27,7 +31,7 @@ struct Kept {
 #[derive(Drop)]
 pub struct Account {
     text: String,
-    open: Option<Row>,
+    current: Option<Row>,
     kept: Kept,
     sums: Sums,
     restarts: Vec<Restarts>,
@@ -67,6 +71,17 @@ fn count_restarts(restarts: &mut Vec<Restarts>, epoch: u64, times: u64) -> Resul
     Ok(())
 }
 
+/// Counts the restarts that the boots of a row led to.
+fn count_leads(restarts: &mut Vec<Restarts>, leads: &[Lead]) -> Result<(), AllocError> {
+    for lead in leads {
+        let Lead { mark, times, .. } = *lead;
+        if let Some(mark) = mark {
+            count_restarts(restarts, mark.epoch, times)?;
+        }
+    }
+    Ok(())
+}
+
 impl Kept {
     /// Keeps a device as it is.
     fn keep(&mut self, nvm: &MemNvm) -> Result<(), AllocError> {
@@ -91,10 +106,13 @@ impl Kept {
 
 impl Account {
     /// Nothing was tried.
-    pub fn new(alloc: Global) -> Account {
+    pub fn new(alloc: Global) -> Account
+        ensures current { result.current ≡ None }
+        ensures sums { result.sums ≡ no_rows }
+    {
         Account {
             text: String::new(alloc),
-            open: None,
+            current: None,
             kept: Kept {
                 queue: Vec::new(alloc),
                 first: Block::ZERO,
@@ -107,16 +125,23 @@ impl Account {
     }
 
     /// Looks at the device after a cycle.
-    pub fn look(&mut self, nvm: &MemNvm) {
+    pub fn look(&mut self, nvm: &MemNvm)
+        ensures current { self.new.current ≡ self.old.current }
+        ensures sums { self.new.sums ≡ self.old.sums }
+    {
         self.kept.look(nvm);
     }
 
     /// Whether the device is as it was when the open row began. Then one more cycle is of that row.
-    pub fn repeats(&mut self, cycle: u64, count: u64) -> bool {
+    pub fn repeats(&mut self, cycle: u64, count: u64) -> bool
+        ensures more { result ≡ true → self.new.current ≡ option_map (extended cycle count) self.old.current }
+        ensures other { result ≡ false → self.new.current ≡ self.old.current }
+        ensures sums { self.new.sums ≡ self.old.sums }
+    {
         if self.kept.changed {
             return false;
         }
-        match &mut self.open {
+        match &mut self.current {
             Some(row) => {
                 row.extend(cycle, count);
                 true
@@ -126,40 +151,44 @@ impl Account {
     }
 
     /// Whether a state was found that is not the plain machine's.
-    pub fn differs(&self) -> bool {
+    pub fn differs(&self) -> bool
+        ensures { result ≡ self.now.differs }
+    {
         self.differs
     }
 
     /// Whether nothing was tried.
-    pub fn is_empty(&self) -> bool {
-        self.open.is_none() && self.sums.cycles == 0
+    pub fn is_empty(&self) -> bool
+        ensures { result ≡ is_empty self.now }
+    {
+        self.current.is_none() && self.sums.cycles == 0
     }
 
     /// Closes the open row, if there is one.
-    fn close(&mut self, alloc: Global) -> Result<(), AllocError> {
-        let Some(row) = self.open.take() else {
+    fn close(&mut self, alloc: Global) -> Result<(), AllocError>
+        ensures current { self.new.current ≡ None }
+        ensures sums { OnOk result (self.new.sums ≡ closed_into self.old.current self.old.sums) }
+    {
+        let Some(row) = self.current.take() else {
             return Ok(());
         };
         row.add_to(alloc, &mut self.text)?;
         self.sums = self.sums.with_row(row.to_count, &row.leads);
-        for lead in &row.leads {
-            let Lead { mark, times, .. } = *lead;
-            if let Some(mark) = mark {
-                count_restarts(&mut self.restarts, mark.epoch, times)?;
-            }
-        }
-        Ok(())
+        count_leads(&mut self.restarts, &row.leads)
     }
 
     /// Opens a row whose images were tried over this device.
     ///
     /// # Errors
     /// Memory ran out.
-    pub fn open(&mut self, alloc: Global, row: Row, nvm: &MemNvm) -> Result<(), AllocError> {
+    pub fn open(&mut self, alloc: Global, row: Row, nvm: &MemNvm) -> Result<(), AllocError>
+        ensures current { OnOk result (self.new.current ≡ Some row) }
+        ensures sums { OnOk result (self.new.sums ≡ closed_into self.old.current self.old.sums) }
+    {
         self.close(alloc)?;
         self.kept.keep(nvm)?;
         self.differs = self.differs || !row.differs.is_empty();
-        self.open = Some(row);
+        self.current = Some(row);
         Ok(())
     }
 

@@ -1,4 +1,7 @@
 //! What is to be tried, as the words between OUT and the command say it.
+ghost use Rattle.std.specs.Prelude.{◌≡◌};
+ghost use Rattle.sweep.specs.Rows.{pick_of, picks_of};
+ghost use Rattle.sweep.specs.Sweeping.{ends_at};
 
 use std::alloc::{AllocError, Global};
 use thy_arguments::{is_list, list_of, number};
@@ -244,8 +247,10 @@ pub fn take_asked(alloc: Global, words: &mut Vec<String>) -> Result<Asked, Unask
 
 impl Asked {
     /// How many picks there are.
-    pub fn picks(&self) -> u64 {
-        if self.picks.is_empty() {
+    pub fn picks(&self) -> u64
+        ensures { result ≡ picks_of self.now }
+    {
+        if self.picks.len() == 0 {
             self.all
         } else {
             self.picks.len() as u64
@@ -253,10 +258,13 @@ impl Asked {
     }
 
     /// The pick at a position.
-    pub fn pick(&self, at: u64) -> u64 {
-        match self.picks.as_slice().get(at as usize) {
-            Some(pick) => *pick,
-            None => at,
+    pub fn pick(&self, at: u64) -> u64
+        ensures { result ≡ pick_of self.now at }
+    {
+        if (at as usize) < self.picks.len() {
+            self.picks[at as usize]
+        } else {
+            at
         }
     }
 
@@ -266,9 +274,11 @@ impl Asked {
     }
 
     /// Whether a cycle is the last one.
-    pub fn ends_at(&self, cycle: u64) -> bool {
+    pub fn ends_at(&self, cycle: u64) -> bool
+        ensures { result ≡ ends_at self.now cycle }
+    {
         match self.to {
-            Some(last) => cycle >= last,
+            Some(last) => last <= cycle,
             None => false,
         }
     }

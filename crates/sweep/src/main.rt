@@ -2,13 +2,14 @@
 //! power come on over copies of what a cut could leave there. It writes text under a name that says to which checkpoints the boots
 //! led, how long they took, and what was lost. Each state that is restored is compared with the plain machine's.
 //!
-//! Open src/top.rt first, then src/running.rt and src/trying.rt; src/row.rt and src/account.rt make the text. It stands on thy_trial,
+//! Open specs/Swept.antt and src/top.rt first, then src/running.rt and src/trying.rt; src/row.rt and src/account.rt make the text. It stands on thy_trial,
 //! thy_files, thy_out and thy_nvm; nothing stands on it.
 #![tactic(auto)]
 
 mod account;
 mod asked;
 mod beside;
+mod concluding;
 mod naming;
 mod row;
 mod running;
@@ -18,7 +19,8 @@ mod top;
 mod trying;
 
 use crate::asked::take_asked;
-use crate::top::{refuse_asked, sweep};
+use crate::concluding::refuse_asked;
+use crate::top::sweep;
 use std::alloc::{AllocError, Global};
 use std::io::ErrorKind;
 use std::process::ExitCode;

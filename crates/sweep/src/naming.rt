@@ -1,12 +1,15 @@
 //! Whether a command can be swept, and text be put under OUT.
-ghost use Rattle.std.specs.Prelude.{◌≡◌, false};
+ghost use Rattle.std.specs.Prelude.{◌≡◌, option_map};
+ghost use Rattle.std.specs.String.{string_bytes};
 ghost use Rattle.thy_arguments.specs.Settings.{job_of, order_of};
-ghost use Rattle.sweep.specs.Naming.{IsUncut, IsUncutJob};
+ghost use Rattle.sweep.specs.Naming.{is_barred, is_cut, is_name, is_refused};
 
 use thy_arguments::{Command, Job};
 
 /// Whether OUT is this name.
-fn is_name(out: &str, name: &Option<String>) -> bool {
+fn is_name(out: &str, name: &Option<String>) -> bool
+    ensures { result ≡ is_name out.now (option_map string_bytes name.now) }
+{
     match name {
         Some(name) => name.as_str() == out,
         None => false,
@@ -15,7 +18,7 @@ fn is_name(out: &str, name: &Option<String>) -> bool {
 
 /// Whether a job has options that a sweep has not: cuts, picks, a name to save under; or levelled wear.
 fn is_cut(job: &Job) -> bool
-    ensures { result ≡ false → IsUncutJob (job_of job.now) }
+    ensures { result ≡ is_cut (job_of job.now) }
 {
     job.config.cuts.len() > 0
         || job.config.tears.len() > 0
@@ -23,18 +26,21 @@ fn is_cut(job: &Job) -> bool
         || job.config.gap > 0
 }
 
+/// Whether a job has such options, or OUT as the name of its input.
+fn is_barred(out: &str, job: &Job) -> bool
+    ensures { result ≡ is_barred out.now (job_of job.now) }
+{
+    is_name(out, &job.input) || is_cut(job)
+}
+
 /// Whether a command is not to be swept, or has the name OUT.
 pub fn is_refused(out: &str, command: &Command) -> bool
-    ensures { result ≡ false → IsUncut (order_of command.now) }
+    ensures { result ≡ is_refused out.now (order_of command.now) }
 {
     match command {
-        Command::Run { file, job } => {
-            file.as_str() == out || is_name(out, &job.input) || is_cut(job)
-        }
-        Command::Resume { image, job } => {
-            image.as_str() == out || is_name(out, &job.input) || is_cut(job)
-        }
-        Command::Bench { job, .. } => is_name(out, &job.input) || is_cut(job),
+        Command::Run { file, job } => file.as_str() == out || is_barred(out, job),
+        Command::Resume { image, job } => image.as_str() == out || is_barred(out, job),
+        Command::Bench { job, .. } => is_barred(out, job),
         Command::Compare { .. } | Command::Plain { .. } | Command::Make { .. } => true,
     }
 }

@@ -1,4 +1,6 @@
 //! The line of one row: cycles after which a cut leaves the same images.
+ghost use Rattle.std.specs.Prelude.{◌≡◌, []};
+ghost use Rattle.sweep.specs.Kept.{extended};
 
 use std::alloc::{AllocError, Global};
 use thy_sweep::Lead;
@@ -66,7 +68,12 @@ fn add_lead(alloc: Global, text: &mut String, lead: &Lead) -> Result<(), AllocEr
 
 impl Row {
     /// A row of one cycle, of which nothing was tried yet.
-    pub fn new(alloc: Global, cycle: u64, count: u64, queued: u64) -> Row {
+    pub fn new(alloc: Global, cycle: u64, count: u64, queued: u64) -> Row
+        ensures first { result.first ≡ cycle }
+        ensures queued { result.queued ≡ queued }
+        ensures untried { result.tried ≡ 0 }
+        ensures empty { result.leads.items ≡ [] }
+    {
         Row {
             first: cycle,
             last: cycle,
@@ -81,7 +88,9 @@ impl Row {
     }
 
     /// One more cycle leaves the same images.
-    pub fn extend(&mut self, cycle: u64, count: u64) {
+    pub fn extend(&mut self, cycle: u64, count: u64)
+        ensures { self.new ≡ extended cycle count self.old }
+    {
         self.last = cycle;
         self.to_count = count;
     }

@@ -1,8 +1,11 @@
 //! The run of a sweep, cycle by cycle, with what is tried after each.
-ghost use Rattle.std.specs.Prelude.{◌≡◌, ◌<◌, [], IfOk, length};
+ghost use Rattle.std.specs.Prelude.{◌≡◌, ◌<◌, [], None, IfOk, OnOk, length};
 ghost use Rattle.thy_run.specs.Going.{IsPlanned};
 ghost use Rattle.thy_run.specs.Rounds.{IsFitted};
-ghost use Rattle.sweep.specs.Sweeping.{CanLook};
+ghost use Rattle.thy_run.specs.Sending.{sinks};
+ghost use Rattle.sweep.specs.Kept.{KeepsRows, LooksTo, OpensRow};
+ghost use Rattle.sweep.specs.Sweeping.{CanLook, SweepsRun};
+ghost use Rattle.thy_sweep.specs.Sums.{no_rows};
 ghost use Rattle.thy_trial.specs.Rooms.{HasRoomFor};
 
 use crate::account::{Account, Last};
@@ -53,7 +56,10 @@ fn counted(count: u64, start: u64, did: Did) -> u64 {
 
 impl Watch {
     /// Before the first cycle of a plan's run.
-    pub fn new(alloc: Global, plan: &Plan) -> Result<Watch, AllocError> {
+    pub fn new(alloc: Global, plan: &Plan) -> Result<Watch, AllocError>
+        ensures current { IfOk result (λ watch. watch.account.current ≡ None) }
+        ensures sums { IfOk result (λ watch. watch.account.sums ≡ no_rows) }
+    {
         Ok(Watch {
             account: Account::new(alloc),
             beside: Beside::new(alloc, &plan.start, &plan.geometry)?,
@@ -63,7 +69,9 @@ impl Watch {
     }
 
     /// Follows the run past the events that are new.
-    fn follow(&mut self, alloc: Global, events: &Events) -> Result<(), AllocError> {
+    fn follow(&mut self, alloc: Global, events: &Events) -> Result<(), AllocError>
+        ensures { self.new.account ≡ self.old.account }
+    {
         for i in self.followed..events.len() {
             self.beside.follow(alloc, events.get(i))?;
         }
@@ -79,7 +87,10 @@ impl Watch {
         start: u64,
         events: &Events,
         nvm: &MemNvm,
-    ) -> Result<(), AllocError> {
+    ) -> Result<(), AllocError>
+        ensures current { self.new.account.current ≡ self.old.account.current }
+        ensures sums { self.new.account.sums ≡ self.old.account.sums }
+    {
         self.count = counted(self.count, start, did);
         self.follow(alloc, events)?;
         self.account.look(nvm);
@@ -99,7 +110,10 @@ fn try_row<M: Computer>(
     nvm: &MemNvm,
 ) -> Result<Room, CoreError>
     requires { CanLook M.kind plan.now progress.now nvm.now.device room }
-    ensures { IfOk result (HasRoomFor plan.now nvm.now.device) }
+    ensures room { IfOk result (HasRoomFor plan.now nvm.now.device) }
+    ensures opens { let n = nvm.now.device in
+        let mix = progress.now.mix in
+        OnOk result (OpensRow M.kind plan.now n mix asked.now cycle watch.old.account watch.new.account) }
 {
     let mut row = Row::new(alloc, cycle, watch.count, nvm.waits());
     let room = try_cycle::<M>(
@@ -132,14 +146,21 @@ fn look<M: Computer>(
     nvm: &MemNvm,
 ) -> Result<Room, CoreError>
     requires { CanLook M.kind plan.now progress.now nvm.now.device room }
-    ensures { IfOk result (HasRoomFor plan.now nvm.now.device) }
+    ensures room { IfOk result (HasRoomFor plan.now nvm.now.device) }
+    ensures looks { let n = nvm.now.device in
+        let mix = progress.now.mix in
+        OnOk result (LooksTo M.kind plan.now n mix asked.now cycle watch.old.account watch.new.account) }
 {
     let start = plan.start.state.count;
     if let Err(error) = watch.pass(alloc, did, start, &progress.events, nvm) {
         return Err(CoreError::Memory(error));
     }
     let count = watch.count;
-    if !asked.has(cycle) || watch.account.repeats(cycle, count) {
+    if !asked.has(cycle) {
+        return Ok(room);
+    }
+    let more = watch.account.repeats(cycle, count);
+    if more {
         return Ok(room);
     }
     try_row::<M>(alloc, plan, room, asked, progress, cycle, watch, nvm)
@@ -163,6 +184,12 @@ pub fn sweep_run<M: Computer, T: Sink, R: Sink>(
     requires blocks { shape.now.blocks ≡ length nvm.old.device.image }
     requires queue { shape.now.queue ≡ nvm.old.device.queue_room }
     requires some { 0 < shape.now.queue }
+    requires closed { watch.old.account.current ≡ None }
+    requires fresh { watch.old.account.sums ≡ no_rows }
+    ensures rows { KeepsRows M.kind plan.now nvm.old.device asked.now watch.new.account result }
+    ensures run { let before = sinks (T.stream terminal.old) (R.stream report.old) in
+        let after = sinks (T.stream terminal.new) (R.stream report.new) in
+        SweepsRun M.kind plan.now nvm.old.device nvm.new.device asked.now before after result }
 {
     let Ok(mut progress) = begin::<M>(alloc, plan) else {
         return Swept::Short;

@@ -1,7 +1,8 @@
 //! Calls over memory: what is put under OUT. The numbers were worked out by hand from the rules of the controller.
 
 use crate::asked::take_asked;
-use crate::top::{refuse_asked, sweep};
+use crate::concluding::refuse_asked;
+use crate::top::sweep;
 use std::alloc::{AllocError, Global};
 use std::process::Abort;
 use std::test::Fail;

@@ -1,140 +1,35 @@
 //! The call: the run with what is tried, and then OUT.
-ghost use Rattle.std.specs.Prelude.{◌≡◌, ◌<◌, [], None, length};
+ghost use Rattle.std.specs.Prelude.{◌≡◌, ◌<◌, [], None, length, map};
+ghost use Rattle.std.specs.String.{string_bytes};
+ghost use Rattle.thy_answer.specs.Answering.{outside};
+ghost use Rattle.thy_answer.specs.Kept.{named};
+ghost use Rattle.thy_answer.specs.Machines.{by_scheme};
 ghost use Rattle.thy_base.specs.Config.{fault_of as range_fault, parameters_of};
+ghost use Rattle.thy_block.specs.declared.parameters.Parameters.{Parameters as Numbers};
 ghost use Rattle.thy_execute.specs.Planning.{CanRun, shape_of};
 ghost use Rattle.thy_files.specs.Restoring.{ReadsFiles};
 ghost use Rattle.thy_run.specs.Going.{IsPlanned};
 ghost use Rattle.thy_run.specs.Rounds.{IsFitted};
-ghost use Rattle.thy_arguments.specs.Settings.{IsInRange, order_of};
+ghost use Rattle.thy_arguments.specs.Settings.{IsInRange, job_of, order_of};
 ghost use Rattle.sweep.specs.Naming.{IsUncut};
+ghost use Rattle.sweep.specs.Swept.{Sweeps, SweepsJob, SweepsOrder, SweepsOver, SweepsPlan};
 
-use crate::account::{Account, Last};
-use crate::asked::{Asked, Unasked};
+use crate::asked::Asked;
+use crate::concluding::{conclude, report_short};
 use crate::naming::is_refused;
-use crate::running::{Swept, Watch, last_of, sweep_run};
-use std::alloc::{AllocError, Global};
-use thy_answer::{ProgramSource, Refusal, close, refuse, stopped};
+use crate::running::{Watch, sweep_run};
+use std::alloc::Global;
+use thy_answer::{ProgramSource, Refusal, refuse};
 use thy_arguments::{Command, Job, WordsError, settings};
 use thy_base::{Block, Geometry, Nvm, SchemeName, Shape, Shelf, Sink};
 use thy_core::Machine;
 use thy_files::{Beginning, prepare};
 use thy_journal::Journal;
 use thy_nvm::MemNvm;
-use thy_run::{Plan, Stop};
+use thy_run::Plan;
 use thy_shadow::Shadow;
-use thy_text::Closing;
 use thy_thynvm::Thynvm;
 use thy_view::Computer;
-
-/// The exit status of a difference.
-const DIFFERS: u8 = 1;
-
-/// The exit status if the arguments are refused.
-const REFUSED: u8 = 2;
-
-/// The exit status if OUT could not be put.
-const NOT_PUT: u8 = 3;
-
-/// The exit status if memory ran out.
-const SHORT: u8 = 9;
-
-/// Writes a line, and returns whether the report failed.
-fn say<R: Sink>(line: &str, report: &mut R) -> bool {
-    report.write(line.as_bytes()).is_err()
-}
-
-/// The line of a refusal.
-fn line_of(alloc: Global, why: Unasked) -> Result<String, AllocError> {
-    match why {
-        Unasked::Usage => String::from_str(alloc, "usage\n"),
-        Unasked::Word(name) => format!(in alloc; "word {name}\n"),
-        Unasked::Value(name, value) => format!(in alloc; "value {name} {value}\n"),
-        Unasked::Memory(error) => Err(error),
-    }
-}
-
-/// Refuses the options, and returns the exit status.
-pub fn refuse_asked<R: Sink>(alloc: Global, why: Unasked, report: &mut R) -> u8 {
-    match line_of(alloc, why) {
-        Ok(line) => {
-            say(line.as_str(), report);
-            REFUSED
-        }
-        Err(_) => {
-            close(Closing::Memory, report);
-            SHORT
-        }
-    }
-}
-
-/// Writes the closing line of the run, and returns the status.
-fn close_run<R: Sink>(source: ProgramSource, swept: Swept, limit: u64, report: &mut R) -> u8 {
-    match swept {
-        Swept::Reached(_) => 0,
-        Swept::Short => {
-            close(Closing::Memory, report);
-            SHORT
-        }
-        Swept::Stopped(ending) => {
-            let ran = stopped(source, None, ending, None, limit, report);
-            match ran.stop {
-                Stop::Ended(_) | Stop::Limit => 0,
-                _ => ran.status,
-            }
-        }
-    }
-}
-
-/// Whether a run came to its end, or to its limit.
-fn has_ended(swept: &Swept) -> bool {
-    match swept {
-        Swept::Stopped(ending) => matches!(ending.stop, Stop::Ended(_) | Stop::Limit),
-        Swept::Reached(_) | Swept::Short => false,
-    }
-}
-
-/// Writes the text under OUT, and returns the exit status.
-fn put_out<H: Shelf, R: Sink>(
-    alloc: Global,
-    out: &str,
-    account: Account,
-    last: Last,
-    status: u8,
-    shelf: &mut H,
-    report: &mut R,
-) -> u8 {
-    let differs = account.differs();
-    let Ok(text) = account.into_text(alloc, last) else {
-        close(Closing::Memory, report);
-        return SHORT;
-    };
-    if shelf.put(alloc, out, text.as_str().as_bytes()).is_err() {
-        close(Closing::Put(out), report);
-        return NOT_PUT;
-    }
-    if differs { DIFFERS } else { status }
-}
-
-/// Concludes a sweep: the closing line, and OUT; returns the exit status. Nothing is put if the run ended before the first cycle
-/// that was asked for.
-fn conclude<H: Shelf, R: Sink>(
-    alloc: Global,
-    out: &str,
-    source: ProgramSource,
-    asked: &Asked,
-    swept: Swept,
-    account: Account,
-    limit: u64,
-    shelf: &mut H,
-    report: &mut R,
-) -> u8 {
-    let last = last_of(&swept);
-    if has_ended(&swept) && account.is_empty() {
-        return refuse_asked(alloc, Unasked::Value("from", asked.from), report);
-    }
-    let status = close_run(source, swept, limit, report);
-    put_out(alloc, out, account, last, status, shelf, report)
-}
 
 /// The shape that the device of a plan's machine is fitted with.
 fn shape_of<M: Computer>(plan: &Plan) -> Shape
@@ -167,10 +62,14 @@ fn sweep_fitted<M: Computer, H: Shelf, T: Sink, R: Sink>(
     requires blocks { shape.now.blocks ≡ length nvm.old.device.image }
     requires queue { shape.now.queue ≡ nvm.old.device.queue_room }
     requires some { 0 < shape.now.queue }
+    ensures { let before = outside (H.stock shelf.old) nvm.old.device
+        (T.stream terminal.old) (R.stream report.old) in
+        let after = outside (H.stock shelf.new) nvm.new.device
+        (T.stream terminal.new) (R.stream report.new) in
+        SweepsOver M.kind out.now asked.now (named source.entry) plan.now before after result }
 {
-    let mut watch = match Watch::new(alloc, plan) {
-        Ok(watch) => watch,
-        Err(error) => return refuse(alloc, Refusal::Memory(error), report).status,
+    let Ok(mut watch) = Watch::new(alloc, plan) else {
+        return report_short(report);
     };
     let swept = sweep_run::<M, T, R>(alloc, plan, shape, asked, terminal, report, &mut watch, nvm);
     let limit = plan.geometry.numbers().limit;
@@ -197,6 +96,11 @@ fn sweep_plan<M: Computer, H: Shelf, T: Sink, R: Sink>(
     requires can { CanRun plan.now blocks.items }
     requires reads { ReadsFiles M.kind plan.now.geometry }
     requires uncut { plan.now.config.cuts ≡ [] }
+    ensures { let before = outside (H.stock shelf.old) nvm.old.device
+        (T.stream terminal.old) (R.stream report.old) in
+        let after = outside (H.stock shelf.new) nvm.new.device
+        (T.stream terminal.new) (R.stream report.new) in
+        SweepsPlan M.kind out.now asked.now (named source.entry) plan.now blocks.items before after result }
 {
     let shape = shape_of::<M>(plan);
     match nvm.fit(alloc, &shape, blocks) {
@@ -222,6 +126,11 @@ fn sweep_source<M: Computer, H: Shelf, T: Sink, R: Sink>(
     requires range { range_fault job.config ≡ None }
     requires reads { ReadsFiles M.kind (parameters_of job.config) }
     requires uncut { job.config.cuts ≡ [] }
+    ensures { let before = outside (H.stock shelf.old) nvm.old.device
+        (T.stream terminal.old) (R.stream report.old) in
+        let after = outside (H.stock shelf.new) nvm.new.device
+        (T.stream terminal.new) (R.stream report.new) in
+        SweepsJob M.kind out.now asked.now (named source.entry) (job_of job) before after result }
 {
     let Job {
         config,
@@ -251,8 +160,9 @@ fn sweep_source<M: Computer, H: Shelf, T: Sink, R: Sink>(
     )
 }
 
-/// Makes the run of a job on the machine of its scheme, with what is tried, and writes OUT. Returns the exit status.
-fn sweep_job<H: Shelf, T: Sink, R: Sink>(
+/// Makes the run of a job on the machine of its scheme, with what is tried, and writes OUT: `A` for `SchemeName::Thynvm`, `B` for
+/// `SchemeName::Journal`, `C` for `SchemeName::Shadow`. Returns the exit status.
+fn sweep_by_scheme<A: Computer, B: Computer, C: Computer, H: Shelf, T: Sink, R: Sink>(
     alloc: Global,
     out: &str,
     asked: &Asked,
@@ -265,22 +175,31 @@ fn sweep_job<H: Shelf, T: Sink, R: Sink>(
 ) -> u8
     requires range { range_fault job.config ≡ None }
     requires uncut { job.config.cuts ≡ [] }
+    requires thynvm { (p : Numbers) → p.scheme ≡ SchemeName.Thynvm → ReadsFiles A.kind p }
+    requires journal { (p : Numbers) → p.scheme ≡ SchemeName.Journal → ReadsFiles B.kind p }
+    requires shadow { (p : Numbers) → p.scheme ≡ SchemeName.Shadow → ReadsFiles C.kind p }
+    ensures { let before = outside (H.stock shelf.old) nvm.old.device
+        (T.stream terminal.old) (R.stream report.old) in
+        let after = outside (H.stock shelf.new) nvm.new.device
+        (T.stream terminal.new) (R.stream report.new) in
+        let K = (by_scheme A.kind B.kind C.kind job.config.scheme).kind in
+        SweepsJob K out.now asked.now (named source.entry) (job_of job) before after result }
 {
     match job.config.scheme {
-        SchemeName::Thynvm => sweep_source::<Machine<Thynvm>, H, T, R>(
+        SchemeName::Thynvm => sweep_source::<A, H, T, R>(
             alloc, out, asked, source, job, shelf, terminal, report, nvm,
         ),
-        SchemeName::Journal => sweep_source::<Machine<Journal>, H, T, R>(
+        SchemeName::Journal => sweep_source::<B, H, T, R>(
             alloc, out, asked, source, job, shelf, terminal, report, nvm,
         ),
-        SchemeName::Shadow => sweep_source::<Machine<Shadow>, H, T, R>(
+        SchemeName::Shadow => sweep_source::<C, H, T, R>(
             alloc, out, asked, source, job, shelf, terminal, report, nvm,
         ),
     }
 }
 
 /// Makes the run that a command asks for, with what is tried, and writes OUT. Returns the exit status.
-fn sweep_command<H: Shelf, T: Sink, R: Sink>(
+fn sweep_command<A: Computer, B: Computer, C: Computer, H: Shelf, T: Sink, R: Sink>(
     alloc: Global,
     out: &str,
     asked: &Asked,
@@ -292,24 +211,69 @@ fn sweep_command<H: Shelf, T: Sink, R: Sink>(
 ) -> u8
     requires range { IsInRange (order_of command) }
     requires uncut { IsUncut (order_of command) }
+    requires thynvm { (p : Numbers) → p.scheme ≡ SchemeName.Thynvm → ReadsFiles A.kind p }
+    requires journal { (p : Numbers) → p.scheme ≡ SchemeName.Journal → ReadsFiles B.kind p }
+    requires shadow { (p : Numbers) → p.scheme ≡ SchemeName.Shadow → ReadsFiles C.kind p }
+    ensures { let before = outside (H.stock shelf.old) nvm.old.device
+        (T.stream terminal.old) (R.stream report.old) in
+        let after = outside (H.stock shelf.new) nvm.new.device
+        (T.stream terminal.new) (R.stream report.new) in
+        let machines = by_scheme A.kind B.kind C.kind in
+        SweepsOrder machines out.now asked.now (order_of command) before after result }
 {
     match command {
         Command::Run { file, job } => {
             let source = ProgramSource::File(file.as_str());
-            sweep_job(alloc, out, asked, source, job, shelf, terminal, report, nvm)
+            sweep_by_scheme::<A, B, C, H, T, R>(
+                alloc, out, asked, source, job, shelf, terminal, report, nvm,
+            )
         }
         Command::Resume { image, job } => {
             let source = ProgramSource::Image(image.as_str());
-            sweep_job(alloc, out, asked, source, job, shelf, terminal, report, nvm)
+            sweep_by_scheme::<A, B, C, H, T, R>(
+                alloc, out, asked, source, job, shelf, terminal, report, nvm,
+            )
         }
         Command::Bench { number, job } => {
             let source = ProgramSource::Made(number);
-            sweep_job(alloc, out, asked, source, job, shelf, terminal, report, nvm)
+            sweep_by_scheme::<A, B, C, H, T, R>(
+                alloc, out, asked, source, job, shelf, terminal, report, nvm,
+            )
         }
-        Command::Compare { .. } | Command::Plain { .. } | Command::Make { .. } => {
-            refuse(alloc, Refusal::Words(WordsError::Usage), report).status
-        }
+        Command::Compare { .. } | Command::Plain { .. } | Command::Make { .. } => unreachable!(),
     }
+}
+
+/// Makes the run that the arguments ask for, the program's name first, with what is tried, and writes OUT. Returns the exit status.
+fn sweep_words<A: Computer, B: Computer, C: Computer, H: Shelf, T: Sink, R: Sink>(
+    alloc: Global,
+    out: &str,
+    asked: &Asked,
+    words: &[String],
+    shelf: &mut H,
+    terminal: &mut T,
+    report: &mut R,
+    nvm: &mut MemNvm,
+) -> u8
+    requires thynvm { (p : Numbers) → p.scheme ≡ SchemeName.Thynvm → ReadsFiles A.kind p }
+    requires journal { (p : Numbers) → p.scheme ≡ SchemeName.Journal → ReadsFiles B.kind p }
+    requires shadow { (p : Numbers) → p.scheme ≡ SchemeName.Shadow → ReadsFiles C.kind p }
+    ensures { let before = outside (H.stock shelf.old) nvm.old.device
+        (T.stream terminal.old) (R.stream report.old) in
+        let after = outside (H.stock shelf.new) nvm.new.device
+        (T.stream terminal.new) (R.stream report.new) in
+        let machines = by_scheme A.kind B.kind C.kind in
+        Sweeps machines out.now asked.now (map string_bytes words.now) before after result }
+{
+    let command = match settings(alloc, words) {
+        Ok(command) => command,
+        Err(error) => return refuse(alloc, Refusal::Words(error), report).status,
+    };
+    let refused = is_refused(out, &command);
+    if refused {
+        return refuse(alloc, Refusal::Words(WordsError::Usage), report).status;
+    }
+    sweep_command::<A, B, C, H, T, R>(alloc, out, asked, command, shelf, terminal, report, nvm)
 }
 
 /// Makes the run that the arguments ask for, the program's name first, as thynvm makes it without cuts; tries after each cycle that
@@ -327,13 +291,17 @@ pub fn sweep<H: Shelf, T: Sink, R: Sink>(
     terminal: &mut T,
     report: &mut R,
     nvm: &mut MemNvm,
-) -> u8 {
-    let command = match settings(alloc, words) {
-        Ok(command) => command,
-        Err(error) => return refuse(alloc, Refusal::Words(error), report).status,
-    };
-    if is_refused(out, &command) {
-        return refuse(alloc, Refusal::Words(WordsError::Usage), report).status;
-    }
-    sweep_command(alloc, out, asked, command, shelf, terminal, report, nvm)
+) -> u8
+    ensures { let before = outside (H.stock shelf.old) nvm.old.device
+        (T.stream terminal.old) (R.stream report.old) in
+        let after = outside (H.stock shelf.new) nvm.new.device
+        (T.stream terminal.new) (R.stream report.new) in
+        let machines = by_scheme ⟦<Machine<Thynvm> as Computer>⟧.kind
+        ⟦<Machine<Journal> as Computer>⟧.kind
+        ⟦<Machine<Shadow> as Computer>⟧.kind in
+        Sweeps machines out.now asked.now (map string_bytes words.now) before after result }
+{
+    sweep_words::<Machine<Thynvm>, Machine<Journal>, Machine<Shadow>, H, T, R>(
+        alloc, out, asked, words, shelf, terminal, report, nvm,
+    )
 }

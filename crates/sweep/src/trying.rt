@@ -1,8 +1,10 @@
 //! The images of one cycle, tried one after another.
-ghost use Rattle.std.specs.Prelude.{◌≡◌, ◌<◌, ◌-◌, ◌^◌, min, IfOk, IfSome, OnOk};
+ghost use Rattle.std.specs.Prelude.{◌≡◌, ◌<◌, ◌-◌, ◌^◌, ◌&&◌, min, nat_le, nat_lt, true, false, IfOk, IfSome, IfNone, OnOk};
+ghost use Rattle.thy_block.specs.Counts.{next};
 ghost use Rattle.thy_sweep.specs.Choices.{count_of, places_of};
+ghost use Rattle.thy_sweep.specs.Images.{crash_images};
 ghost use Rattle.thy_trial.specs.Rooms.{CanTryOf, HasRoomFor};
-ghost use Rattle.sweep.specs.Rows.{HasTried, noted_if};
+ghost use Rattle.sweep.specs.Rows.{NotesNumber, NotesPick, TriesAsked, TriesImages, TriesPicks, noted_if, picks_of, wants};
 ghost use Rattle.sweep.specs.Sweeping.{most_cycles};
 
 use crate::asked::Asked;
@@ -52,6 +54,8 @@ fn note_difference(
 /// Notes what trying an image of this name came to.
 fn note(found: &Found, name: Name, beside: &Beside, row: &mut Row) -> Result<(), AllocError>
     ensures leads { OnOk result (row.new.leads.items ≡ noted_if found.now.booted row.old.leads.items) }
+    ensures tried { row.new.tried ≡ next row.old.tried }
+    ensures first { row.new.first ≡ row.old.first }
     ensures queued { row.new.queued ≡ row.old.queued }
     ensures images { row.new.images ≡ row.old.images }
 {
@@ -80,7 +84,9 @@ fn note_pick<M: Computer>(
     requires can { CanTryOf M.kind plan.now nvm.now.device mix.now most_cycles }
     requires choices { choices.now ≡ places_of nvm.now.device }
     ensures room { IfOk result (HasRoomFor plan.now nvm.now.device) }
-    ensures tried { OnOk result (HasTried M.kind plan.now nvm.now.device mix.now row.old row.new) }
+    ensures tried { let before = numbers.old.items in
+        let after = numbers.new.items in
+        OnOk result (NotesPick M.kind plan.now nvm.now.device mix.now pick before after row.old row.new) }
 {
     let trial = try_pick::<M>(alloc, plan, room, choices, numbers, pick, *mix, MOST, nvm)?;
     let PickTrial { found, room } = trial;
@@ -109,7 +115,8 @@ fn try_picks<M: Computer>(
     requires can { CanTryOf M.kind plan.now nvm.now.device mix.now most_cycles }
     requires choices { choices.now ≡ places_of nvm.now.device }
     ensures room { IfOk result (HasRoomFor plan.now nvm.now.device) }
-    ensures tried { OnOk result (HasTried M.kind plan.now nvm.now.device mix.now row.old row.new) }
+    ensures tried { let count = picks_of asked.now in
+        OnOk result (TriesPicks M.kind plan.now nvm.now.device mix.now asked.now count row.old row.new) }
 {
     let mut numbers = Vec::new(alloc);
     let mut room = room;
@@ -150,7 +157,7 @@ fn note_number<M: Computer>(
     requires count { count ≡ count_of choices.now }
     requires number { number < count }
     ensures room { IfOk result (HasRoomFor plan.now nvm.now.device) }
-    ensures tried { OnOk result (HasTried M.kind plan.now nvm.now.device mix.now row.old row.new) }
+    ensures tried { OnOk result (NotesNumber M.kind plan.now nvm.now.device mix.now number row.old row.new) }
 {
     let trial = try_number::<M>(alloc, plan, room, choices, count, number, *mix, MOST, nvm)?;
     let Trial { found, room } = trial;
@@ -177,7 +184,8 @@ fn try_all<M: Computer>(
     requires choices { choices.now ≡ places_of nvm.now.device }
     requires count { count ≡ count_of choices.now }
     ensures room { IfOk result (HasRoomFor plan.now nvm.now.device) }
-    ensures tried { OnOk result (HasTried M.kind plan.now nvm.now.device mix.now row.old row.new) }
+    ensures tried { let n = nvm.now.device in
+        OnOk result (TriesImages M.kind plan.now n mix.now (crash_images n) row.old row.new) }
 {
     let mut room = room;
     for number in 0..count {
@@ -188,12 +196,22 @@ fn try_all<M: Computer>(
     Ok(room)
 }
 
-/// How many images there are, if all of them are to be tried: at most this number.
+/// Whether this many images are all to be tried: there are at most `all`, which is above 0.
+fn is_wanted(all: u64, count: u128) -> bool
+    ensures { result ≡ (nat_lt 0 all && nat_le count all) }
+{
+    0 < all && count <= all as u128
+}
+
+/// How many images there are, if all of them are to be tried.
 fn count_for(choices: &Choices, all: u64) -> Option<u64>
-    ensures { IfSome result (λ count. count ≡ count_of choices.now) }
+    ensures count { IfSome result (λ count. count ≡ count_of choices.now) }
+    ensures some { IfSome result (λ count. wants all choices.now ≡ true) }
+    ensures none { IfNone result (wants all choices.now ≡ false) }
 {
     let count = choices.count();
-    if all == 0 || count > all as u128 {
+    let wanted = is_wanted(all, count);
+    if !wanted {
         return None;
     }
     Some(count as u64)
@@ -218,7 +236,7 @@ pub fn try_cycle<M: Computer>(
     ensures room { IfOk result (HasRoomFor plan.now nvm.now.device) }
     ensures images { OnOk result (row.new.images ≡ min (count_of (places_of nvm.now.device)) (2 ^ 128 - 1)) }
     ensures tried { let old = record row.old { images = row.new.images } in
-        OnOk result (HasTried M.kind plan.now nvm.now.device mix old row.new) }
+        OnOk result (TriesAsked M.kind plan.now nvm.now.device mix asked.now old row.new) }
 {
     let choices = match Choices::of(alloc, nvm) {
         Ok(choices) => choices,

@@ -103,7 +103,7 @@ block_from bytes = record { 0 = bytes }
 pub same_block : (a b : Block) → is_same_block a b ≡ true → a ≡ b
 same_block a b h = ap block_from ((bytes_eq-Decides a.0 b.0).0 h)
 
-block_same : (a : Block) → is_same_block a a ≡ true
+pub block_same : (a : Block) → is_same_block a a ≡ true
 block_same a = (bytes_eq-Decides a.0 a.0).1 refl
 
 in_distinct : (bs : List Block) (c : Block) → Contains bs c → Contains (distinct bs) c

@@ -1,7 +1,8 @@
 //! What a sweep tries and keeps. After each cycle of a run it boots copies of what a cut could leave there. Here is said
 //! which images these are, and boots are counted by the checkpoints to which they led.
 //!
-//! Open specs/Images.antt and specs/Leads.antt first, and src/lead.rt. It stands on thy_block and thy_nvm; nothing stands on it yet.
+//! Open specs/Images.antt and specs/Leads.antt first, and src/lead.rt. It stands on thy_block and thy_nvm; thy_trial and the program
+//! sweep stand on it.
 #![tactic(auto)]
 
 mod choices;

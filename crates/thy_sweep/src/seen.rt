@@ -8,14 +8,16 @@ use thy_nvm::MemNvm;
 
 /// Whether two writes are the same.
 fn is_same_write(a: &Write, b: &Write) -> bool
-    ensures { result ≡ true → a.now ≡ b.now }
+    ensures same { result ≡ true → a.now ≡ b.now }
+    ensures every { a.now ≡ b.now → result ≡ true }
 {
     a.at == b.at && a.block == b.block
 }
 
 /// Whether a device has this queue.
 fn has_queue(queue: &[Write], nvm: &MemNvm) -> bool
-    ensures { result ≡ true → nvm.now.device.queue ≡ queue.now }
+    ensures same { result ≡ true → nvm.now.device.queue ≡ queue.now }
+    ensures every { nvm.now.device.queue ≡ queue.now → result ≡ true }
 {
     if nvm.waits() != queue.len() as u64 {
         return false;
@@ -32,7 +34,8 @@ fn has_queue(queue: &[Write], nvm: &MemNvm) -> bool
 
 /// Whether this block has landed at the place of the oldest write of a device, if it has one.
 fn has_first(first: &Block, nvm: &MemNvm) -> bool
-    ensures { result ≡ true → IsSeen nvm.now.device.queue first.now nvm.now.device }
+    ensures seen { result ≡ true → IsSeen nvm.now.device.queue first.now nvm.now.device }
+    ensures every { IsSeen nvm.now.device.queue first.now nvm.now.device → result ≡ true }
 {
     if nvm.waits() == 0 {
         return true;
@@ -41,10 +44,11 @@ fn has_first(first: &Block, nvm: &MemNvm) -> bool
     *first == nvm.landed(at)
 }
 
-/// Whether a device is as it was when it had this queue, and this block had landed at the place of its oldest write. It may have
-/// been asked for one thing since, and no more.
+/// Whether a device has this queue, and this block has landed at the place of its oldest write. One that has, and had when it was
+/// seen, is as it was then if it was asked for one thing at most since.
 pub fn is_still(queue: &[Write], first: &Block, nvm: &MemNvm) -> bool
-    ensures { result ≡ true → StaysSince queue.now first.now nvm.now.device }
+    ensures stays { result ≡ true → StaysSince queue.now first.now nvm.now.device }
+    ensures every { IsSeen queue.now first.now nvm.now.device → result ≡ true }
 {
     has_queue(queue, nvm) && has_first(first, nvm)
 }

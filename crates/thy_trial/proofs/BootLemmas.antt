@@ -76,7 +76,7 @@ stays_boot o v next Boot boots s on = elim s.1 as (λ _. next.phase ≡ BootPhas
 ]
 stays_boot o v next Loaded boots s on = absurd (cc)
 stays_boot o v next (Restarted epoch count) boots s on = absurd (cc)
-stays_boot o v next (Refused bad) boots s on = ap phase_of s.3 ∙ boots
+stays_boot o v next (Refused bad) boots s on = absurd (cc)
 stays_boot o v next Moved boots s on = not_run v.phase boots s.0
 stays_boot o v next (Retired hart) boots s on = not_run v.phase boots s.phase
 stays_boot o v next Flushed boots s on = not_run v.phase boots s.0
@@ -88,13 +88,6 @@ stays_boot o v next (Committed epoch overlapped) boots s on = not_run v.phase bo
 stays_boot o v next NvmDrained boots s on = ap phase_of s ∙ boots
 stays_boot o v next DramDrained boots s on = ap phase_of s ∙ boots
 stays_boot o v next Nothing boots s on = not_halt v.phase boots s.0
-
--- a cycle that refused the image does not end it
-refused_on : (did : Did) → refuses did ≡ true → goes_on did ≡ true
-refused_on (Refused bad) refused = refl
-refused_on Loaded refused = absurd (cc)
-refused_on (Restarted epoch count) refused = absurd (cc)
-refused_on did refused = absurd (cc)
 
 -- ---- cycles of a boot
 
@@ -222,16 +215,14 @@ module _ {M : Type 0} (K : KindOf M) (plan : Plan) (pick : ℕ) (w copy : World 
   -- one that found an image that is refused
   pub IsUnended-by : (next : M) (new : Device) (mix' : Mix) (r : Stepped) → (x : IsNext K (origin_of plan) copy b.last k next new mix' r)
       → refuses r.did ≡ true → IsUnended K (origin_of plan) copy x.last most
-  IsUnended-by next new mix' r x refused =
-      let e : suc k ≡ k + 1 = omega arith in
-      record {
-        cycles = k + 1;
-        few = omega (arith, less);
-        boots = subst (λ (j : ℕ). BootsOn K (origin_of plan) j copy x.last) e
-            (b.last, x.step, b.boots, ap (λ (y : Stepped). goes_on y.did) x.by_step ∙ refused_on r.did refused);
-        why = inr (record { before = b.last; step = x.step; refused = ap (λ (y : Stepped). refuses y.did) x.by_step ∙ refused });
-      }
+  IsUnended-by next new mix' r x refused = record {
+    cycles = k;
+    why = inr (
+      less,
+      record { before = b.last; boots = b.boots; step = x.step; refused = ap (λ (y : Stepped). refuses y.did) x.by_step ∙ refused },
+    );
+  }
 
 -- one that has had all its cycles
 pub IsUnended-most : {M : Type 0} (K : KindOf M) (o : Origin) (copy last : World M) (k most : ℕ) → k ≡ most → BootsOn K o k copy last → IsUnended K o copy last most
-IsUnended-most K o copy last k most end boots = record { cycles = k; few = omega (arith, end); boots = boots; why = inl end }
+IsUnended-most K o copy last k most end boots = record { cycles = k; why = inl (end, boots) }

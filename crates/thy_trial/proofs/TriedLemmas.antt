@@ -1,5 +1,5 @@
 -- An image that was tried.
-use Rattle.std.proofs.Common.{◌≡◌, ℕ, zero, suc, ◌+◌, ◌≤◌, ◌==◌, ◌&&◌, ◌||◌, Bool, true, false, if◌then◌else◌, Option, Some, None, refl, sym, ◌∙◌, ap, subst}
+use Rattle.std.proofs.Common.{◌≡◌, ℕ, zero, suc, ◌+◌, ◌≤◌, ◌==◌, ◌&&◌, ◌||◌, Bool, true, false, if◌then◌else◌, Option, Some, None, refl, sym, ◌∙◌, ap, subst, inl, inr}
 use Rattle.std.specs.Prelude.{not, is_some}
 use Rattle.thy_block.specs.declared.mark.Mark.{Mark}
 use Rattle.thy_block.specs.Device.{Device}
@@ -9,14 +9,16 @@ use Rattle.thy_isa.specs.Step.{state_of}
 use Rattle.thy_run.specs.World.{World, TakesStep, line, seen}
 use Rattle.thy_run.proofs.StepAlong.{core_of}
 use Rattle.thy_sweep.specs.declared.lead.Booted.{Booted}
-use Rattle.thy_trial.specs.Trials.{IsCopied, IsBooted, BootsOn, BootsTo, BootsWithin, LeadsTo, IsRestored, Restores, IsLeftAt, IsLeftBy, has_restored}
+use Rattle.thy_trial.specs.Trials.{IsCopied, IsBooted, IsUnended, BootsOn, BootsTo, BootsWithin, LeadsTo, IsRestored, Restores, IsLeftAt, IsLeftBy, has_restored}
 use Rattle.thy_view.specs.declared.did.Did.{Did}
 use Rattle.thy_view.specs.declared.did.Did.TheVariants.{Loaded, Restarted}
 use Rattle.thy_view.specs.declared.view.Phase.{Phase}
 use Rattle.thy_view.specs.declared.view.Phase.TheVariants.{Run, Halt}
 use Rattle.thy_view.specs.declared.view.View.{View}
 use Rattle.thy_view.specs.CoreStep.{CoreStep, phase_at}
-use Rattle.thy_view.specs.Kind.{KindOf, IsSnapshot}
+use Rattle.thy_view.specs.declared.error.CoreError.{CoreError}
+use Rattle.thy_view.specs.declared.error.CoreError.TheVariants.{Memory, Nvm as NvmFailed}
+use Rattle.thy_view.specs.Kind.{HasFailedToRead, KindOf, IsSnapshot}
 use Rattle.thy_view.specs.Origin.{Origin, at, runs_at}
 use Rattle.thy_view.specs.Views.{is_between, is_boot, is_halt}
 
@@ -38,6 +40,11 @@ pub some_restored : (o : Origin) (v : View) (b : Option Booted) (s : MachState) 
     → Restores o b (Some s)
 some_restored o v None s some left reads = absurd (cc)
 some_restored o v (Some b) s some left reads = some_at o v b.mark s some left reads
+
+-- reading that failed for memory has no fault
+pub no_fault : (e : CoreError) (old new : Device) → HasFailedToRead e old new → (e ≡ NvmFailed → ⊥) → new.faults ≡ old.faults
+no_fault NvmFailed old new failed other = absurd (other refl)
+no_fault (Memory e) old new same other = ap (λ (n : Device). n.faults) same
 
 -- ---- where a boot leaves a machine
 
@@ -83,9 +90,15 @@ module _ {M : Type 0} (K : KindOf M) (o : Origin) (pick : ℕ) (w copy : World M
       let P : M → Device → Type 0 = λ m d. K.is_at (line o last) last.cycles m d × IsLeftBy (K.view (line o last) m d) b in
       subst (λ (m : M). P m new) machine (subst (λ (d : Device). P last.machine d) device (here, left))
 
+  unended_at : (last : World M) → IsUnended K o copy last most → K.is_at (line o last) last.cycles last.machine last.device
+  unended_at last u = elim u.why as (λ _. K.is_at (line o last) last.cycles last.machine last.device) [
+    | inl all ↦ booting_at K o pick w copy last u.cycles c all.1
+    | inr refused ↦ stepped_at K o refused.1.before last refused.1.step
+  ]
+
   pub leaves_at : (b : Option Booted) → BootsWithin K o copy next new most b → LeavesAt K o copy next new most b
   leaves_at None (last, unended, machine, device) =
-      let there = moved None last machine device (booting_at K o pick w copy last unended.cycles c unended.boots) tt in
+      let there = moved None last machine device (unended_at last unended) tt in
       record { last = last; boots = unended; at_moment = there.0; left = there.1 }
   leaves_at (Some b) (last, booted, within, machine, device) =
       let left : IsLeftAt (seen K o last) b.mark =

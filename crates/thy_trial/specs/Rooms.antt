@@ -1,11 +1,15 @@
 -- Images that a cut can leave of a run's device in memory, tried one after another.
-use Rattle.std.specs.Prelude.{◌≡◌, ℕ, List, length, Result, IfOk, IfSome}
+use Rattle.std.specs.Prelude.{◌≡◌, ℕ, ◌-◌, ◌^◌, min, true, false, List, [], ◌∷◌, ◌++◌, length, Option, Some, None, Result, IfOk, IfSome}
 use Rattle.thy_block.specs.declared.block.Block.{Block}
 use Rattle.thy_block.specs.declared.mix.Mix.{Mix}
 use Rattle.thy_block.specs.Device.{Device}
+use Rattle.thy_nvm.specs.Calls.{is_listed}
+use Rattle.thy_nvm.specs.Pick.{picked}
 use Rattle.thy_run.specs.declared.plan.Plan.{Plan}
 use Rattle.thy_run.specs.Going.{origin_of}
 use Rattle.thy_run.specs.World.{World, line}
+use Rattle.thy_sweep.specs.Choices.{number_of, places_of}
+use Rattle.thy_trial.specs.declared.room.Found.{Found}
 use Rattle.thy_trial.specs.declared.room.Room.{Room}
 use Rattle.thy_trial.specs.declared.room.Trial.{Trial}
 use Rattle.thy_trial.specs.declared.room.PickTrial.{PickTrial}
@@ -46,3 +50,17 @@ abbrev pub TriesNew : {M : Type 0} → KindOf M → Plan → ℕ → Device → 
 TriesNew {M = M} K plan pick n g mix most result =
     (w : World M) → IsRunAt K (origin_of plan) w n mix → FewBefore w most
     → IfOk result (λ t. IfSome t.found (λ f. IsTried K (origin_of plan) pick g w most f.booted f.state))
+
+-- the number of an image among those that a cut can leave, as it is counted
+abbrev pub counted_at : Device → List Block → ℕ
+counted_at n g = min (number_of (places_of n) g) (2 ^ 128 - 1)
+
+-- the number of the image that a pick leaves
+abbrev pub number_by : ℕ → Device → ℕ
+number_by pick n = counted_at n (picked n.whole pick n.image n.queue)
+
+-- The number of a pick's image is listed once that was tried. It is not tried if its number was listed and blocks land whole.
+abbrev pub ListsPick : ℕ → Device → List ℕ → List ℕ → Option Found → Type 0
+ListsPick pick n old new None = (new ≡ old) × (is_listed (number_by pick n) old ≡ true)
+ListsPick pick n old new (Some f) =
+    (new ≡ old ++ number_by pick n ∷ []) × (n.whole ≡ true → is_listed (number_by pick n) old ≡ false)

@@ -1,5 +1,5 @@
 -- Power comes on over a copy of what a cut can leave of a run's device: the boot, and what it leads to.
-use Rattle.std.specs.Prelude.{◌≡◌, ◌⊎◌, ℕ, zero, suc, ◌+◌, ◌≤◌, ◌^◌, Bool, true, false, List, [], Option, Some, None, is_some, Result, IfOk}
+use Rattle.std.specs.Prelude.{◌≡◌, ◌⊎◌, ℕ, zero, suc, ◌+◌, ◌<◌, ◌≤◌, ◌^◌, Bool, true, false, List, [], Option, Some, None, is_some, Result, IfOk}
 use Rattle.thy_block.specs.declared.block.Block.{Block}
 use Rattle.thy_block.specs.declared.mark.Mark.{Mark}
 use Rattle.thy_block.specs.declared.mix.Mix.{Mix}
@@ -67,10 +67,11 @@ LeadsTo Loaded m = m ≡ None
 LeadsTo (Restarted epoch count) m = m ≡ Some (mark epoch count)
 LeadsTo did m = ⊥
 
--- a boot goes on after a cycle that did this
+-- a boot goes on after a cycle that did this: it is not over, and its image is not refused
 abbrev pub goes_on : Did → Bool
 goes_on Loaded = false
 goes_on (Restarted epoch count) = false
+goes_on (Refused bad) = false
 goes_on did = true
 
 -- the image is refused
@@ -99,18 +100,17 @@ pub record IsBooted {M : Type 0} (K : KindOf M) (o : Origin) (w last : World M) 
   pub step : TakesStep K o before last
   pub leads : LeadsTo step.r.did b.mark
 
--- the last cycle of a boot found an image that it refuses
-pub record IsRefusedIn {M : Type 0} (K : KindOf M) (o : Origin) (last : World M) : Type 0 where
+-- after this number of cycles of a boot, the next one found an image that it refuses
+pub record IsRefusedAfter {M : Type 0} (K : KindOf M) (o : Origin) (cycles : ℕ) (w last : World M) : Type 0 where
   pub before : World M
+  pub boots : BootsOn K o cycles w before
   pub step : TakesStep K o before last
   pub refused : refuses step.r.did ≡ true
 
--- a boot that has not come to an end within a number of cycles, or that has found an image that it refuses
+-- a boot that went on for a number of cycles, and no longer, or that has found an image that it refuses before
 pub record IsUnended {M : Type 0} (K : KindOf M) (o : Origin) (w last : World M) (most : ℕ) : Type 0 where
   pub cycles : ℕ
-  pub few : cycles ≤ most
-  pub boots : BootsOn K o cycles w last
-  pub why : (cycles ≡ most) ⊎ IsRefusedIn K o last
+  pub why : ((cycles ≡ most) × BootsOn K o cycles w last) ⊎ ((cycles < most) × IsRefusedAfter K o cycles w last)
 
 -- ---- the call
 

@@ -1,6 +1,7 @@
 //! One state of a sweep: power comes on over a copy of what a cut can leave of a run's device, and the machine boots.
 //!
-//! Open specs/Trials.antt first, and src/trial.rt. It stands on thy_run, thy_sweep and their dependencies; nothing stands on it yet.
+//! Open specs/Trials.antt first, and src/trial.rt. It stands on thy_run, thy_sweep and their dependencies; the program
+//! sweep stands on it.
 #![tactic(auto)]
 
 mod booting;

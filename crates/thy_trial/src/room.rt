@@ -1,8 +1,9 @@
 //! Images that a cut can leave of a run's device in memory, tried over its own image one after another.
-ghost use Rattle.std.specs.Prelude.{◌≡◌, ◌<◌, IfOk};
+ghost use Rattle.std.specs.Prelude.{◌≡◌, ◌<◌, ◌&&◌, [], ◌∷◌, ◌++◌, IfOk, OnOk};
+ghost use Rattle.thy_nvm.specs.Calls.{is_listed};
 ghost use Rattle.thy_nvm.specs.Pick.{picked};
 ghost use Rattle.thy_sweep.specs.Choices.{chosen, count_of, places_of};
-ghost use Rattle.thy_trial.specs.Rooms.{CanTryOf, HasRoomFor, TriesNew, TriesOf, TriesOver};
+ghost use Rattle.thy_trial.specs.Rooms.{CanTryOf, HasRoomFor, ListsPick, TriesNew, TriesOf, TriesOver};
 ghost use Rattle.thy_trial.specs.Trials.{CanTry};
 ghost use Rattle.thy_view.specs.Kind.{IsDramOf};
 
@@ -93,13 +94,27 @@ fn try_over<'a, M: Computer>(
 }
 
 /// Whether a number is listed.
-fn lists(numbers: &[u128], number: u128) -> bool {
-    for other in numbers {
-        if *other == number {
-            return true;
-        }
+fn lists(numbers: &[u128], number: u128) -> bool
+    ensures { result ≡ is_listed number numbers.now }
+{
+    !numbers.is_empty() && numbers.contains(&number)
+}
+
+/// Whether an image is known by its number: only where blocks land whole has each image a number of its own.
+fn is_known(whole: bool, numbers: &[u128], number: u128) -> bool
+    ensures { result ≡ (whole && is_listed number numbers.now) }
+{
+    whole && lists(numbers, number)
+}
+
+/// Lists a number.
+fn list(numbers: &mut Vec<u128>, number: u128) -> Result<(), CoreError>
+    ensures { OnOk result (numbers.new.items ≡ numbers.old.items ++ number ∷ []) }
+{
+    match numbers.push(number) {
+        Ok(()) => Ok(()),
+        Err(error) => Err(CoreError::Memory(error.into())),
     }
-    false
 }
 
 /// Tries the image that a cut with this pick leaves of a run's device, unless its number is listed; then it is. The image is not
@@ -123,12 +138,13 @@ pub fn try_pick<M: Computer>(
     requires choices { choices.now ≡ places_of nvm.now.device }
     ensures tried { let n = nvm.now.device in
         TriesNew M.kind plan.now pick n (picked n.whole pick n.image n.queue) mix most result }
+    ensures listed { IfOk result (λ t. ListsPick pick nvm.now.device numbers.old.items numbers.new.items t.found) }
     ensures room { IfOk result (λ t. HasRoomFor plan.now nvm.now.device t.room) }
 {
     let Room { spare, dram } = room;
     let copy = Overlay::of(spare, nvm, pick);
     let number = choices.number_of(&copy);
-    let known = nvm.lands_whole() && lists(numbers, number);
+    let known = is_known(nvm.lands_whole(), numbers.as_slice(), number);
     if known {
         let spare = copy.into_spare();
         return Ok(PickTrial {
@@ -136,9 +152,7 @@ pub fn try_pick<M: Computer>(
             room: Room { spare, dram },
         });
     }
-    if let Err(error) = numbers.push(number) {
-        return Err(CoreError::Memory(error.into()));
-    }
+    list(numbers, number)?;
     match try_over::<M>(alloc, plan, copy, dram, pick, mix, most) {
         Ok(trial) => Ok(PickTrial {
             found: Some(trial.found),

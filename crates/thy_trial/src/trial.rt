@@ -95,6 +95,7 @@ pub fn try_copy<M: Computer, N: Nvm>(
     ensures dram { IfOk result (λ t. IsDramOf plan.now.geometry t.dram) }
     ensures frame { IsFramed (N.device nvm.old) (N.device nvm.new) }
     ensures fault { IfErr result (λ e. e ≡ NvmFailed → Rose (N.device nvm.old).faults (N.device nvm.new).faults) }
+    ensures memory { IfErr result (λ e. (e ≡ NvmFailed → ⊥) → (N.device nvm.new).faults ≡ (N.device nvm.old).faults) }
 {
     let mut machine = power_over::<M>(alloc, plan, dram, pick)?;
     let Ok(booted) = boot(&mut machine, plan, mix, most, nvm) else {

@@ -1,8 +1,13 @@
-use Rattle.std.proofs.Common.{◌≡◌, ◌+◌, ◌<◌, ◌≤◌, ℕ, [], ◌∙◌, ap, subst, arith}
+use Rattle.std.proofs.Common.{◌≡◌, ◌+◌, ◌<◌, ◌≤◌, ℕ, [], refl, sym, ◌∙◌, ap, subst, arith}
 use Rattle.thy_block.specs.declared.nvm.Shape.{Shape}
-use Rattle.thy_run.specs.Sending.{sinks}
-use Rattle.thy_run.proofs.StartLemmas.{Running-first}
+use Rattle.thy_block.specs.Device.{Device}
+use Rattle.thy_run.specs.declared.ending.Ending.{Ending}
+use Rattle.thy_run.specs.Rounds.{RunEnds}
+use Rattle.thy_run.specs.Sending.{Sinks, sinks}
+use Rattle.thy_run.proofs.StartLemmas.{Running-first, RunEnds-limit}
 use Rattle.sweep.specs.Sweeping.{IsSwept}
+use Rattle.thy_run.specs.Going.{world_at}
+use Rattle.sweep.proofs.KeptLemmas.{HasRows-none, HasRows-looked}
 use Rattle.sweep.proofs.SweepLemmas.{can_look, room_back}
 use Rattle.sweep.proofs.running.sweep_run.Goals as goal
 
@@ -10,21 +15,23 @@ pub loop-done-init : goal.loop-done-init
 loop-done-init g c =
     let n = c.args.nvm.now.device in
     record {
-      turns = [];
-      shown = g.T.Sink.stream c.args.terminal.now;
-      read = g.R.Sink.stream c.args.report.now;
-      running = Running-first g.M.Computer.kind g.met.M.Computer.lawful c.args.plan.now c.in-Ok.progress n (g.T.Sink.stream c.args.terminal.now)
-          (g.R.Sink.stream c.args.report.now) c.requires.planned c.requires.fitted c.in-Ok.ensures;
-      room = record {
-        dram = c.in-Ok-new.ensures.dram;
-        blocks = ap (λ (s : Shape). s.blocks) c.in-Ok-new.ensures.spare ∙ c.requires.blocks;
-        queue = ap (λ (s : Shape). s.queue) c.in-Ok-new.ensures.spare ∙ c.requires.queue;
+      rows = HasRows-none g.M.Computer.kind c.args.plan.now n c.args.asked.now c.args.watch.now.account c.requires.closed c.requires.fresh;
+      swept = record {
+        turns = [];
+        running = Running-first g.M.Computer.kind g.met.M.Computer.lawful c.args.plan.now c.in-Ok.progress n (g.T.Sink.stream c.args.terminal.now)
+            (g.R.Sink.stream c.args.report.now) c.requires.planned c.requires.fitted c.in-Ok.ensures;
+        room = record {
+          dram = c.in-Ok-new.ensures.dram;
+          blocks = ap (λ (s : Shape). s.blocks) c.in-Ok-new.ensures.spare ∙ c.requires.blocks;
+          queue = ap (λ (s : Shape). s.queue) c.in-Ok-new.ensures.spare ∙ c.requires.queue;
+        };
       };
     }
 
 pub single-requires-clause-running : goal.single-requires-clause-running
 single-requires-clause-running g c =
-    let h = c.loop-done.invariant in (c.args.nvm.now.device, h.turns, h.shown, h.read, h.running)
+    let h = c.loop-done.invariant.swept in
+    (c.args.nvm.now.device, h.turns, g.T.Sink.stream c.args.terminal.now, g.R.Sink.stream c.args.report.now, h.running)
 
 pub single-requires-clause-few : goal.single-requires-clause-few
 single-requires-clause-few g c =
@@ -34,31 +41,107 @@ single-requires-clause-few g c =
 -- an image can be tried after the cycle
 pub look-requires : goal.look-requires
 look-requires g c =
-    let h = c.loop-done.invariant in
+    let h = c.loop-done.invariant.swept in
     let n = c.args.nvm.now.device in
     let x = c.single.new in
+    let before : Sinks = sinks (g.T.Sink.stream c.args.terminal.now) (g.R.Sink.stream c.args.report.now) in
     let limit : c.numbers-limit.result.limit ≡ c.args.plan.now.geometry.limit = ap (λ p. p.limit) c.numbers-limit.ensures.same in
     let few : c.loop-done.done + 1 ≤ c.args.plan.now.geometry.limit = omega (arith, c.loop-done-test.true, limit) in
-    let made = c.in-Goes.ensures n h.turns h.shown h.read h.running in
-    can_look g.M.Computer.kind c.args.plan.now n x.progress x.nvm.device (c.loop-done.done + 1) (sinks (g.T.Sink.stream x.terminal) (g.R.Sink.stream x.report))
-    c.loop-done.room c.requires.planned few (record { turns = made.0; shown = h.shown; read = h.read; running = made.1; room = h.room })
+    let made = c.in-Goes.ensures n h.turns before.terminal before.report h.running in
+    can_look g.M.Computer.kind c.args.plan.now n x.progress x.nvm.device (c.loop-done.done + 1) before (sinks (g.T.Sink.stream x.terminal) (g.R.Sink.stream x.report))
+    c.loop-done.room c.requires.planned few (record { turns = made.0; running = made.1; room = h.room })
 
 pub loop-done-preserved : goal.loop-done-preserved
 loop-done-preserved g c =
-    let h = c.loop-done.invariant in
+    let h = c.loop-done.invariant.swept in
     let n = c.args.nvm.now.device in
     let x = c.single.new in
+    let before : Sinks = sinks (g.T.Sink.stream c.args.terminal.now) (g.R.Sink.stream c.args.report.now) in
     let limit : c.numbers-limit.result.limit ≡ c.args.plan.now.geometry.limit = ap (λ p. p.limit) c.numbers-limit.ensures.same in
     let few : c.loop-done.done + 1 ≤ c.args.plan.now.geometry.limit = omega (arith, c.loop-done-test.true, limit) in
-    let made = c.in-Goes.ensures n h.turns h.shown h.read h.running in
-    let here : IsSwept g.M.Computer.kind c.args.plan.now n x.progress x.nvm.device (c.loop-done.done + 1)
+    let made = c.in-Goes.ensures n h.turns before.terminal before.report h.running in
+    let here : IsSwept g.M.Computer.kind c.args.plan.now n x.progress x.nvm.device (c.loop-done.done + 1) before
     (sinks (g.T.Sink.stream x.terminal) (g.R.Sink.stream x.report)) c.loop-done.room
-    = record { turns = made.0; shown = h.shown; read = h.read; running = made.1; room = h.room } in
+    = record { turns = made.0; running = made.1; room = h.room } in
     record {
-      turns = made.0;
-      shown = h.shown;
-      read = h.read;
-      running = made.1;
-      room = room_back g.M.Computer.kind c.args.plan.now n x.progress x.nvm.device (c.loop-done.done + 1)
-          (sinks (g.T.Sink.stream x.terminal) (g.R.Sink.stream x.report)) c.loop-done.room c.requires.planned few here c.in-Ok-look.next c.in-Ok-look.ensures;
+      rows = HasRows-looked g.M.Computer.kind c.args.plan.now n c.args.asked.now x.nvm.device x.progress.mix (c.loop-done.done + 1)
+          (world_at x.progress x.nvm.device (c.loop-done.done + 1) made.0) c.loop-done.watch.account c.look.new.watch.account made.1.goes.ran refl refl
+          c.loop-done.invariant.rows c.in-Ok-look.ensures.looks;
+      swept = record {
+        turns = made.0;
+        running = made.1;
+        room = room_back g.M.Computer.kind c.args.plan.now n x.progress x.nvm.device (c.loop-done.done + 1) before
+            (sinks (g.T.Sink.stream x.terminal) (g.R.Sink.stream x.report)) c.loop-done.room c.requires.planned few here c.in-Ok-look.next c.in-Ok-look.ensures.room;
+      };
     }
+
+-- ---- its rows
+
+pub returns-in-Stops-clause-rows : goal.returns-in-Stops-clause-rows
+returns-in-Stops-clause-rows g c = c.loop-done.invariant.rows
+
+pub returns-in-Breaks-clause-rows : goal.returns-in-Breaks-clause-rows
+returns-in-Breaks-clause-rows g c = c.loop-done.invariant.rows
+
+pub returns-clause-rows : goal.returns-clause-rows
+returns-clause-rows g c = c.loop-done.invariant.rows
+
+pub returns-then-ends_at-clause-rows : goal.returns-then-ends_at-clause-rows
+returns-then-ends_at-clause-rows g c =
+    let h = c.loop-done.invariant.swept in
+    let n : Device = c.args.nvm.now.device in
+    let x = c.single.new in
+    let made = c.in-Goes.ensures n h.turns (g.T.Sink.stream c.args.terminal.now) (g.R.Sink.stream c.args.report.now) h.running in
+    HasRows-looked g.M.Computer.kind c.args.plan.now n c.args.asked.now x.nvm.device x.progress.mix (c.loop-done.done + 1)
+    (world_at x.progress x.nvm.device (c.loop-done.done + 1) made.0) c.loop-done.watch.account c.look.new.watch.account made.1.goes.ran refl refl
+    c.loop-done.invariant.rows c.in-Ok-look.ensures.looks
+
+-- ---- what it leaves
+
+-- the run stops in a cycle
+pub returns-in-Stops-clause-run : goal.returns-in-Stops-clause-run
+returns-in-Stops-clause-run g c =
+    let h = c.loop-done.invariant.swept in
+    let n : Device = c.args.nvm.now.device in
+    let x = c.single.new in
+    let t0 = g.T.Sink.stream c.args.terminal.now in
+    let r0 = g.R.Sink.stream c.args.report.now in
+    let ends = c.in-Stops.ensures n h.turns t0 r0 h.running in
+    subst (λ (e : Ending). RunEnds g.M.Computer.kind c.args.plan.now n x.nvm.device e t0 (g.T.Sink.stream x.terminal) r0 (g.R.Sink.stream x.report))
+    (sym c.end.ensures) ends
+
+-- one is not done
+pub returns-in-Breaks-clause-run : goal.returns-in-Breaks-clause-run
+returns-in-Breaks-clause-run g c =
+    let h = c.loop-done.invariant.swept in
+    let n : Device = c.args.nvm.now.device in
+    let x = c.single.new in
+    let t0 = g.T.Sink.stream c.args.terminal.now in
+    let r0 = g.R.Sink.stream c.args.report.now in
+    let ends = c.in-Breaks.ensures n h.turns t0 r0 h.running in
+    subst (λ (e : Ending). RunEnds g.M.Computer.kind c.args.plan.now n x.nvm.device e t0 (g.T.Sink.stream x.terminal) r0 (g.R.Sink.stream x.report))
+    (sym c.end-in-Breaks.ensures) ends
+
+-- the last cycle is done
+pub returns-then-ends_at-clause-run : goal.returns-then-ends_at-clause-run
+returns-then-ends_at-clause-run g c =
+    let h = c.loop-done.invariant.swept in
+    let n : Device = c.args.nvm.now.device in
+    let made = c.in-Goes.ensures n h.turns (g.T.Sink.stream c.args.terminal.now) (g.R.Sink.stream c.args.report.now) h.running in
+    (sym c.ends_at.ensures ∙ c.if-ends_at.true, record { progress = c.single.new.progress; turns = made.0; running = made.1 })
+
+-- the limit is reached
+pub returns-clause-run : goal.returns-clause-run
+returns-clause-run g c =
+    let l = c.loop-done in
+    let h = l.invariant.swept in
+    let n : Device = c.args.nvm.now.device in
+    let plan = c.args.plan.now in
+    let t0 = g.T.Sink.stream c.args.terminal.now in
+    let r0 = g.R.Sink.stream c.args.report.now in
+    let t = g.T.Sink.stream l.terminal in
+    let r = g.R.Sink.stream l.report in
+    let limit : c.numbers-limit.result.limit ≡ plan.geometry.limit = ap (λ p. p.limit) c.numbers-limit.ensures.same in
+    let end : l.done ≡ c.numbers-limit.result.limit = omega (arith, c.loop-done-test.false, l.auto.done-end) in
+    subst (λ (e : Ending). RunEnds g.M.Computer.kind plan n l.nvm.device e t0 t r0 r) (sym c.end-2.ensures)
+    (RunEnds-limit g.M.Computer.kind plan n l.progress l.nvm.device l.done h.turns c.numbers-limit.result.limit t0 t r0 r c.requires.planned h.running end limit).0

@@ -1,8 +1,14 @@
 use Rattle.thy_run.specs.Sending.{sinks}
+use Rattle.sweep.specs.Kept.{HasRows}
 use Rattle.sweep.specs.Sweeping.{IsSwept}
 use Rattle.sweep.proofs.running.sweep_run.Given as goal
 
--- the run continues
+-- the run continues, and each row so far is one of it
 abbrev pub invariant-loop-done : goal.invariant-loop-done
 invariant-loop-done g l =
-    IsSwept g.M.Computer.kind l.plan l.initial.nvm.device l.progress l.nvm.device l.done (sinks (g.T.Sink.stream l.terminal) (g.R.Sink.stream l.report)) l.room
+    let before = sinks (g.T.Sink.stream l.fn.terminal) (g.R.Sink.stream l.fn.report) in
+    let now = sinks (g.T.Sink.stream l.terminal) (g.R.Sink.stream l.report) in
+    record {
+      swept : IsSwept g.M.Computer.kind l.plan l.initial.nvm.device l.progress l.nvm.device l.done before now l.room;
+      rows : HasRows g.M.Computer.kind l.plan l.initial.nvm.device l.asked l.watch.account;
+    }

@@ -1,9 +1,13 @@
-use Rattle.std.proofs.Common.{◌≡◌, ◌+◌, ◌-◌, length, replicate, sym, ◌∙◌, ap, arith, length-append}
+use Rattle.std.proofs.Common.{◌≡◌, ◌+◌, ◌-◌, length, replicate, refl, sym, ◌∙◌, ap, subst, inl, inr, arith, length-append}
 use Rattle.std.proofs.lemmas.List.{length-replicate}
 use Rattle.thy_block.specs.declared.nvm.Shape.{Shape}
-use Rattle.thy_block.specs.Device.{Device, zero_block}
+use Rattle.thy_block.specs.Device.{Device, fitted, zero_block}
 use Rattle.thy_answer.proofs.LawLemmas.{some_blocks}
 use Rattle.thy_execute.proofs.PlanLemmas.{fitted_for_plan}
+use Rattle.thy_answer.specs.Answering.{Outside, outside}
+use Rattle.thy_answer.specs.Kept.{named}
+use Rattle.thy_execute.specs.Planning.{shape_of}
+use Rattle.sweep.specs.Swept.{SweepsOver}
 use Rattle.sweep.proofs.top.sweep_plan.Goals as goal
 
 pub fit-requires-clause-blocks : goal.fit-requires-clause-blocks
@@ -45,3 +49,26 @@ sweep_fitted-requires-clause-blocks g c =
 
 pub sweep_fitted-requires-clause-queue : goal.sweep_fitted-requires-clause-queue
 sweep_fitted-requires-clause-queue g c = sym (ap (λ (n : Device). n.queue_room) c.in-Ok.ensures.ok)
+
+pub returns-in-Ok : goal.returns-in-Ok
+returns-in-Ok g c =
+    let K = g.M.Computer.kind in
+    let plan = c.args.plan.now in
+    let blocks = c.args.blocks.items in
+    let x = c.sweep_fitted.new in
+    let after : Outside = outside (g.H.Shelf.stock x.shelf) x.nvm.device (g.T.Sink.stream x.terminal) (g.R.Sink.stream x.report) in
+    let fit : c.fit.new.self.device ≡ fitted (shape_of K plan) blocks c.args.nvm.now.device =
+    c.in-Ok.ensures.ok ∙ ap (λ (s : Shape). fitted s blocks c.args.nvm.now.device) c.shape_of-shape.ensures.shape in
+    inr (subst (λ (n : Device). SweepsOver K c.args.out.now c.args.asked.now (named c.args.source) plan (outside (g.H.Shelf.stock c.args.shelf.now) n (g.T.Sink.stream c.args.terminal.now) (g.R.Sink.stream c.args.report.now)) after c.sweep_fitted.result)
+    fit c.sweep_fitted.ensures)
+
+pub returns-in-Err : goal.returns-in-Err
+returns-in-Err g c =
+    inl (
+      c.in-Err.error,
+      record {
+        failed = c.in-Err.ensures.err;
+        shelf = refl;
+        unrun = record { is_status = c.refuse.ensures.status; held = refl; terminal = refl; closes = c.refuse.ensures.closes };
+      },
+    )

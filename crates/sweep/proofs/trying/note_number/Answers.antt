@@ -1,14 +1,22 @@
+use Rattle.std.proofs.Common.{[], ◌∷◌, refl}
 use Rattle.thy_block.specs.Device.{Device}
 use Rattle.thy_sweep.specs.Choices.{chosen, places_of}
 use Rattle.thy_trial.specs.declared.room.Found.{Found}
-use Rattle.sweep.proofs.RowLemmas.{HasTried-one}
 use Rattle.sweep.proofs.trying.note_number.Goals as goal
 
 pub returns-in-Ok-clause-tried : goal.returns-in-Ok-clause-tried
 returns-in-Ok-clause-tried g c =
     let n : Device = c.args.nvm.now.device in
     let f : Found = c.in_ok-trial.trial.found in
-    HasTried-one g.M.Computer.kind c.args.plan.now n c.args.mix.now c.args.row.now c.note.new.row
-    (record { pick = 0; image = chosen (places_of n) c.args.number n.image; booted = f.booted; state = f.state })
-    (λ w at few. c.in_ok-trial.ensures.tried w at few)
-    c.in-Ok.ensures.leads c.note.ensures.queued c.note.ensures.images
+    record {
+      one = record { pick = 0; image = chosen (places_of n) c.args.number n.image; booted = f.booted; state = f.state };
+      has = record {
+        each = (λ w at few. c.in_ok-trial.ensures.tried w at few, tt);
+        leads = c.in-Ok.ensures.leads;
+        tried = c.note.ensures.tried;
+        first = c.note.ensures.first;
+        queued = c.note.ensures.queued;
+        images = c.note.ensures.images;
+      };
+      is = refl;
+    }

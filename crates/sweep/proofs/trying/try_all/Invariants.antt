@@ -1,10 +1,12 @@
+use Rattle.std.proofs.Common.{take}
+use Rattle.thy_sweep.specs.Images.{crash_images}
 use Rattle.thy_trial.specs.Rooms.{HasRoomFor}
-use Rattle.sweep.specs.Rows.{HasTried}
+use Rattle.sweep.specs.Rows.{TriesImages}
 use Rattle.sweep.proofs.trying.try_all.Given as goal
 
 -- there is room for the next image, and those so far were tried
 abbrev pub invariant-loop-number : goal.invariant-loop-number
 invariant-loop-number g l = record {
   room : HasRoomFor l.plan l.nvm.device l.room;
-  tried : HasTried g.M.Computer.kind l.plan l.nvm.device l.mix l.initial.row l.row;
+  tried : TriesImages g.M.Computer.kind l.plan l.nvm.device l.mix (take l.number (crash_images l.nvm.device)) l.initial.row l.row;
 }

@@ -6,7 +6,7 @@ use Rattle.thy_run.specs.World.{line}
 use Rattle.thy_trial.specs.Trials.{copied_to}
 use Rattle.thy_trial.proofs.BootLemmas.{IsFramed-same, IsFramed-then}
 use Rattle.thy_trial.proofs.CopyLemmas.{goes_on_over_copy}
-use Rattle.thy_trial.proofs.TriedLemmas.{leaves_at}
+use Rattle.thy_trial.proofs.TriedLemmas.{leaves_at, no_fault}
 use Rattle.thy_view.specs.declared.error.CoreError.{CoreError}
 use Rattle.thy_view.specs.Kind.{HasFailedToRead}
 use Rattle.thy_trial.proofs.trial.try_copy.Goals as goal
@@ -98,3 +98,15 @@ returns-clause-dram g c =
     let there = leaves_at K o c.args.pick h.0 copy copied next new c.args.most c.in-Ok.booted
     (c.in-Ok.ensures.boots h.0 copy c.args.pick copied (record { machine = refl; device = refl; mix = h.2 }) h.3) in
     c.cut-dram.ensures.sized (line o there.last) there.last.cycles new there.at_moment
+
+-- memory ran out before the boot, or where the state was read: neither has a fault
+pub returns-in_default-clause-memory : goal.returns-in_default-clause-memory
+returns-in_default-clause-memory g c = λ other. absurd (other refl)
+
+pub returns-in_err-state-clause-memory : goal.returns-in_err-state-clause-memory
+returns-in_err-state-clause-memory g c =
+    let mid = g.N.Nvm.device c.boot.new.nvm in
+    let new = g.N.Nvm.device c.restored.new.nvm in
+    let p = err_from_is_err_and c.from_residual-in_err-state.result c.from_residual-in_err-state.ensures.1 in
+    rw p.1
+    (λ other. no_fault p.0 mid new (subst (λ (e : CoreError). HasFailedToRead e mid new) (sym p.2) c.in_err-state.ensures.err) other ∙ c.in-Ok.ensures.cause)

@@ -1,0 +1,41 @@
+use Rattle.std.proofs.Common.{◌≡◌, sym, ◌∙◌, ap, inl, inr}
+use Rattle.std.proofs.lemmas.Result.{on_ok_weaker}
+use Rattle.thy_block.specs.Device.{Device}
+use Rattle.thy_sweep.specs.declared.sums.Sums.{Sums}
+use Rattle.sweep.specs.declared.account.Account.{Account}
+use Rattle.sweep.specs.Kept.{OpensRow, closed_into, extended}
+use Rattle.std.specs.Prelude.{Option, option_map}
+use Rattle.sweep.specs.declared.row.Row.{Row}
+use Rattle.sweep.proofs.running.look.Goals as goal
+
+pub returns-then-not-has-clause-looks : goal.returns-then-not-has-clause-looks
+returns-then-not-has-clause-looks g c = inl (c.pass.ensures.sums, inl c.pass.ensures.current)
+
+pub returns-then-more-clause-looks : goal.returns-then-more-clause-looks
+returns-then-more-clause-looks g c =
+    let count = c.pass.new.self.count in
+    inl (
+      c.repeats-more.ensures.sums ∙ c.pass.ensures.sums,
+      inr (
+        count,
+        c.repeats-more.ensures.more c.if-more.true ∙ ap (option_map (extended c.args.cycle count)) c.pass.ensures.current,
+      ),
+    )
+
+pub returns-clause-looks : goal.returns-clause-looks
+returns-clause-looks g c =
+    let n : Device = c.args.nvm.now.device in
+    let old : Account = c.args.watch.now.account in
+    let mid : Account = c.repeats-more.new.self in
+    let current : mid.current ≡ old.current = c.repeats-more.ensures.other c.if-more.false ∙ c.pass.ensures.current in
+    let sums : mid.sums ≡ old.sums = c.repeats-more.ensures.sums ∙ c.pass.ensures.sums in
+    on_ok_weaker c.try_row.result
+    (λ (h : OpensRow g.M.Computer.kind c.args.plan.now n c.args.progress.now.mix c.args.asked.now c.args.cycle mid c.try_row.new.watch.account).
+    inr (record {
+      row = h.row;
+      opened = h.opened;
+      sums = h.sums ∙ ap (λ (o : Option Row). closed_into o mid.sums) current ∙ ap (closed_into old.current) sums;
+      first = h.first;
+      says = h.says;
+    }))
+    c.try_row.ensures.opens

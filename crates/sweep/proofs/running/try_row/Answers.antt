@@ -1,0 +1,27 @@
+use Rattle.std.proofs.Common.{◌≡◌, sym, ◌∙◌, ap, subst}
+use Rattle.thy_block.specs.Device.{Device}
+use Rattle.sweep.specs.declared.row.Row.{Row}
+use Rattle.sweep.proofs.RowLemmas.{tried-of}
+use Rattle.sweep.proofs.running.try_row.Goals as goal
+
+pub returns-in-Ok-clause-opens : goal.returns-in-Ok-clause-opens
+returns-in-Ok-clause-opens g c =
+    let n : Device = c.args.nvm.now.device in
+    let a = c.args.asked.now in
+    let new : Row = c.try_cycle.new.row in
+    let before : Row = record c.new-row.result { images = new.images } in
+    let has = (tried-of g.M.Computer.kind c.args.plan.now n c.args.progress.now.mix a before new c.in_ok-room.ensures.tried).1 in
+    record {
+      row = new;
+      opened = c.in-Ok.ensures.current;
+      sums = c.in-Ok.ensures.sums;
+      first = has.first ∙ c.new-row.ensures.first;
+      says = record {
+        queued = has.queued ∙ c.new-row.ensures.queued ∙ c.waits.ensures;
+        images = c.in_ok-room.ensures.images;
+        before = before;
+        empty = c.new-row.ensures.empty;
+        untried = c.new-row.ensures.untried;
+        tried = c.in_ok-room.ensures.tried;
+      };
+    }
