@@ -141,6 +141,20 @@ class OnTerminal(ScriptTest):
         self.assertEqual(DRAWN.sub("", shown), report_of(SLOW).replace("epoch 4", "from the program\nepoch 4"))
         self.assertRegex(shown, r"exit 0 at 7000\n$")
 
+    def test_a_bar(self):
+        """Of an observed and of a swept run: 512 blocks are loaded, and two cycles are counted for each instruction."""
+        for words, bar in (
+            (["observe", "out", "--pcs", "run", "file", "--pages", "8", "--limit", "20000"], r"\[#{12,14} {6,8}\] at least 1[24]512 of 20000"),
+            (["sweep", "out", "--to", "50000", "--torn", "run", "file", "--pages", "8"], r"\[#{5} {15}\] at least 1[24]512 of 50000"),
+        ):
+            self.install(SLOW, words[0])
+            status, shown = Terminal(self, *words).end()
+            lines = [line for line in DRAWN.findall(shown) if line]
+            self.assertEqual((status, DRAWN.sub("", shown).count("epoch")), (0, 7))
+            self.assertRegex(lines[-1], rf"^thynvm: {bar} cycles, epoch [67] ended, \d s$")
+            done = subprocess.run(self.command(*words), env=self.variables(), capture_output=True, text=True)
+            self.assertEqual((done.stdout, done.stderr), ("from the program\n", report_of(SLOW)))
+
     def test_quiet_progress(self):
         self.install(SLOW)
         status, shown = Terminal(self, "--quiet", "run", "file").end()

@@ -118,6 +118,33 @@ class Observed(unittest.TestCase):
         ):
             self.refuses(said, lines(text, (old, new)))
 
+    def test_a_trace(self):
+        self.assertIsNone(read(lines(written.CUTS)).trace)
+        text = f"{written.CUTS}pcs\n10000 230\nstate-at 999\nnone\n{written.TRACE}"
+        seen = read(lines(text))
+        first, second, third, last = seen.trace
+        self.assertEqual((first.cycle, first.hart, first.pc, first.word, first.access), (703, 0, 0x10000, 0x1297, None))
+        self.assertEqual((second.access.at, second.access.width, second.access.value), (0x11004, 4, 0x11000))
+        self.assertEqual((third.access.at, third.access.width, third.access.value), (0x11005, 1, 0x10))
+        self.assertEqual((last.hart, last.pc, last.word, last.access), (1, 0x10012, None, None))
+        self.assertEqual(read([*lines(written.CUTS), "trace", "none"]).trace, [])
+
+    def test_refusals_of_a_trace(self):
+        text = f"{written.CUTS}{written.TRACE}"
+        for old, new, said in (
+            (written.TRACE, "trace\n", "behind its line 'trace': it has no line"),
+            ("703 0 10000", "703 2 10000", "this is not a line of an instruction: 703 2 10000 1297"),
+            ("703 0 10000", "703 0 010000", "this is not a line of an instruction: 703 0 010000 1297"),
+            ("11004 4 11000", "11004 3 11000", "this is not a line of an instruction: 708 0 10004 52a223 11004 3 11000"),
+            (" 11005 1 10", " 11005 1", "this is not a line of an instruction: 711 0 10008 52c303 11005 1"),
+            ("711 0", "708 0", "its cycles do not rise at 708"),
+            ("1850 1 10012", "1851 1 10012", "it has cycle 1851, and the run 1850 cycles"),
+            ("703 0 10000 1297\n", "none\n", "this is not a line of an instruction: none"),
+        ):
+            self.refuses(said, lines(text, (old, new)))
+        few = lines(text, ("hart moved 460 retired 230", "hart moved 687 retired 3"))
+        self.refuses("it has 4 instructions, and 3 retired", few)
+
     def test_what_is_no_event_of_a_report(self):
         for line in ("limit 5", "epochs 5", "memory"):
             self.assertIsNone(observed.Event(1, 1, line).told)

@@ -8,6 +8,17 @@ from tests.support import CopyTest
 # What `observe` writes of a run that retired 230 instructions, and how often each program counter did.
 COUNTED = f"{written.CUTS}pcs\n10000 30\n10004 100\n10010 60\n10014 20\n10020 15\n2000c 5\n"
 
+# The last seven instructions of such a run, as a trace has them: those of sum_of load and store.
+TRACED = f"""{written.CUTS}trace
+1500 0 10004 fff30313
+1502 0 10000 5d00893
+1505 0 10010 52a223 11004 4 11000
+1508 0 10014 52c303 11005 1 10
+1511 0 10010 52a223 11004 4 11001
+1513 0 10020 73
+1515 0 2000c -
+"""
+
 # The kinds of a symbol: a label and a function, a global one as that has 16 more.
 LABEL, OBJECT, FUNCTION, GLOBAL = 0, 1, 2, 16
 
@@ -63,6 +74,15 @@ class Profile(CopyTest):
 
     def test_folded(self):
         self.prints("main 130\nsum_of 80\n_start 20\n", "--folded", self.elf, self.out)
+
+    def test_of_a_trace(self):
+        out = self.file("b.out", TRACED)
+        self.prints("sum_of 3\n_start 2\nmain 2\n", "--folded", self.elf, out)
+        # With both sections, what was counted of the whole run stands.
+        both = self.file("c.out", COUNTED + TRACED.removeprefix(written.CUTS))
+        self.prints("main 130\nsum_of 80\n_start 20\n", "--folded", self.elf, both)
+        none = self.file("d.out", f"{written.CUTS}trace\nnone\n")
+        self.prints(f"{HEADINGS}           0    0.0%  in all\n", self.elf, none)
 
     def test_past_a_function(self):
         elf = self.file("b.elf", program(SYMBOLS[:3]))

@@ -1,8 +1,45 @@
 -- The options that are taken, one after the other.
-use Rattle.std.proofs.Common.{◌≡◌, ℕ, suc, ◌+◌, ◌-◌, ◌<◌, ◌≤◌, List, Result, Ok, Err, IsErrAnd, sym, ◌∙◌, ap, arith}
+use Rattle.std.proofs.Common.{◌≡◌, ℕ, suc, ◌+◌, ◌-◌, ◌<◌, ◌≤◌, Bool, true, false, if◌then◌else◌, List, [], ◌∷◌, map, length, get_or, Option, Some, Result, Ok, Err, IsErrAnd, sym, ◌∙◌, ap, ap₂, arith}
+use Rattle.std.specs.List.{remove}
+use Rattle.thy_arguments.specs.Numbers.{number_in}
 use Rattle.observe.specs.declared.options.Options.{Options}
 use Rattle.observe.specs.declared.options.Wish.{Wish}
-use Rattle.observe.specs.Wanting.{IsReading, Reading, take_many, take_one, then_more}
+use Rattle.observe.specs.Wanting.{IsReading, Reading, has, numbered, take_many, take_one, taken, taken_if, takes_number, then_more, wish_of, with_wish}
+
+-- ---- one option, of items that have words
+
+abbrev left_with : Options → List (List ℕ) → Reading
+left_with o words = Ok (o, words)
+
+abbrev by_test : Bool → Reading → Reading → Reading
+by_test b some other = if b then some else other
+
+-- one that is given again is left
+pub take-again : {S : Type 0} (f : S → List ℕ) (o : Options) (items : List S) (word : S) (wish : Wish) → 2 ≤ length items
+    → word ≡ get_or items 1 word → wish_of (f word) ≡ Some wish → has o wish ≡ true → take_one o (map f items) ≡ Ok (o, map f items)
+take-again f o [] word wish many is found given = absurd (omega (arith, many))
+take-again f o (name ∷ []) word wish many is found given = absurd (omega (arith, many))
+take-again {S = S} f o (name ∷ second ∷ rest) word wish many is found given =
+    ap (λ (q : Option Wish). taken_if o q (f name) (f second) (map f rest)) (ap (λ (x : S). wish_of (f x)) (sym is) ∙ found)
+    ∙ ap (λ (b : Bool). by_test b (left_with o (f name ∷ f second ∷ map f rest)) (taken o wish (f name) (f second) (map f rest))) given
+
+-- one with a number is taken with it
+pub take-numbered : {S : Type 0} (f : S → List ℕ) (o next : Options) (items fewer left : List S) (word number : S) (wish : Wish) (n : ℕ)
+    → 3 ≤ length items → word ≡ get_or items 1 word → wish_of (f word) ≡ Some wish → has o wish ≡ false → takes_number wish ≡ true
+    → number ≡ get_or items 2 number → number_in (f number) ≡ Some n → next ≡ with_wish o wish n → fewer ≡ remove items 2 → left ≡ remove fewer 1
+    → take_one o (map f items) ≡ Ok (next, map f left)
+take-numbered f o next [] fewer left word number wish n many is found fresh takes place read made first gone = absurd (omega (arith, many))
+take-numbered f o next (name ∷ []) fewer left word number wish n many is found fresh takes place read made first gone = absurd (omega (arith, many))
+take-numbered f o next (name ∷ second ∷ []) fewer left word number wish n many is found fresh takes place read made first gone =
+    absurd (omega (arith, many))
+take-numbered {S = S} f o next (name ∷ second ∷ third ∷ rest) fewer left word number wish n many is found fresh takes place read made first gone =
+    ap (λ (q : Option Wish). taken_if o q (f name) (f second) (f third ∷ map f rest)) (ap (λ (x : S). wish_of (f x)) (sym is) ∙ found)
+    ∙ ap (λ (b : Bool). by_test b (left_with o (f name ∷ f second ∷ f third ∷ map f rest)) (taken o wish (f name) (f second) (f third ∷ map f rest))) fresh
+    ∙ ap (λ (b : Bool). by_test b (numbered o wish (number_in (f third)) (f name ∷ map f rest)) (left_with (with_wish o wish 0) (f name ∷ f third ∷ map f rest))) takes
+    ∙ ap (λ (q : Option ℕ). numbered o wish q (f name ∷ map f rest)) (ap (λ (x : S). number_in (f x)) (sym place) ∙ read)
+    ∙ ap₂ (λ (x : Options) (l : List S). left_with x (map f l)) (sym made) (sym (gone ∙ ap (λ (l : List S). remove l 1) first))
+
+-- ---- all of them
 
 more-left : (i n : ℕ) → i < n → n - i ≡ suc (n - (i + 1))
 more-left i n less = omega (arith, less)

@@ -11,12 +11,17 @@ use Rattle.thy_observe.specs.declared.changes.Changes.{Changes}
 use Rattle.thy_observe.specs.declared.changes.Dated.{Dated}
 use Rattle.thy_observe.specs.Changes.{AreChanges, changes_of, dated_of}
 use Rattle.thy_observe.specs.Replaying.{AreCounts, executed}
+use Rattle.thy_observe.specs.declared.tracing.Traced.{Traced}
+use Rattle.thy_observe.specs.declared.tracing.Window.{Window}
 use Rattle.thy_observe.specs.States.{state_at, state_by}
+use Rattle.thy_observe.specs.Tracing.{trace_of}
 use Rattle.observe.specs.declared.beginning.Begun.{Begun}
 use Rattle.observe.specs.declared.options.Options.{Options}
-use Rattle.observe.specs.Sections.{GoesOn, HasSections, HasText, IsPcsPart, IsStateAtPart, IsStatePart, IsTextOf, pcs_row, pcs_text, setting_by, start_by}
+use Rattle.observe.specs.Sections.{GoesOn, HasSections, HasText, IsPcsPart, IsStateAtPart, IsStatePart, IsTextOf, IsTracePart, pcs_row, pcs_text, setting_by, start_by}
 use Rattle.observe.specs.StateText.{state_section}
-use Rattle.observe.specs.Wanting.{asks}
+use Rattle.observe.specs.TraceText.{trace_text}
+use Rattle.observe.specs.Wanting.{asks, window_of}
+use Rattle.observe.proofs.TextLemmas.{three-parts, two-parts}
 
 -- a table that is empty has the line for none
 pub text-none : (old head new : List ℕ) (table : List (ℕ × ℕ)) → length table ≡ 0 → head ≡ old ++ codes "pcs\n" → new ≡ head ++ codes "none\n"
@@ -82,20 +87,35 @@ state_at-listed b changes listed count base found head whole exact is same text 
       ap₂ (state_section (codes "state-at") count) same (is seen (exact seen h)),
 )
 
--- one part after the other is all that is asked for
-pub all-parts : (options : Options) (b : Begun) (changes : Changes) (head first second whole : List ℕ)
-    → GoesOn (IsPcsPart options.pcs b changes) head first → GoesOn (IsStatePart options.state b changes) first second
-    → GoesOn (IsStateAtPart options.state_at b changes) second whole → GoesOn (IsTextOf options b changes) head whole
-all-parts options b changes head first second whole p s a = (
-  p.0 ++ (s.0 ++ a.0),
-  a.1 ∙ ap (λ (t : List ℕ). t ++ a.0) (s.1 ∙ ap (λ (t : List ℕ). t ++ s.0) p.1)
-      ∙ append_assoc (head ++ p.0) s.0 a.0 ∙ append_assoc head p.0 (s.0 ++ a.0),
-  λ seen h. record {
-    pcs = p.0;
-    splits = ap₂ (λ (x y : List ℕ). p.0 ++ (x ++ y)) (s.2 seen h) (a.2 seen h);
-    has_pcs = p.2 seen h;
-  },
+-- the instructions too
+pub trace-listed : (w : Window) (b : Begun) (changes : Changes) (listed : List Dated) (rows : List Traced) (head whole : List ℕ)
+    → ((seen : List Taken) → AreChanges changes seen → listed ≡ dated_of seen)
+    → ((seen : List Taken) → listed ≡ dated_of seen → rows ≡ trace_of (setting_by b) (start_by b) w seen)
+    → whole ≡ head ++ trace_text rows → GoesOn (IsTracePart true w b changes) head whole
+trace-listed w b changes listed rows head whole exact is text = (
+  trace_text rows,
+  text,
+  λ seen h.
+      ap trace_text (is seen (exact seen h)),
 )
+
+-- one part after the other is all that is asked for
+pub all-parts : (options : Options) (w : Window) (b : Begun) (changes : Changes) (head first second third whole : List ℕ) → w ≡ window_of options
+    → GoesOn (IsPcsPart options.pcs b changes) head first → GoesOn (IsStatePart options.state b changes) first second
+    → GoesOn (IsStateAtPart options.state_at b changes) second third → GoesOn (IsTracePart options.trace w b changes) third whole
+    → GoesOn (IsTextOf options b changes) head whole
+all-parts options w b changes head first second third whole same p s a t =
+    let by_window = subst (λ (x : Window). GoesOn (IsTracePart options.trace x b changes) third whole) same t in (
+      p.0 ++ (s.0 ++ (a.0 ++ by_window.0)),
+      two-parts head first whole p.0 (s.0 ++ (a.0 ++ by_window.0)) p.1
+          (three-parts first second third whole s.0 a.0 by_window.0 s.1 a.1 by_window.1),
+      λ seen h. record {
+        pcs = p.0;
+        splits = ap₂ (λ (x y : List ℕ). p.0 ++ (x ++ y)) (s.2 seen h)
+            (ap₂ (λ (x y : List ℕ). x ++ y) (a.2 seen h) (by_window.2 seen h));
+        has_pcs = p.2 seen h;
+      },
+    )
 
 -- what is asked for is there after the head
 pub sections-asked : {A : Type 0} (f : A → List ℕ) (options : Options) (begun : Option Begun) (b : Begun) (changes : Changes) (head : List ℕ) (r : Option A)

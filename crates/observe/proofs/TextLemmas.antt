@@ -11,6 +11,12 @@ pub three-parts : (text first second third a b c : List ℕ) → first ≡ text 
     → third ≡ text ++ (a ++ (b ++ c))
 three-parts text first second third a b c one two more = two-parts text first third a (b ++ c) one (two-parts first second third b c two more)
 
+-- four
+pub four-parts : (text first second third fourth a b c d : List ℕ) → first ≡ text ++ a → second ≡ first ++ b → third ≡ second ++ c
+    → fourth ≡ third ++ d → fourth ≡ text ++ (a ++ (b ++ (c ++ d)))
+four-parts text first second third fourth a b c d one two three more =
+    two-parts text first fourth a (b ++ (c ++ d)) one (three-parts first second third fourth b c d two three more)
+
 -- five
 pub five-parts : (text first second third fourth fifth a b c d e : List ℕ) → first ≡ text ++ a → second ≡ first ++ b → third ≡ second ++ c
     → fourth ≡ third ++ d → fifth ≡ fourth ++ e → fifth ≡ text ++ (a ++ (b ++ (c ++ (d ++ e))))
@@ -33,6 +39,12 @@ pub three-parts-if : {T E : Type 0} (r : Result T E) (text first second third a 
     → OnOk r (third ≡ second ++ c) → OnOk r (third ≡ text ++ (a ++ (b ++ c)))
 three-parts-if (Ok x) text first second third a b c one two more = three-parts text first second third a b c one two more
 three-parts-if (Err e) text first second third a b c one two more = tt
+
+-- the last of four
+pub four-parts-if : {T E : Type 0} (r : Result T E) (text first second third fourth a b c d : List ℕ) → first ≡ text ++ a
+    → second ≡ first ++ b → third ≡ second ++ c → OnOk r (fourth ≡ third ++ d) → OnOk r (fourth ≡ text ++ (a ++ (b ++ (c ++ d))))
+four-parts-if (Ok x) text first second third fourth a b c d one two three more = four-parts text first second third fourth a b c d one two three more
+four-parts-if (Err e) text first second third fourth a b c d one two three more = tt
 
 -- the last of five
 pub five-parts-if : {T E : Type 0} (r : Result T E) (text first second third fourth fifth a b c d e : List ℕ) → first ≡ text ++ a

@@ -1,5 +1,5 @@
 -- What the observed run begins with.
-use Rattle.std.specs.Prelude.{◌≡◌, ℕ, List, Option, Some, None}
+use Rattle.std.specs.Prelude.{◌≡◌, ℕ, Bool, false, is_some, List, Option, Some, None}
 use Rattle.std.specs.Borrow.{Bor}
 use Rattle.thy_block.specs.Bytes.{bytes_of}
 use Rattle.thy_base.specs.Config.{parameters_of}
@@ -20,6 +20,11 @@ run_in (run name job) = Some (file name, job)
 run_in (resume name job) = Some (image name, job)
 run_in (bench n job) = Some (made n, job)
 run_in order = None
+
+-- an order runs the machine once, if there is an order
+abbrev pub has_run : Option Order → Bool
+has_run None = false
+has_run (Some order) = is_some (run_in order)
 
 -- a source and a job, as the program has them
 abbrev pub run_of : SourceValue × Bor JobStruct → ProgramSource × Job

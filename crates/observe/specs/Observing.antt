@@ -24,7 +24,7 @@ use Rattle.thy_cli.specs.Watching.{ClaimSeen}
 use Rattle.observe.specs.declared.options.Options.{Options}
 use Rattle.observe.specs.Beginning.{IsProgramOf, IsUnreadBy, origin_of, run_in}
 use Rattle.observe.specs.Sections.{IsText}
-use Rattle.observe.specs.Wanting.{asks, counts, needs_run}
+use Rattle.observe.specs.Wanting.{asks, counts, lacks_trace, needs_run}
 use Rattle.observe.specs.CountText.{AreCountsOf, wear_part}
 
 -- OUT is this name
@@ -55,11 +55,12 @@ is_untearable (plain file job) = true
 is_untearable (compare file job) = true
 is_untearable (make n name) = true
 
--- an order is refused because of OUT, because it runs no machine on which an option could see something, or because of torn
--- blocks
+-- an order is refused because of OUT, because of a bound of a trace that is not asked for, because it runs no machine on which
+-- an option could see something, or because of torn blocks
 abbrev pub is_refused : Options → List ℕ → Order → Bool
 is_refused options out order =
-    (is_taken out order || (needs_run options && is_none (run_in order))) || (options.torn && is_untearable order)
+    ((is_taken out order || lacks_trace options) || (needs_run options && is_none (run_in order)))
+    || (options.torn && is_untearable order)
 
 abbrev pub is_refused_by : Options → List ℕ → Result Order WordsError → Bool
 is_refused_by options out (Ok order) = is_refused options out order

@@ -1,5 +1,5 @@
 -- What is added to the text that is put under OUT, if it is asked for.
-use Rattle.std.specs.Prelude.{◌≡◌, ℕ, Bool, List, [], ◌∷◌, ◌++◌, codes, false, Option, Some, None, MatchBool}
+use Rattle.std.specs.Prelude.{◌≡◌, ℕ, Bool, List, [], ◌∷◌, ◌++◌, codes, false, if◌then◌else◌, Option, Some, None, MatchBool}
 use Rattle.std.specs.Fmt.{decimal, digits}
 use Rattle.std.specs.List.{flat_map}
 use Rattle.std.specs.List.Sorted.{IsStrictlySortedBy}
@@ -13,10 +13,13 @@ use Rattle.thy_observe.specs.declared.changes.Changes.{Changes}
 use Rattle.thy_observe.specs.Changes.{AreChanges, changes_of}
 use Rattle.thy_observe.specs.Replaying.{AreCounts, executed}
 use Rattle.thy_observe.specs.States.{state_at, state_by}
+use Rattle.thy_observe.specs.Tracing.{trace_of}
+use Rattle.thy_observe.specs.declared.tracing.Window.{Window}
 use Rattle.observe.specs.declared.beginning.Begun.{Begun}
 use Rattle.observe.specs.declared.options.Options.{Options}
 use Rattle.observe.specs.StateText.{state_section}
-use Rattle.observe.specs.Wanting.{asks}
+use Rattle.observe.specs.TraceText.{trace_text}
+use Rattle.observe.specs.Wanting.{asks, window_of}
 
 -- ---- how often each program counter retired
 
@@ -53,12 +56,20 @@ abbrev pub state_at_part : Option ℕ → Setting → State → List Taken → L
 state_at_part None g start seen = []
 state_at_part (Some count) g start seen = state_section (codes "state-at") count g.base (state_at g start count seen)
 
+-- ---- the instructions
+
+-- those in a window, if they are asked for
+abbrev pub trace_part : Bool → Window → Setting → State → List Taken → List ℕ
+trace_part asked w g start seen = if asked then trace_text (trace_of g start w seen) else []
+
 -- ---- all that is asked for
 
 -- The text has what is asked for of the cycles of a run from this start, each after the other.
 pub record IsText (options : Options) (g : Setting) (start : State) (seen : List Taken) (text : List ℕ) : Type 0 where
   pub pcs : List ℕ
-  pub splits : text ≡ pcs ++ (state_part options.state g start seen ++ state_at_part options.state_at g start seen)
+  pub splits : text
+      ≡ pcs ++ (state_part options.state g start seen
+      ++ (state_at_part options.state_at g start seen ++ trace_part options.trace (window_of options) g start seen))
   pub has_pcs : MatchBool options.pcs (IsPcsText g start seen pcs) (pcs ≡ [])
 
 -- with the numbers and the start as the program has them
@@ -84,6 +95,10 @@ IsStatePart asked b changes part =
 abbrev pub IsStateAtPart : Option ℕ → Begun → Changes → List ℕ → Type 0
 IsStateAtPart asked b changes part =
     (seen : List Taken) → AreChanges changes seen → part ≡ state_at_part asked (setting_by b) (start_by b) seen
+
+abbrev pub IsTracePart : Bool → Window → Begun → Changes → List ℕ → Type 0
+IsTracePart asked w b changes part =
+    (seen : List Taken) → AreChanges changes seen → part ≡ trace_part asked w (setting_by b) (start_by b) seen
 
 -- all parts together
 abbrev pub IsTextOf : Options → Begun → Changes → List ℕ → Type 0

@@ -1,5 +1,5 @@
 //! What the observed run begins with.
-ghost use Rattle.std.specs.Prelude.{◌≡◌, None, IfErr, IfOk, IfSome, OnOk, option_map};
+ghost use Rattle.std.specs.Prelude.{◌≡◌, None, IfErr, IfOk, IfSome, OnOk, is_some, option_map};
 ghost use Rattle.thy_base.specs.Config.{fault_of as range_fault};
 ghost use Rattle.thy_block.specs.Outside.{HasNotFailed};
 ghost use Rattle.thy_arguments.specs.Settings.{IsInRange, job_of, order_of};
@@ -68,6 +68,7 @@ pub fn begin<'a, H: Shelf>(
     ensures calm { OnOk result (HasNotFailed (H.stock shelf.old) (H.stock shelf.new)) }
     ensures begins { let order = order_of command.now in
         IfOk result (λ o. IfSome o (IsBegunBy order (H.stock shelf.old))) }
+    ensures wanted { IfOk result (λ o. is_some o ≡ is_some (run_in (order_of command.now))) }
 {
     let Some((source, job)) = run_of(command) else {
         return Ok(None);

@@ -1,7 +1,8 @@
 //! The program `observe`: does what thynvm does for `run`, `resume`, `bench` and `plain`, and puts text under a name that
 //! says what a run came to: its events with their cycles, the trap, and the totals of the tally; and if it is asked for, how
-//! often each program counter retired, the machine's state in a cycle or at a count, how many cycles there were of each cause, in
-//! all and each time that an epoch was executed, and how many writes each place of the NVM has taken. With `--torn` before the
+//! often each program counter retired, the machine's state in a cycle or at a count, the instructions that retired, how many
+//! cycles there were of each cause, in all and each time that an epoch was executed, and how many writes each place of the NVM
+//! has taken. With `--torn` before the
 //! command the run goes over an NVM whose blocks may be torn.
 //!
 //! Open specs/Observing.antt first, and src/top.rt; src/out.rt and what it uses make the text, without contracts, and
@@ -21,11 +22,12 @@ mod states;
 mod tests;
 mod top;
 mod totals;
+mod traces;
 mod trap;
 mod wear;
 mod whole;
 
-use crate::options::{refuse_word, take_options};
+use crate::options::{refuse_window, refuse_word, take_options};
 use crate::top::observe;
 use std::alloc::{AllocError, Global};
 use std::io::ErrorKind;
@@ -69,6 +71,9 @@ fn main(rt: HostRuntime) -> ExitCode {
         Ok(options) => options,
         Err(wish) => return ExitCode::from(refuse_word(wish, &mut report)),
     };
+    if let Some(fault) = options.window_fault() {
+        return ExitCode::from(refuse_window(alloc, fault, &mut report));
+    }
     let device = if options.torn {
         MemNvm::tearing(alloc)
     } else {

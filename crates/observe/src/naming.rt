@@ -51,12 +51,13 @@ fn is_untearable(command: &Command) -> bool
     }
 }
 
-/// Whether a call is refused: because of OUT, because the command runs no machine on which an option could see something, or
-/// because it does not go over an NVM whose blocks may be torn, if that is asked for.
+/// Whether a call is refused, because of OUT or of an option. That may bound a trace that is not asked for, or want what the
+/// command does not have: a machine on which it could see something, or an NVM whose blocks may be torn.
 pub fn is_refused(options: Options, out: &str, command: &Command) -> bool
     ensures { result ≡ is_refused options out.now (order_of command.now) }
 {
     is_taken(out, command)
+        || options.lacks_trace()
         || (options.needs_run() && run_of(command).is_none())
         || (options.torn && is_untearable(command))
 }

@@ -1,14 +1,17 @@
 //! What is asked for by the words between OUT and the command.
-ghost use Rattle.std.specs.Prelude.{◌≡◌, ◌<◌, ◌≤◌, map};
+ghost use Rattle.std.specs.Prelude.{◌≡◌, ◌≢◌, ◌<◌, ◌≤◌, [], map};
 ghost use Rattle.std.specs.String.{string_bytes};
 ghost use Rattle.thy_answer.specs.Answering.{Closes};
-ghost use Rattle.observe.specs.Wanting.{IsReading, asks, counts, has, needs_run, no_options, options_in, take_one, takes_number, wish_of, with_wish, word_line};
+ghost use Rattle.observe.specs.Wanting.{IsReading, IsWindowRefused, asks, counts, has, has_bound, lacks_trace, last_fault, needs_run, no_options, options_in, take_one, takes_number, window_fault, window_of, wish_of, with_wish, word_line};
 
-use thy_arguments::number;
+use std::alloc::Global;
+use thy_arguments::{WordsError, number};
 use thy_base::Sink;
+use thy_cli::{Refusal, refuse};
+use thy_observe::Window;
 
 /// How many options there are.
-const OPTIONS: usize = 7;
+const OPTIONS: usize = 10;
 
 /// An option. In each of the functions below, and in what they are specified by, it has a row.
 #[derive(Clone, Copy, Debug, PartialEq, Eq, Drop)]
@@ -16,10 +19,22 @@ pub enum Wish {
     Pcs,
     State,
     StateAt,
+    Trace,
+    TraceFrom,
+    TraceTo,
     Causes,
     Epochs,
     Wear,
     Torn,
+}
+
+/// The bound of a trace that is refused.
+#[derive(Clone, Copy, Debug, PartialEq, Eq, Drop)]
+pub enum WindowFault {
+    /// The first count is 0.
+    First,
+    /// This last count is below the first one.
+    Last(u64),
 }
 
 /// What is asked for in addition to a run with its events, trap and totals.
@@ -31,6 +46,12 @@ pub struct Options {
     pub state: Option<u64>,
     /// The state at this count.
     pub state_at: Option<u64>,
+    /// The instructions that retired.
+    pub trace: bool,
+    /// From this count on.
+    pub trace_from: Option<u64>,
+    /// Up to this count.
+    pub trace_to: Option<u64>,
     /// How many cycles there were of each cause.
     pub causes: bool,
     /// How many there were for each boot, and for each time that an epoch was executed.
@@ -51,6 +72,12 @@ fn wish_of(word: &str) -> Option<Wish>
         Some(Wish::State)
     } else if word == "--state-at" {
         Some(Wish::StateAt)
+    } else if word == "--trace" {
+        Some(Wish::Trace)
+    } else if word == "--trace-from" {
+        Some(Wish::TraceFrom)
+    } else if word == "--trace-to" {
+        Some(Wish::TraceTo)
     } else if word == "--causes" {
         Some(Wish::Causes)
     } else if word == "--epochs" {
@@ -69,8 +96,8 @@ fn takes_number(wish: Wish) -> bool
     ensures { result ≡ takes_number wish }
 {
     match wish {
-        Wish::Pcs | Wish::Causes | Wish::Epochs | Wish::Wear | Wish::Torn => false,
-        Wish::State | Wish::StateAt => true,
+        Wish::Pcs | Wish::Trace | Wish::Causes | Wish::Epochs | Wish::Wear | Wish::Torn => false,
+        Wish::State | Wish::StateAt | Wish::TraceFrom | Wish::TraceTo => true,
     }
 }
 
@@ -82,6 +109,9 @@ fn word_line(wish: Wish) -> &'static str
         Wish::Pcs => "word pcs\n",
         Wish::State => "word state\n",
         Wish::StateAt => "word state-at\n",
+        Wish::Trace => "word trace\n",
+        Wish::TraceFrom => "word trace-from\n",
+        Wish::TraceTo => "word trace-to\n",
         Wish::Causes => "word causes\n",
         Wish::Epochs => "word epochs\n",
         Wish::Wear => "word wear\n",
@@ -98,6 +128,9 @@ impl Options {
             pcs: false,
             state: None,
             state_at: None,
+            trace: false,
+            trace_from: None,
+            trace_to: None,
             causes: false,
             epochs: false,
             wear: false,
@@ -113,6 +146,9 @@ impl Options {
             Wish::Pcs => self.pcs,
             Wish::State => self.state.is_some(),
             Wish::StateAt => self.state_at.is_some(),
+            Wish::Trace => self.trace,
+            Wish::TraceFrom => self.trace_from.is_some(),
+            Wish::TraceTo => self.trace_to.is_some(),
             Wish::Causes => self.causes,
             Wish::Epochs => self.epochs,
             Wish::Wear => self.wear,
@@ -134,6 +170,18 @@ impl Options {
                 state_at: Some(number),
                 ..self
             },
+            Wish::Trace => Options {
+                trace: true,
+                ..self
+            },
+            Wish::TraceFrom => Options {
+                trace_from: Some(number),
+                ..self
+            },
+            Wish::TraceTo => Options {
+                trace_to: Some(number),
+                ..self
+            },
             Wish::Causes => Options {
                 causes: true,
                 ..self
@@ -151,7 +199,7 @@ impl Options {
     pub fn asks(self) -> bool
         ensures { result ≡ asks self }
     {
-        self.pcs || self.state.is_some() || self.state_at.is_some()
+        self.pcs || self.state.is_some() || self.state_at.is_some() || self.trace
     }
 
     /// Whether something is asked for that is counted while a machine runs.
@@ -166,6 +214,53 @@ impl Options {
         ensures { result ≡ needs_run self }
     {
         self.asks() || self.counts()
+    }
+
+    /// Whether a bound of the trace is given.
+    fn has_bound(self) -> bool
+        ensures { result ≡ has_bound self }
+    {
+        self.trace_from.is_some() || self.trace_to.is_some()
+    }
+
+    /// Whether a bound is given of a trace that is not asked for.
+    pub fn lacks_trace(self) -> bool
+        ensures { result ≡ lacks_trace self }
+    {
+        self.has_bound() && !self.trace
+    }
+
+    /// The counts of the trace: if no bound is given, all.
+    pub fn window(self) -> Window
+        ensures { result ≡ window_of self }
+    {
+        Window {
+            first: self.trace_from.unwrap_or(1),
+            last: self.trace_to,
+        }
+    }
+
+    /// The bound of the trace that is refused, if one is: counts begin with 1, and rise.
+    pub fn window_fault(self) -> Option<WindowFault>
+        ensures { result ≡ window_fault self }
+    {
+        let Window { first, last } = self.window();
+        if first == 0 {
+            return Some(WindowFault::First);
+        }
+        last_fault(first, last)
+    }
+}
+
+/// The last count of a trace, if it is below the first one.
+fn last_fault(first: u64, last: Option<u64>) -> Option<WindowFault>
+    ensures { result ≡ last_fault first last }
+{
+    let last = last?;
+    if last < first {
+        Some(WindowFault::Last(last))
+    } else {
+        None
     }
 }
 
@@ -216,11 +311,35 @@ pub fn take_options(words: &mut Vec<String>) -> Result<Options, Wish>
     Ok(options)
 }
 
+/// Writes a line that refuses an option, and returns the exit status.
+fn refuse_by<R: Sink>(line: &str, report: &mut R) -> u8
+    requires { line.now ≢ [] }
+    ensures status { result ≡ 2 }
+    ensures closes { Closes line.now (R.stream report.old) (R.stream report.new) }
+{
+    let _failed = report.write(line.as_bytes()).is_err();
+    2
+}
+
 /// Refuses the number of an option, and returns the exit status.
 pub fn refuse_word<R: Sink>(wish: Wish, report: &mut R) -> u8
     ensures status { result ≡ 2 }
     ensures closes { Closes (word_line wish) (R.stream report.old) (R.stream report.new) }
 {
-    let _failed = report.write(word_line(wish).as_bytes()).is_err();
-    2
+    refuse_by(word_line(wish), report)
+}
+
+/// Refuses a bound of the trace, and returns the exit status. If memory runs out for the line, that is reported.
+pub fn refuse_window<R: Sink>(alloc: Global, fault: WindowFault, report: &mut R) -> u8
+    ensures { IsWindowRefused fault (R.stream report.old) (R.stream report.new) result }
+{
+    match fault {
+        WindowFault::First => refuse_by("value trace-from 0\n", report),
+        WindowFault::Last(last) => match format!(in alloc; "value trace-to {last}\n") {
+            Ok(line) => refuse_by(line.as_str(), report),
+            Err(error) => {
+                refuse(alloc, Refusal::Words(WordsError::Memory(error)), report).status
+            }
+        },
+    }
 }

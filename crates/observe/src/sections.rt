@@ -3,15 +3,16 @@ ghost use Rattle.std.specs.Prelude.{◌≡◌, ◌++◌, IfSome, OnOk, option_ma
 ghost use Rattle.std.specs.BTreeMap.{IsOrdered};
 ghost use Rattle.std.specs.Ordering.{nat_cmp};
 ghost use Rattle.std.specs.List.{flat_map};
-ghost use Rattle.observe.specs.Sections.{GoesOn, HasSections, IsPcsPart, IsStateAtPart, IsStatePart, IsTextOf, pcs_row, pcs_text};
+ghost use Rattle.observe.specs.Sections.{GoesOn, HasSections, IsPcsPart, IsStateAtPart, IsStatePart, IsTextOf, IsTracePart, pcs_row, pcs_text};
 ghost use Rattle.observe.specs.StateText.{state_section};
 
 use crate::beginning::Begun;
 use crate::options::Options;
 use crate::states::add_section;
+use crate::traces::add_trace;
 use std::alloc::{AllocError, Global};
 use std::collections::BTreeMap;
-use thy_observe::{Changes, count_pcs, state_at, state_by};
+use thy_observe::{Changes, Window, count_pcs, state_at, state_by, trace};
 use thy_plain::Plain;
 
 /// Adds the line of a program counter.
@@ -137,6 +138,32 @@ fn with_state_at(
     with_section(alloc, text, "state-at", count, base, plain)
 }
 
+/// A text with the instructions in a window, if they are asked for; none if they were not seen, or if memory ran out.
+fn with_trace(
+    alloc: Global,
+    text: String,
+    asked: bool,
+    window: Window,
+    begun: &Begun,
+    changes: &Changes,
+) -> Option<String>
+    ensures { let head = string_bytes text in
+        IfSome result (λ whole. GoesOn (IsTracePart asked window begun.now changes.now) head (string_bytes whole)) }
+{
+    if !asked {
+        return Some(text);
+    }
+    let listed = changes.listed()?;
+    let Ok(rows) = trace(alloc, &begun.start, &begun.geometry, window, listed) else {
+        return None;
+    };
+    let mut whole = text;
+    match add_trace(alloc, &mut whole, rows.as_slice()) {
+        Ok(()) => Some(whole),
+        Err(_) => None,
+    }
+}
+
 /// A text with all that is asked for, one after the other; none if something was not seen, or if memory ran out.
 fn with_all(
     alloc: Global,
@@ -150,7 +177,8 @@ fn with_all(
 {
     let text = with_pcs(alloc, text, options.pcs, begun, changes)?;
     let text = with_state(alloc, text, options.state, begun, changes)?;
-    with_state_at(alloc, text, options.state_at, begun, changes)
+    let text = with_state_at(alloc, text, options.state_at, begun, changes)?;
+    with_trace(alloc, text, options.trace, options.window(), begun, changes)
 }
 
 /// A text with what is asked for in addition; none if that was not seen, or if memory ran out.

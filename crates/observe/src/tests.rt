@@ -1,7 +1,7 @@
 //! Calls over memory: what is put under OUT, and what is answered if nothing can be put. The words and addresses were worked
 //! out by hand from the encodings, the numbers from the rules of the controller.
 
-use crate::options::{refuse_word, take_options};
+use crate::options::{refuse_window, refuse_word, take_options};
 use crate::top::observe;
 use std::alloc::{AllocError, Global};
 use std::process::Abort;
@@ -53,6 +53,16 @@ fn shelf_of(alloc: Global, word: u32, failing: &[u64]) -> Result<MemShelf, Alloc
     Ok(MemShelf::new(files, Vec::from_slice(alloc, failing)?))
 }
 
+/// What a call gave whose options are refused with this status, and with this report.
+fn turned_down(alloc: Global, status: u8, report: &[u8]) -> Result<Given, AllocError> {
+    Ok(Given {
+        status,
+        is_put: false,
+        put: Vec::new(alloc),
+        report: Vec::from_slice(alloc, report)?,
+    })
+}
+
 /// Calls with OUT and the arguments, options among them, separated by spaces, over this shelf and this device.
 fn called_over(
     alloc: Global,
@@ -70,14 +80,14 @@ fn called_over(
     let options = match take_options(&mut words) {
         Ok(options) => options,
         Err(wish) => {
-            return Ok(Given {
-                status: refuse_word(wish, &mut report),
-                is_put: false,
-                put: Vec::new(alloc),
-                report: Vec::from_slice(alloc, report.taken())?,
-            });
+            let status = refuse_word(wish, &mut report);
+            return turned_down(alloc, status, report.taken());
         }
     };
+    if let Some(fault) = options.window_fault() {
+        let status = refuse_window(alloc, fault, &mut report);
+        return turned_down(alloc, status, report.taken());
+    }
     let mut nvm = Counting::over(alloc, nvm, options.wear);
     let status = observe(
         alloc,
@@ -511,12 +521,75 @@ fn options_that_cannot_be_read_are_refused(rt: HostRuntime) -> Result<(), Fail> 
             "thynvm --pcs --state-at 12345678901234567890 run F",
             "word state-at\n",
         ),
+        ("thynvm --trace", "usage\n"),
+        ("thynvm --trace --trace run F", "usage\n"),
+        ("thynvm --trace plain F", "usage\n"),
+        ("thynvm --trace compare F", "usage\n"),
+        ("thynvm --trace-from 1 run F", "usage\n"),
+        ("thynvm --trace-to 9 --pcs run F", "usage\n"),
+        ("thynvm --trace --trace-from x run F", "word trace-from\n"),
+        (
+            "thynvm --trace-from 0 --trace-to x run F",
+            "word trace-to\n",
+        ),
+        (
+            "thynvm --trace --trace-from 0 run F",
+            "value trace-from 0\n",
+        ),
+        ("thynvm --trace --trace-to 0 run F", "value trace-to 0\n"),
+        (
+            "thynvm --trace-to 4 --trace --trace-from 5 run F",
+            "value trace-to 4\n",
+        ),
     ] {
         let given = called(alloc, "O", line, FIRST, &[])?;
         assert_eq!(rt; given.status, 2, "{line}");
         assert_eq!(rt; given.report.as_slice(), report.as_bytes(), "{line}");
         assert!(rt; !given.is_put, "{line}");
     }
+    Ok(())
+}
+
+/// What follows the totals of the second of these runs with a trace. The restart is over in cycle 715, and the line of the
+/// instructions is filled after it again.
+static TRACED: [(&str, &str); 6] = [
+    (
+        "--trace",
+        "trace\n703 0 10000 5d00893\n705 0 10004 700513\n718 0 10000 5d00893\n720 0 10004 700513\n722 0 10008 73\n",
+    ),
+    (
+        "--trace-to 2 --trace --trace-from 2",
+        "trace\n705 0 10004 700513\n720 0 10004 700513\n",
+    ),
+    ("--trace --trace-from 3", "trace\n722 0 10008 73\n"),
+    (
+        "--trace-to 1 --trace",
+        "trace\n703 0 10000 5d00893\n718 0 10000 5d00893\n",
+    ),
+    ("--trace --trace-from 4", "trace\nnone\n"),
+    (
+        "--trace --trace-from 4 --state-at 4 --pcs",
+        "pcs\n10000 2\n10004 2\n10008 1\nstate-at 4\nnone\ntrace\nnone\n",
+    ),
+];
+
+#[test]
+fn the_instructions_follow_the_totals(rt: HostRuntime) -> Result<(), Fail> {
+    let alloc = rt.alloc();
+    let (_, text) = RUNS[1];
+    for (options, section) in TRACED {
+        let line = format!(in alloc;
+            "thynvm {options} run F --pages 8 --btt 8 --ptt 8 --cuts 705"
+        )?;
+        let given = called(alloc, "O", line.as_str(), FIRST, &[])?;
+        assert_eq!(rt; given.status, 0, "{options}");
+        assert!(rt; ends_with(given.put.as_slice(), text, section), "{options}");
+    }
+    // The limit comes in the boot, so no instruction retires.
+    let booting = "thynvm --trace run F --pages 8 --btt 8 --ptt 8 --limit 100";
+    let given = called(alloc, "O", booting, FIRST, &[])?;
+    assert_eq!(rt; given.status, 8);
+    assert!(rt; given.put.as_slice().ends_with(b"trace\nnone\n"));
     Ok(())
 }
 
@@ -812,6 +885,34 @@ fn program_counters_are_those_of_the_hart_that_retires(rt: HostRuntime) -> Resul
     ] {
         assert!(rt; has_line(given.put.as_slice(), line), "{line}");
     }
+    Ok(())
+}
+
+/// `auipc t0,1; sw t0,4(t0); lbu t1,5(t0); addi a7,zero,93; ecall`.
+static STORES_AND_LOADS: [u32; 5] = [0x00001297, 0x0052a223, 0x0052c303, 0x05d00893, 0x00000073];
+
+#[test]
+fn a_trace_has_what_was_stored_and_loaded(rt: HostRuntime) -> Result<(), Fail> {
+    let alloc = rt.alloc();
+    // The loading takes 700 cycles. The first instruction has a line to be filled, and so has the store, which makes a
+    // reservation too: its cycles are 704 to 708. The load has the block of the store, of which it loads the second byte.
+    let rows =
+        "trace\n703 0 10000 1297\n708 0 10004 52a223 11004 4 11000\n711 0 10008 52c303 11005 1 10\n\
+         713 0 1000c 5d00893\n715 0 10010 73\n";
+    let line = "thynvm --trace run F --pages 8 --btt 8 --ptt 8";
+    let mut shelf = shelf_of_five(alloc, STORES_AND_LOADS)?;
+    let given = called_over(alloc, "O", line, &mut shelf, MemNvm::new(alloc))?;
+    assert_eq!(rt; given.status, 0);
+    assert!(rt; given.put.as_slice().ends_with(rows.as_bytes()));
+    // A store that traps, by hart 1, stores nothing. The harts take turns from the first instruction of hart 1 on.
+    let (_, text) = TRAP_OF_HART_1[0];
+    let rows =
+        "trace\n665 0 10000 50063\n667 0 10000 50063\n669 1 10000 50063\n671 0 10000 50063\n673 1 10004 503823\n";
+    let line = "thynvm --trace run F --pages 8 --btt 8 --ptt 8 --harts 2";
+    let mut shelf = shelf_of_five(alloc, TRAPS)?;
+    let given = called_over(alloc, "O", line, &mut shelf, MemNvm::new(alloc))?;
+    assert_eq!(rt; given.status, 1);
+    assert!(rt; ends_with(given.put.as_slice(), text, rows));
     Ok(())
 }
 

@@ -1,5 +1,5 @@
 //! The call: what thynvm does, and then OUT.
-ghost use Rattle.std.specs.Prelude.{◌≡◌, IfErr, IfOk, IfSome, OnOk, false, true, map, option_map};
+ghost use Rattle.std.specs.Prelude.{◌≡◌, IfErr, IfOk, IfSome, OnOk, false, is_some, true, map, option_map};
 ghost use Rattle.std.specs.String.{string_bytes};
 ghost use Rattle.thy_block.specs.Outside.{HasNotFailed};
 ghost use Rattle.thy_answer.specs.Answering.{around, nvm_of};
@@ -8,7 +8,7 @@ ghost use Rattle.thy_answer.specs.Saving.{IsPut};
 ghost use Rattle.thy_run.specs.Sending.{Sent};
 ghost use Rattle.thy_text.specs.Closings.{closing_of};
 ghost use Rattle.thy_arguments.specs.Settings.{IsInRange, order_of, settings_of};
-ghost use Rattle.observe.specs.Beginning.{IsBegunOf, IsUnreadOf};
+ghost use Rattle.observe.specs.Beginning.{IsBegunOf, IsUnreadOf, has_run};
 ghost use Rattle.observe.specs.Wanting.{asks};
 ghost use Rattle.observe.specs.Observing.{IsAskedFor, IsLacking, IsRefusedFor, ReportsOut, Observed, is_refused_by};
 
@@ -75,6 +75,8 @@ fn beginning<'a, H: Shelf>(
     ensures calm { OnOk result (HasNotFailed (H.stock shelf.old) (H.stock shelf.new)) }
     ensures begins { IfOk result (λ o. IfSome o
         (IsBegunOf (option_map (λ c. order_of c.now) command.entry) (H.stock shelf.old))) }
+    ensures wanted { asks options ≡ true
+        → IfOk result (λ o. is_some o ≡ has_run (option_map (λ c. order_of c.now) command.entry)) }
 {
     let asks = options.asks();
     match command {
@@ -146,7 +148,7 @@ pub fn observe<H: Shelf, T: Sink, R: Sink, N: Nvm + Counts>(
         (T.stream terminal.old) (R.stream report.old) in
         let after = around (H.stock shelf.new) nvm.new
         (T.stream terminal.new) (R.stream report.new) in
-        let nvms = nvm_of N.device N.writes in
+        let nvms = nvm_of N.device in
         let machines = by_scheme ⟦<Machine<Thynvm> as Computer>⟧.kind
         ⟦<Machine<Journal> as Computer>⟧.kind
         ⟦<Machine<Shadow> as Computer>⟧.kind in

@@ -9,4 +9,5 @@ pub mod ChangeLemmas
 pub mod ReplayLemmas
 pub mod FollowLemmas
 pub mod StateLemmas
+pub mod TraceLemmas
 pub mod UnderWayLemmas

@@ -1,6 +1,6 @@
 -- What a run's cycles made of the program's state: the start is loaded, a checkpoint restored, an instruction retired, or the
 -- state is lost at a cut.
-use Rattle.std.specs.Prelude.{◌≡◌, ℕ, ◌+◌, Bool, true, false, List, [], ◌∷◌, ◌++◌, length, map, Option, Some, None, IfSome, Vec}
+use Rattle.std.specs.Prelude.{◌≡◌, ℕ, ◌+◌, Bool, true, false, List, [], ◌∷◌, ◌++◌, length, map, Option, Some, None, IfSome, is_some, Vec}
 use Rattle.std.specs.List.{flat_map}
 use Rattle.std.specs.declared.alloc.Global.{Global}
 use Rattle.thy_view.specs.declared.did.Did.{Did}
@@ -56,6 +56,10 @@ Adds old new more = (before : List Dated) → IfSome old (λ v. v.items ≡ befo
 -- the number of these cycles is counted, and what is listed is what they made of the state
 abbrev pub AreChanges : Changes → List Taken → Type 0
 AreChanges c seen = (c.cycles ≡ length seen) × IfSome c.listed (λ v. v.items ≡ dated_of seen)
+
+-- changes are listed: that is wanted, and memory has not run out for one
+abbrev pub lists_changes : Changes → Bool
+lists_changes c = is_some c.listed
 
 -- these cycles are listed, and the step of the next one is kept
 abbrev pub KeepsChanges : Changes → List Taken → Stepped → Type 0

@@ -1,6 +1,6 @@
 -- The stretches of a run's cycles, with the causes of each. A stretch ends with the cycle that ends a boot, seals an epoch, or after
 -- which power is cut.
-use Rattle.std.specs.Prelude.{◌≡◌, ℕ, ◌+◌, ◌<◌, ◌≤◌, nat_le, if◌then◌else◌, cond, Bool, true, false, Option, Some, None, IfSome, List, [], ◌∷◌, ◌++◌, length, replicate, fold, sum_by, count_by, slice_index_or, slice_set}
+use Rattle.std.specs.Prelude.{◌≡◌, ℕ, ◌+◌, ◌<◌, ◌≤◌, nat_le, if◌then◌else◌, cond, Bool, true, false, Option, Some, None, IfSome, is_some, List, [], ◌∷◌, ◌++◌, length, replicate, fold, sum_by, count_by, slice_index_or, slice_set}
 use Rattle.thy_block.specs.Counts.{next}
 use Rattle.thy_view.specs.declared.did.Did.{Did}
 use Rattle.thy_view.specs.declared.did.Did.TheVariants as did
@@ -109,6 +109,10 @@ pub record AreEpochs (e : Epochs) (seen : List Taken) : Type 0 where
   pub under_way : e.under_way ≡ (account_of seen).under_way
   pub open_is : e.open_row ≡ (account_of seen).open_row
   pub rows : IfSome e.rows (λ v. v.items ≡ (account_of seen).rows)
+
+-- those that have ended are listed: that is wanted, and memory has not run out for one
+abbrev pub lists_rows : Epochs → Bool
+lists_rows e = is_some e.rows
 
 -- they are of these cycles, and the step of the next one is kept
 abbrev pub KeepsEpochs : Epochs → List Taken → Stepped → Type 0

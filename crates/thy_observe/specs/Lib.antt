@@ -6,10 +6,12 @@ pub mod Tallied
 pub mod Ledgers
 pub mod Epochs
 pub mod Wear
+pub mod Counted
 pub mod Trapping
 pub mod Changes
 pub mod Watched
 pub mod Replaying
 pub mod States
+pub mod Tracing
 pub mod Following
 pub mod UnderWay

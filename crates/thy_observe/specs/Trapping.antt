@@ -25,8 +25,8 @@ abbrev pub word_if : Option Cause → ℕ → Option ℕ
 word_if None word = Some word
 word_if (Some fault) word = None
 
-abbrev pub trapped_word : (base pc : ℕ) (memory : List ℕ) → Option ℕ
-trapped_word base pc memory = word_if (fetch_fault base (length memory) pc) (number_at 4 memory (pc - base))
+abbrev pub fetched_word : (base pc : ℕ) (memory : List ℕ) → Option ℕ
+fetched_word base pc memory = word_if (fetch_fault base (length memory) pc) (number_at 4 memory (pc - base))
 
 -- the address that the instruction of a word would reach, with this program counter and these registers
 abbrev pub reached_by : Option ℕ → (pc : ℕ) (regs : List ℕ) → Option ℕ
@@ -37,7 +37,7 @@ reached_by (Some word) pc regs = reached (word_effect word pc regs)
 -- trapped is; the trap also has the word there and, if a load, a store or an atomic instruction trapped, its address.
 abbrev pub trap_by : (cause base hart : ℕ) → State → Trap
 trap_by cause base hart s =
-    let word = trapped_word base s.pc s.memory in
+    let word = fetched_word base s.pc s.memory in
     record {
       hart = hart;
       pc = s.pc;

@@ -1,6 +1,6 @@
 //! What a run's cycles made of the program's state.
-ghost use Rattle.std.specs.Prelude.{◌≡◌, [], ℕ, Bool, List, MatchOption, length, map};
-ghost use Rattle.thy_observe.specs.Changes.{change_of, as_list, lost_in, dated, dated_of, AreChanges, Adds};
+ghost use Rattle.std.specs.Prelude.{◌≡◌, [], ℕ, Bool, false, None, is_some, IfNone, List, MatchOption, length, map};
+ghost use Rattle.thy_observe.specs.Changes.{change_of, as_list, lost_in, dated, dated_of, lists_changes, AreChanges, Adds};
 ghost use Rattle.thy_run.specs.Watching.{CanSee, Sees, Taken, taken};
 
 use std::alloc::Global;
@@ -60,7 +60,8 @@ fn lost_in(fell: bool) -> Option<Change>
 
 /// The list with a change in this cycle, if there is one; none if there is no list, or if memory ran out.
 fn listed_with(listed: Option<Vec<Dated>>, cycle: u64, change: Option<Change>) -> Option<Vec<Dated>>
-    ensures { Adds listed result (map (dated cycle) (as_list change)) }
+    ensures adds { Adds listed result (map (dated cycle) (as_list change)) }
+    ensures kept { change ≡ None → is_some result ≡ is_some listed }
 {
     let Some(mut listed) = listed else {
         return None;
@@ -77,7 +78,8 @@ fn listed_with(listed: Option<Vec<Dated>>, cycle: u64, change: Option<Change>) -
 impl Changes {
     /// The changes of no cycle; if they are not wanted, none will be listed. Takes no memory.
     pub fn new(alloc: Global, wanted: bool) -> Changes
-        ensures { AreChanges result [] }
+        ensures changes { AreChanges result [] }
+        ensures wanted { lists_changes result ≡ wanted }
     {
         Changes {
             cycles: 0,
@@ -105,8 +107,9 @@ impl Changes {
 
     /// What the cycles made of the program's state, in order; none if it was not wanted, or if memory ran out.
     pub fn listed(&self) -> Option<&[Dated]>
-        ensures { (seen : List Taken) → AreChanges self.now seen
+        ensures changes { (seen : List Taken) → AreChanges self.now seen
             → MatchOption result (Unit {0}) (λ listed. listed.now ≡ dated_of seen) }
+        ensures lost { IfNone result (lists_changes self.now ≡ false) }
     {
         match &self.listed {
             Some(listed) => Some(listed.as_slice()),

@@ -1,7 +1,9 @@
 //! A device that counts the calls of another that succeed, and the writes of each place.
-ghost use Rattle.std.specs.Prelude.{◌≡◌, ◌<◌, ◌≤◌, false, ℕ, List, length, IfErr, IfOk, OnErr, OnOk};
-ghost use Rattle.thy_block.specs.Device.{CountsFault, CountsWrite, HasFailedToFit, HasFailedToWrite, IsFramed, fitted, written_to};
+ghost use Rattle.std.specs.Prelude.{◌≡◌, ◌<◌, ◌≤◌, [], false, is_ok, ℕ, List, length, IfErr, IfOk, OnErr, OnOk};
+ghost use Rattle.thy_block.specs.Device.{CountsFault, HasFailed, HasFailedToFit, HasFailedToSettle, HasFailedToWrite, IsCut, IsFramed, IsSettled, drained, fitted, newest, written_to};
+ghost use Rattle.thy_observe.specs.Counted.{HasFitted, HasRead, HasSettled, HasWritten, IsOver, calls_of, counted, no_calls};
 ghost use Rattle.thy_observe.specs.Wear.{WearAddsUp, unworn, worn_at};
+ghost use Rattle.thy_observe.specs.declared.counting.Calls.{Calls as CallsValue};
 
 use std::alloc::{AllocError, Global};
 use thy_base::{Block, FitError, Nvm, NvmError, Shape};
@@ -14,13 +16,17 @@ pub struct Calls {
     pub barriers: u64,
 }
 
-/// Counts the calls of a device. What the numbers of its calls are no contract says.
+/// Counts the calls of a device.
 pub trait Counts {
+    /// The calls that have succeeded so far.
+    ghost calls: { Self → CallsValue };
+
     /// How many writes each place has taken since the last fit; of no place if that is not wanted.
     ghost wear: { Self → List ℕ };
 
     /// The calls that have succeeded so far.
-    fn calls(&self) -> Calls;
+    fn calls(&self) -> Calls
+        ensures { result ≡ calls self.now };
 
     /// How many writes each place has taken.
     fn wear(&self) -> &[u64]
@@ -62,7 +68,12 @@ fn unworn(alloc: Global, wanted: bool, blocks: u64) -> Result<Vec<u64>, AllocErr
 
 impl<N> Counting<N> {
     /// A device that counts the calls of this one, and if wanted the writes of each place. No call is counted yet.
-    pub fn over(alloc: Global, inner: N, wears: bool) -> Counting<N> {
+    pub fn over(alloc: Global, inner: N, wears: bool) -> Counting<N>
+        ensures inner { result.inner ≡ inner }
+        ensures calls { calls_of result ≡ no_calls }
+        ensures wears { result.wears ≡ wears }
+        ensures unworn { result.wear.items ≡ [] }
+    {
         Counting {
             inner,
             reads: 0,
@@ -75,6 +86,8 @@ impl<N> Counting<N> {
 }
 
 impl<N> Counts for Counting<N> {
+    ghost calls = { λ it. calls_of it };
+
     ghost wear = { λ it. it.wear.items };
 
     fn calls(&self) -> Calls {
@@ -91,14 +104,15 @@ impl<N> Counts for Counting<N> {
 }
 
 /// The count of calls after one more call, if that has succeeded.
-fn counted(count: u64, done: bool) -> u64 {
+fn counted(count: u64, done: bool) -> u64
+    ensures { result ≡ counted count done }
+{
     if done { count.saturating_add(1) } else { count }
 }
 
+/// Each call is counted that has succeeded, a write at its place too, and no other. Only a fit begins anew with the places.
 impl<N: Nvm> Nvm for Counting<N> {
     ghost device = { λ it. N.device it.inner };
-
-    ghost writes = { λ it. N.writes it.inner };
 
     /// No place has taken a write then.
     fn fit(&mut self, alloc: Global, shape: &Shape, start: Vec<Block>) -> Result<(), FitError>
@@ -107,9 +121,8 @@ impl<N: Nvm> Nvm for Counting<N> {
         requires start { length start.items ≤ shape.now.blocks }
         ensures ok { OnOk result (N.device self.new.inner ≡ fitted shape.now start.items (N.device self.old.inner)) }
         ensures err { IfErr result (λ e. HasFailedToFit e (N.device self.old.inner) (N.device self.new.inner)) }
-        ensures no_writes { OnOk result (N.writes self.new.inner ≡ 0) }
-        ensures same_writes { OnErr result (N.writes self.new.inner ≡ N.writes self.old.inner) }
-        ensures unworn { OnOk result (self.new.wear.items ≡ unworn self.old.wears shape.now.blocks) }
+        ensures fitted { OnOk result (HasFitted shape.now.blocks self.old self.new) }
+        ensures stays { OnErr result (calls_of self.new ≡ calls_of self.old) }
     {
         let wear = match unworn(alloc, self.wears, shape.blocks) {
             Ok(wear) => wear,
@@ -131,13 +144,23 @@ impl<N: Nvm> Nvm for Counting<N> {
         self.inner.writes()
     }
 
-    fn read(&mut self, at: u64) -> Result<Block, NvmError> {
+    /// It is counted if it succeeds.
+    fn read(&mut self, at: u64) -> Result<Block, NvmError>
+        requires place { at < length (N.device self.old.inner).image }
+        requires up { (N.device self.old.inner).down ≡ false }
+        ensures ok { IfOk result (λ block. block ≡ newest (N.device self.old.inner) at) }
+        ensures same { OnOk result (N.device self.new.inner ≡ N.device self.old.inner) }
+        ensures err { OnErr result (HasFailed (N.device self.old.inner) (N.device self.new.inner)) }
+        ensures frame { IsFramed (N.device self.old.inner) (N.device self.new.inner) }
+        ensures cause { CountsFault result (N.device self.old.inner).faults (N.device self.new.inner).faults }
+        ensures counts { HasRead (is_ok result) self.old self.new }
+    {
         let answer = self.inner.read(at);
         self.reads = counted(self.reads, answer.is_ok());
         answer
     }
 
-    /// It is counted at its place if it succeeds.
+    /// It is counted if it succeeds, and at its place.
     fn write(&mut self, at: u64, block: &Block) -> Result<(), NvmError>
         requires place { at < length (N.device self.old.inner).image }
         requires up { (N.device self.old.inner).down ≡ false }
@@ -145,9 +168,8 @@ impl<N: Nvm> Nvm for Counting<N> {
         ensures err { OnErr result (HasFailedToWrite at block.now (N.device self.old.inner) (N.device self.new.inner)) }
         ensures frame { IsFramed (N.device self.old.inner) (N.device self.new.inner) }
         ensures cause { CountsFault result (N.device self.old.inner).faults (N.device self.new.inner).faults }
-        ensures counted { CountsWrite result (N.writes self.old.inner) (N.writes self.new.inner) }
-        ensures worn { OnOk result (self.new.wear.items ≡ worn_at self.old.wear.items at) }
-        ensures stays { OnErr result (self.new.wear.items ≡ self.old.wear.items) }
+        ensures written { OnOk result (HasWritten at self.old self.new) }
+        ensures stays { OnErr result (IsOver self.old self.new) }
     {
         self.inner.write(at, block)?;
         self.writes = counted(self.writes, true);
@@ -155,17 +177,37 @@ impl<N: Nvm> Nvm for Counting<N> {
         Ok(())
     }
 
-    fn drain(&mut self) -> Result<(), NvmError> {
+    fn drain(&mut self) -> Result<(), NvmError>
+        requires queued { 0 < length (N.device self.old.inner).queue }
+        requires up { (N.device self.old.inner).down ≡ false }
+        ensures ok { OnOk result (N.device self.new.inner ≡ drained (N.device self.old.inner)) }
+        ensures err { OnErr result (HasFailed (N.device self.old.inner) (N.device self.new.inner)) }
+        ensures frame { IsFramed (N.device self.old.inner) (N.device self.new.inner) }
+        ensures cause { CountsFault result (N.device self.old.inner).faults (N.device self.new.inner).faults }
+        ensures stays { IsOver self.old self.new }
+    {
         self.inner.drain()
     }
 
-    fn barrier(&mut self) -> Result<(), NvmError> {
+    /// It is counted if it succeeds.
+    fn barrier(&mut self) -> Result<(), NvmError>
+        requires { (N.device self.old.inner).down ≡ false }
+        ensures ok { OnOk result (IsSettled (N.device self.old.inner) (N.device self.new.inner)) }
+        ensures err { OnErr result (HasFailedToSettle (N.device self.old.inner) (N.device self.new.inner)) }
+        ensures frame { IsFramed (N.device self.old.inner) (N.device self.new.inner) }
+        ensures cause { CountsFault result (N.device self.old.inner).faults (N.device self.new.inner).faults }
+        ensures counts { HasSettled (is_ok result) self.old self.new }
+    {
         let answer = self.inner.barrier();
         self.barriers = counted(self.barriers, answer.is_ok());
         answer
     }
 
-    fn cut(&mut self, pick: u64) {
+    fn cut(&mut self, pick: u64)
+        requires { length (N.device self.old.inner).left < (N.device self.old.inner).left_room }
+        ensures cut { IsCut pick (N.device self.old.inner) (N.device self.new.inner) }
+        ensures stays { IsOver self.old self.new }
+    {
         self.inner.cut(pick)
     }
 

@@ -1,6 +1,6 @@
 //! The stretches of a run's cycles: boots, and each time that an epoch was executed.
-ghost use Rattle.std.specs.Prelude.{◌≡◌, ◌+◌, ◌-◌, ◌^◌, ◌<◌, ◌++◌, ◌∷◌, [], ℕ, Bool, List, IfSome, MatchOption, slice_index_or};
-ghost use Rattle.thy_observe.specs.Epochs.{AreEpochs, EpochsAddUp, account_of, begun_after, end_of, epoch_by, epoch_of, last_row, with_cycle};
+ghost use Rattle.std.specs.Prelude.{◌≡◌, ◌+◌, ◌-◌, ◌^◌, ◌<◌, ◌++◌, ◌∷◌, [], ℕ, Bool, false, List, IfNone, IfSome, MatchOption, slice_index_or};
+ghost use Rattle.thy_observe.specs.Epochs.{AreEpochs, EpochsAddUp, account_of, begun_after, end_of, epoch_by, epoch_of, last_row, lists_rows, with_cycle};
 ghost use Rattle.thy_run.specs.Watching.{CanSee, Sees, Taken, taken};
 
 use crate::causes::{CAUSES, cause_of, index_of, under_way_then};
@@ -136,7 +136,8 @@ fn rows_with(rows: Option<Vec<Row>>, row: Row) -> Option<Vec<Row>>
 impl Epochs {
     /// The stretches of no cycle; if they are not wanted, none will be listed. Takes no memory.
     pub fn new(alloc: Global, wanted: bool) -> Epochs
-        ensures { AreEpochs result [] }
+        ensures epochs { AreEpochs result [] }
+        ensures wanted { lists_rows result ≡ wanted }
     {
         Epochs {
             cycles: 0,
@@ -167,8 +168,9 @@ impl Epochs {
 
     /// The stretches that have ended, in order; none if they were not wanted, or if memory ran out.
     pub fn rows(&self) -> Option<&[Row]>
-        ensures { (seen : List Taken) → AreEpochs self.now seen
+        ensures rows { (seen : List Taken) → AreEpochs self.now seen
             → MatchOption result (Unit {0}) (λ rows. rows.now ≡ (account_of seen).rows) }
+        ensures lost { IfNone result (lists_rows self.now ≡ false) }
     {
         match &self.rows {
             Some(rows) => Some(rows.as_slice()),

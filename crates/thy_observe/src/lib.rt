@@ -2,12 +2,12 @@
 //! were made its number and how many instructions were retired by then, and what each hart did. It is proved to be the tally
 //! of the cycles that it has seen (`Tally`). Two more count the cycles by cause, of the whole run (`Ledger`) and of each stretch
 //! of it (`Epochs`), and a device the writes of each place (`Counting`). And where a program trapped, and at what (`trap_of`);
-//! and how often each program counter retired, and the state of the machine in a cycle or at a count, which it finds by
-//! executing the run's instructions again on the plain machine (`count_pcs`, `state_by`, `state_at`).
+//! and how often each program counter retired, the state of the machine in a cycle or at a count, and the instructions
+//! themselves, which it finds by executing them again on the plain machine (`count_pcs`, `state_by`, `state_at`, `trace`).
 //!
 //! Open specs/Kinds.antt first, then specs/EventCycles.antt, specs/Shares.antt and src/tally.rt; for the causes
-//! specs/Causes.antt, specs/Epochs.antt and src/ledger.rt; for the program counters specs/Replaying.antt and src/replay.rt, and
-//! for the states specs/States.antt too. It stands on thy_block, thy_base, thy_isa, thy_plain, thy_layout, thy_view and thy_run; on it
+//! specs/Causes.antt, specs/Epochs.antt and src/ledger.rt; for the program counters specs/Replaying.antt and src/replay.rt, for
+//! the states specs/States.antt too, and for the instructions specs/Tracing.antt and src/tracing.rt. It stands on thy_block, thy_base, thy_isa, thy_plain, thy_layout, thy_view and thy_run; on it
 //! stands the program observe.
 #![tactic(auto)]
 
@@ -21,6 +21,7 @@ mod ledger;
 mod replay;
 mod shares;
 mod tally;
+mod tracing;
 mod trap;
 mod watch;
 
@@ -34,5 +35,6 @@ pub use ledger::Ledger;
 pub use replay::{ReplayError, count_pcs, state_at, state_by, what_is_executed_follows_the_run};
 pub use shares::{Share, Shares, shares_add_up};
 pub use tally::Tally;
+pub use tracing::{Access, Traced, Window, a_trace_without_bounds_lists_all, trace};
 pub use trap::{Trap, trap_of};
 pub use watch::Watch;

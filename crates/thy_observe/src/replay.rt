@@ -40,11 +40,11 @@ impl From<AllocError> for ReplayError {
 
 /// A run that is executed again, up to a change of its state.
 #[derive(Drop)]
-struct Replay {
+pub(crate) struct Replay {
     /// The plain machine at that change.
-    plain: Plain,
+    pub(crate) plain: Plain,
     /// The harts that retired the instructions from the start up to there, those that were lost left out.
-    harts: Vec<u32>,
+    pub(crate) harts: Vec<u32>,
     /// How often each program counter retired, lost instructions included.
     counts: BTreeMap<u64, u64>,
     /// The machine is up: in a boot it has no state.
@@ -129,7 +129,11 @@ fn first_of(harts: &[u32], most: u64) -> &[u32]
 }
 
 /// A replay of a run of this start, before its first change.
-fn begin(alloc: Global, start: &Start, geometry: &Geometry) -> Result<Replay, ReplayError>
+pub(crate) fn begin(
+    alloc: Global,
+    start: &Start,
+    geometry: &Geometry,
+) -> Result<Replay, ReplayError>
     ensures { IfOk result (IsReplay geometry.now start.now nothing_executed) }
 {
     Ok(Replay {
@@ -163,7 +167,7 @@ fn back_to(
 }
 
 /// The replay after one more change.
-fn follow(
+pub(crate) fn follow(
     alloc: Global,
     start: &Start,
     geometry: &Geometry,

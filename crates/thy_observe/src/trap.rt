@@ -1,7 +1,7 @@
 //! Where a program trapped, and at what.
 ghost use Rattle.std.specs.Prelude.{◌≡◌};
 ghost use Rattle.thy_isa.specs.Step.{state_of, cpu_of, fronted};
-ghost use Rattle.thy_observe.specs.Trapping.{reached, reached_by, trapped_word, trap_of};
+ghost use Rattle.thy_observe.specs.Trapping.{reached, reached_by, fetched_word, trap_of};
 
 use thy_isa::{CpuState, Effect, MachState, Regs, Status, cross, fetch_fault, word, word_effect};
 
@@ -19,7 +19,7 @@ pub struct Trap {
 }
 
 /// The processor with this hart in front, of a state that has hart 0 in front.
-fn front_of(hart: u8, state: &MachState) -> CpuState
+pub(crate) fn front_of(hart: u32, state: &MachState) -> CpuState
     ensures { result ≡ cpu_of (fronted hart (state_of state.now)) }
 {
     let mut cpu = state.cpu();
@@ -44,8 +44,8 @@ fn reached(effect: Effect) -> Option<u64>
 }
 
 /// The word at pc, if one can be fetched there.
-fn trapped_word(base: u64, pc: u64, memory: &[u8]) -> Option<u32>
-    ensures { result ≡ trapped_word base pc memory.now }
+pub(crate) fn fetched_word(base: u64, pc: u64, memory: &[u8]) -> Option<u32>
+    ensures { result ≡ fetched_word base pc memory.now }
 {
     let size = memory.len() as u64;
     match fetch_fault(base, size, pc) {
@@ -74,8 +74,8 @@ pub fn trap_of(base: u64, hart: u8, state: &MachState) -> Option<Trap>
     let Status::Trapped(cause) = state.status else {
         return None;
     };
-    let cpu = front_of(hart, state);
-    let word = trapped_word(base, cpu.pc, state.memory.as_slice());
+    let cpu = front_of(u32::from(hart), state);
+    let word = fetched_word(base, cpu.pc, state.memory.as_slice());
     let address = if cause >= 4 {
         reached_by(word, cpu.pc, &cpu.regs)
     } else {

@@ -1,5 +1,7 @@
 //! All that is seen of a run.
-ghost use Rattle.std.specs.Prelude.{[]};
+ghost use Rattle.std.specs.Prelude.{◌≡◌, []};
+ghost use Rattle.thy_observe.specs.Changes.{lists_changes};
+ghost use Rattle.thy_observe.specs.Epochs.{lists_rows};
 ghost use Rattle.thy_observe.specs.Watched.{IsWatch};
 
 use crate::changes::Changes;
@@ -24,7 +26,9 @@ pub struct Watch {
 impl Watch {
     /// A watch that has seen no cycle. Takes no memory.
     pub fn new(alloc: Global, wants_changes: bool, wants_epochs: bool) -> Watch
-        ensures { IsWatch result [] }
+        ensures watch { IsWatch result [] }
+        ensures changes { lists_changes result.changes ≡ wants_changes }
+        ensures epochs { lists_rows result.epochs ≡ wants_epochs }
     {
         Watch {
             tally: Tally::new(alloc),

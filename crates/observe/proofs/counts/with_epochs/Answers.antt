@@ -13,4 +13,4 @@ returns-in-Ok c =
     subst (λ (asked : Bool). GoesOn (AreOf (epochs_part asked) c.args.watch.now) (string_bytes c.args.text) (string_bytes c.add_epochs.new.text))
     (sym c.if-not-asked.false)
     (epochs-asked c.args.watch.now c.in_ok-rows.rows.now c.last-last.result (string_bytes c.args.text) (string_bytes c.add_epochs.new.text)
-    c.in_ok-rows.ensures c.last-last.ensures c.in-Ok.ensures)
+    c.in_ok-rows.ensures.rows c.last-last.ensures c.in-Ok.ensures)

@@ -9,6 +9,6 @@ returns c =
     some-weaker c.with_section.result _ _ (λ whole h.
     subst (λ (asked : Option ℕ). GoesOn (IsStateAtPart asked c.args.begun.now c.args.changes.now) (string_bytes c.args.text) (string_bytes whole)) (sym c.in-Some.is)
     (state_at-listed c.args.begun.now c.args.changes.now c.in_ok-listed.listed.now c.in-Some.count c.numbers-base.result.base _
-    (string_bytes c.args.text) (string_bytes whole) c.in_ok-listed.ensures c.in-Ok.ensures
+    (string_bytes c.args.text) (string_bytes whole) c.in_ok-listed.ensures.changes c.in-Ok.ensures
     (ap (λ (p : Parameters). p.base) c.numbers-base.ensures.same) h))
     c.with_section.ensures

@@ -14,6 +14,6 @@ returns c = λ reported seen h.
     let middle = c.listed_with-listed.result in
     let new = c.listed_with.result in
     let first = subst (λ (old : Option (Vec Dated Global)). Adds old middle (map (dated cycle) (as_list (change_of t.stepped.did)))) c.take.ensures.value
-    (subst (λ (change : Option Change). Adds c.take.result middle (map (dated cycle) (as_list change))) c.change_of.ensures c.listed_with-listed.ensures) in
-    let last = subst (λ (changes : List Change). Adds middle new (map (dated cycle) changes)) c.lost_in.ensures c.listed_with.ensures in
+    (subst (λ (change : Option Change). Adds c.take.result middle (map (dated cycle) (as_list change))) c.change_of.ensures c.listed_with-listed.ensures.adds) in
+    let last = subst (λ (changes : List Change). Adds middle new (map (dated cycle) changes)) c.lost_in.ensures c.listed_with.ensures.adds in
     (now ∙ sym (length-append seen (t ∷ [])), changed-one c.args.self.now.listed middle new seen t cycle first last now h.1)

@@ -1,6 +1,6 @@
 use Rattle.std.proofs.Common.{length, sym, ◌∙◌, arith}
 use Rattle.thy_isa.proofs.BlockLaws.{fetch_inside}
-use Rattle.thy_observe.proofs.trap.trapped_word.Goals as goal
+use Rattle.thy_observe.proofs.trap.fetched_word.Goals as goal
 
 pub overflow_sub-at : goal.overflow_sub-at
 overflow_sub-at c =
