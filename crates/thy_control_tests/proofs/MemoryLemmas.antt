@@ -15,7 +15,7 @@ use Rattle.thy_control.specs.Stays.{Stays}
 use Rattle.thy_checkpoint.specs.Items.{Phase, Resting, Making, Made, Applying}
 use Rattle.thy_checkpoint.specs.Progress.{Progress, Fits, new_engine, begun, phase_of, action_next}
 use Rattle.thy_thynvm_parts.specs.Filling.{filling_thynvm}
-use Rattle.thy_view.specs.Action.{after}
+use Rattle.thy_view.specs.Action.{IsAfter}
 use Rattle.thy_view.proofs.ActionLemmas.{down-after}
 use Rattle.thy_thynvm_parts.specs.Design.{is_promoting, items_thynvm}
 use Rattle.thy_thynvm_parts.specs.Fitting.{PromotesAtRest, IdleFits, SealFits}
@@ -101,7 +101,7 @@ IsMemory-drained p e s t n cuts w is =
 
 -- what is a memory is one after an action of the engine
 pub IsMemory-item : (p : Parameters) (e f : Progress) (s t : State) (m n : Device) (cuts : ℕ)
-    → IsMemory (parts p s e m cuts) → Fits filling_thynvm items_thynvm f t → f.p ≡ e.p → n ≡ after (action_next filling_thynvm items_thynvm e s m) m → IsFramed m n
+    → IsMemory (parts p s e m cuts) → Fits filling_thynvm items_thynvm f t → f.p ≡ e.p → IsAfter (action_next filling_thynvm items_thynvm e s m) m n → IsFramed m n
     → IsMemory (parts p t f n cuts)
 IsMemory-item p e f s t m n cuts w fits same n_is frame =
     let t_p : t.p ≡ s.p = fits.same_p ∙ same ∙ sym w.fits.same_p in
@@ -110,7 +110,7 @@ IsMemory-item p e f s t m n cuts w fits same n_is frame =
       drives = record {
         blocks = ap memory_blocks t_p ∙ w.drives.blocks;
         sized = record { nvm = frame.blocks ∙ w.drives.sized.nvm ∙ sym (ap image_blocks t_p) };
-        up = ap (λ (d : Device). d.down) n_is ∙ down-after (action_next filling_thynvm items_thynvm e s m) m ∙ w.drives.up;
+        up = down-after (action_next filling_thynvm items_thynvm e s m) m n n_is ∙ w.drives.up;
       };
       fits = fits;
       room = HasRoom-framed m n cuts w.room frame;

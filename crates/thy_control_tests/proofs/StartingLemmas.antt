@@ -58,8 +58,8 @@ pub down-step : (s : Plain) (n : Device) (b : Booting) (c : State) (m : Device) 
 down-step s n b c m d e steps = by_stage b.stage steps where
   by_stage : (q : Stage) → StepsAt filling_thynvm q s n b c m d e → m.down ≡ n.down
   by_stage (Reads r) on = ap (λ (x : Device). x.down) on.device
-  by_stage (Loads r) on = ap (λ (x : Device). x.down) on.device ∙ down-after (round_action (first_writes (first_by filling_thynvm b.p s)) r) n
-  by_stage (Migrates r) on = ap (λ (x : Device). x.down) on.device ∙ down-after (round_action (renewing filling_thynvm b) r) n
+  by_stage (Loads r) on = down-after (round_action (first_writes (first_by filling_thynvm b.p s)) r) n m on.device
+  by_stage (Migrates r) on = down-after (round_action (renewing filling_thynvm b) r) n m on.device
   by_stage (Over end) on = absurd on
 
 same-migrated : (r : Round) (b : Booting) → (migrated_by filling_thynvm r b).p ≡ b.p

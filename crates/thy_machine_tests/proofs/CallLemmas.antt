@@ -17,13 +17,9 @@ use Rattle.thy_view.specs.declared.boot_step.BootStep.{BootStep}
 use Rattle.thy_view.specs.Action.{Action, after}
 use Rattle.thy_view.specs.Kind.{IsDramOf}
 use Rattle.thy_view.specs.Origin.{Origin, Begins}
-use Rattle.thy_view.proofs.ActionLemmas.{down-after}
-use Rattle.thy_parts.proofs.SeenLemmas.{writes_nothing}
-use Rattle.thy_checkpoint.specs.Counts.{Counts}
-use Rattle.thy_checkpoint.specs.Steps.{action_of}
+use Rattle.thy_view.proofs.ActionLemmas.{access-is, down-after}
 use Rattle.thy_checkpoint.specs.Progress.{Acts, is_under_way as is_engine_under_way}
 use Rattle.thy_isa.specs.Step.{state_of}
-use Rattle.thy_layout.specs.Layout.{reading}
 use Rattle.thy_parts.specs.Calls.{IsReading, Promotes as MakesPromotion, drained, merged, promoted, sealed, stored}
 use Rattle.thy_parts.specs.Holding.{holding_of}
 use Rattle.thy_parts.specs.Stays.{Stays as StaysBelow}
@@ -31,13 +27,11 @@ use Rattle.thy_parts.specs.Storing.{CanStore, MakesStore}
 use Rattle.thy_parts.proofs.BootLemmas.{boot-drains}
 use Rattle.thy_parts.proofs.HeldLemmas.{IsHeldBlock, held_block, blocks_held}
 use Rattle.thy_compose.proofs.CallLemmas.{booted_then, boots_then, boot_fails_then, drains_then, engines_then, engine_fails_then, fails-down, merges_then, promotes_then, seals_then, store_once}
-use Rattle.thy_thynvm_parts.specs.Filling.{filling_thynvm, loads}
-use Rattle.thy_record.specs.ThynvmLayouts.{thynvm_layouts}
+use Rattle.thy_thynvm_parts.specs.Filling.{loads}
 use Rattle.thy_scheme.specs.Boots.{BootDrains, BootFails, BootsOn}
 use Rattle.thy_scheme.specs.Calls.{Drains, EngineFails, Engines, IsOneAccess, Merges, PromotionFails, Promotes, Seals, Stores, TakesNoAction}
 use Rattle.thy_scheme.specs.CheckpointMarks.{CheckpointMarks}
 use Rattle.thy_scheme.specs.Exact.{Makes}
-use Rattle.thy_scheme.specs.Restart.{WritesNothing}
 use Rattle.thy_scheme.specs.Scheme.{IsBooting, Stands, StaysOf}
 use Rattle.thy_thynvm_parts.specs.Design.{thynvm_design, thynvm_parts, is_overlaid, is_promoting}
 use Rattle.thy_thynvm_parts.specs.Scheme.{thynvm_scheme}
@@ -48,7 +42,7 @@ use Rattle.thy_waiting_laws.specs.Scheme.{IsPowered, Stays, is_under_way, item_b
 use Rattle.thy_waiting_laws.proofs.BootLemmas.{below-boots, boots-over, boot-fails-over}
 use Rattle.thy_waiting_laws.proofs.CallLemmas.{merges-over, promotes-over, drains-over, seals-over, engines-over, engine-fails-over, waits-on, waiting-fails}
 use Rattle.thy_waiting_laws.proofs.RunLemmas.{below-stands, neither}
-use Rattle.thy_machine_tests.specs.Calls.{Below, waiting_scheme, new_waiting, with_below, waited, MakesBarrier, TakesItemBelow, TakesTurn, TakesBoot}
+use Rattle.thy_machine_tests.specs.Calls.{Below, waiting_scheme, new_waiting, with_below, MakesBarrier, TakesItemBelow, TakesTurn, TakesBoot}
 
 pub stands-below : (o : Origin) (k : CheckpointMarks) (w : Waiting Below) (n : Device) → Stands waiting_scheme o k w n → Stands thynvm_scheme o k w.below n
 stands-below o k w n stands = below-stands thynvm_scheme lawful applies_nothing o k w n stands
@@ -161,7 +155,7 @@ module _ (b : ℕ) (block : Block) (w t : Waiting Below) (n m : Device) (can : C
     };
   }
 
-  made : MakesStore thynvm_design b block w.below.control n (thynvm_parts.stored b block w.below.control n) (after (thynvm_parts.store_action b block w.below.control) n)
+  made : MakesStore thynvm_design b block w.below.control n (thynvm_parts.stored b block w.below.control n) (after n.writes (thynvm_parts.store_action b block w.below.control) n)
   made = are_parts.storing.store b block w.below.control n can
 
 stores-by : (b : ℕ) (block : Block) (w t : Waiting Below) (n m : Device) → CanStore thynvm_design b w.below.control n → (r : Result Stored NvmError)
@@ -169,9 +163,11 @@ stores-by : (b : ℕ) (block : Block) (w t : Waiting Below) (n m : Device) → C
     → Acts (thynvm_parts.store_action b block w.below.control) (stored thynvm_design b block w.below n) r w.below n t.below m
     → IfOk r (λ stored. HasStored stored b block (holding_of thynvm_design w.below.control n) (holding_of thynvm_design t.below.control m))
 stores-by b block w t n m can (Ok x) answer acts =
+    let action : Action = thynvm_parts.store_action b block w.below.control in
+    let is : m ≡ after n.writes action n = access-is action n m (are_parts.storing.access b block w.below.control) acts.device in
     subst (λ (stored : Stored). HasStored stored b block (holding_of thynvm_design w.below.control n) (holding_of thynvm_design t.below.control m)) (sym answer)
     (subst (λ (s : Below). HasStored (thynvm_parts.store_answer b w.below.control) b block (holding_of thynvm_design w.below.control n) (holding_of thynvm_design s.control m)) (sym acts.control)
-    (subst (λ (d : Device). HasStored (thynvm_parts.store_answer b w.below.control) b block (holding_of thynvm_design w.below.control n) (holding_of thynvm_design (thynvm_parts.stored b block w.below.control n) d)) (sym acts.device)
+    (subst (λ (d : Device). HasStored (thynvm_parts.store_answer b w.below.control) b block (holding_of thynvm_design w.below.control n) (holding_of thynvm_design (thynvm_parts.stored b block w.below.control n) d)) (sym is)
     (are_parts.storing.store b block w.below.control n can).stored))
 stores-by b block w t n m can (Err x) answer acts = tt
 
@@ -186,7 +182,7 @@ stores-then b block w t n m can r answer acts =
 -- the NVM is up afterwards, unless it failed
 pub up-then : {C T : Type 0} (action : Action) (later : C) (r : Result T NvmError) (s : C) (n : Device) (t : C) (m : Device)
     → n.down ≡ false → Acts action later r s n t m → OnOk r (m.down ≡ false)
-up-then action later (Ok x) s n t m up acts = ap (λ (d : Device). d.down) acts.device ∙ down-after action n ∙ up
+up-then action later (Ok x) s n t m up acts = down-after action n m acts.device ∙ up
 up-then _ later (Err x) s n t m up acts = tt
 
 pub down-then : {C T : Type 0} (action : Action) (later : C) (r : Result T NvmError) (s : C) (n : Device) (t : C) (m : Device)
@@ -300,8 +296,7 @@ module _ (o : Origin) (k : CheckpointMarks) (w t : Waiting Below) (n m : Device)
   barrier-on some (Ok x) makes =
       subst (λ (step : EngineStep). Engines waiting_scheme o k step w n t m) (sym makes.answer)
       (subst (λ (v : Waiting Below). Engines waiting_scheme o k Barrier w n v m) (sym makes.scheme)
-      (subst (λ (d : Device). Engines waiting_scheme o k Barrier w n (waited w) d) (sym makes.nvm)
-      (waits-on thynvm_scheme lawful applies_nothing o k w n stands (lt-ltb 0 w.left some))))
+      (waits-on thynvm_scheme lawful applies_nothing o k w n stands m makes.nvm (lt-ltb 0 w.left some)))
   barrier-on some (Err x) makes = tt
 
   barrier-fails : IsFramed n m → (r : Result EngineStep NvmError) → MakesBarrier w n r t m → OnErr r (EngineFails waiting_scheme o k n m)
@@ -386,12 +381,6 @@ module _ (o : Origin) (start : Start) (w t : Waiting Below) (n m : Device) (begi
   boot-fails-on r takes =
       boot-fails-by r
       (boot_fails_then thynvm_design are_parts o start w.below t.below n m r begins (below-boots thynvm_scheme o w n booting) takes.below sound)
-
--- if a checkpoint was found and is not migrated, it writes nothing
-pub boot-writes : {T : Type 0} (start : Start) (w : Waiting Below) (n : Device) (r : Result T NvmError) (old new : ℕ)
-    → Counts (action_of filling_thynvm (state_of start.state) w.below.boot w.below.control) r old new → WritesNothing waiting_scheme w n old new
-boot-writes start w n r old new counts = λ o m boots done rests.
-    writes_nothing filling_thynvm (reading thynvm_layouts) o n m r old new (state_of start.state) w.below.boot w.below.control w.below.boot.stage done rests counts
 
 -- a step of the boot that failed leaves the scheme one of its geometry
 pub boot-stays : (start : Start) (w t : Waiting Below) (n m : Device) (r : Result BootStep NvmError) → TakesBoot start w n r t m

@@ -9,7 +9,7 @@ use Rattle.thy_block.proofs.BasicLemmas.{get_or-replicate_any, room-cut}
 use Rattle.thy_dram.specs.Contents.{Contents, lost}
 use Rattle.thy_dram.proofs.DrawLemmas.{length-over}
 use Rattle.thy_isa.specs.Step.{State as Plain}
-use Rattle.thy_view.specs.Action.{after}
+use Rattle.thy_view.specs.Action.{IsAfter}
 use Rattle.thy_view.proofs.ActionLemmas.{down-after}
 use Rattle.thy_checkpoint.specs.declared.boot_stage.Stage.{Stage}
 use Rattle.thy_checkpoint.specs.declared.boot_stage.Stage.TheVariants.{Reads, Loads, Migrates, Over}
@@ -42,8 +42,8 @@ pub down-step : (s : Plain) (n : Device) (b : Booting) (c : State) (m : Device) 
 down-step s n b c m d e steps = by_stage b.stage steps where
   by_stage : (q : Stage) → StepsAt filling_journal q s n b c m d e → m.down ≡ n.down
   by_stage (Reads r) on = ap (λ (x : Device). x.down) on.device
-  by_stage (Loads r) on = ap (λ (x : Device). x.down) on.device ∙ down-after (round_action (first_writes (first_by filling_journal b.p s)) r) n
-  by_stage (Migrates r) on = ap (λ (x : Device). x.down) on.device ∙ down-after (round_action (renewing filling_journal b) r) n
+  by_stage (Loads r) on = down-after (round_action (first_writes (first_by filling_journal b.p s)) r) n m on.device
+  by_stage (Migrates r) on = down-after (round_action (renewing filling_journal b) r) n m on.device
   by_stage (Over end) on = absurd on
 
 pub same-step : (s : Plain) (n : Device) (b : Booting) (c : State) (m : Device) (d : Booting) (e : State)
@@ -119,14 +119,14 @@ same-item ReleaseItem s = refl
 
 -- an action of the engine leaves parts of one geometry
 pub AreParts-item : (p : Parameters) (s t : State) (e f : Progress) (m n : Device) (cuts : ℕ) → AreParts (parts p s e m cuts)
-    → t ≡ control_next items_journal e s → Fits filling_journal items_journal f t → n ≡ after (action_next filling_journal items_journal e s m) m → IsFramed m n
+    → t ≡ control_next items_journal e s → Fits filling_journal items_journal f t → IsAfter (action_next filling_journal items_journal e s m) m n → IsFramed m n
     → AreParts (parts p t f n cuts)
 AreParts-item p s t e f m n cuts w log fits device frame = record {
   log_p = ap (λ (x : State). x.p) log ∙ same-item (item_of items_journal e s) s ∙ w.log_p;
   fits = fits;
   blocks = w.blocks;
   sized = frame.blocks ∙ w.sized;
-  up = ap (λ (x : Device). x.down) device ∙ down-after (action_next filling_journal items_journal e s m) m ∙ w.up;
+  up = down-after (action_next filling_journal items_journal e s m) m n device ∙ w.up;
   room = HasRoom-framed m n cuts w.room frame;
 }
 

@@ -11,7 +11,7 @@ use Rattle.thy_dram.specs.Contents.{Contents, lost}
 use Rattle.thy_dram.proofs.DrawLemmas.{length-over}
 use Rattle.thy_isa.specs.declared.state.CpuState.{CpuState}
 use Rattle.thy_isa.specs.Step.{State as Plain}
-use Rattle.thy_view.specs.Action.{after}
+use Rattle.thy_view.specs.Action.{IsAfter}
 use Rattle.thy_view.proofs.ActionLemmas.{down-after}
 use Rattle.thy_checkpoint.specs.declared.boot_stage.Stage.{Stage}
 use Rattle.thy_checkpoint.specs.declared.boot_stage.Stage.TheVariants.{Reads, Loads, Migrates, Over}
@@ -48,8 +48,8 @@ pub down-step : (s : Plain) (n : Device) (b : Booting) (c : State) (m : Device) 
 down-step s n b c m d e steps = by_stage b.stage steps where
   by_stage : (q : Stage) → StepsAt filling_shadow q s n b c m d e → m.down ≡ n.down
   by_stage (Reads r) on = ap (λ (x : Device). x.down) on.device
-  by_stage (Loads r) on = ap (λ (x : Device). x.down) on.device ∙ down-after (round_action (first_writes (first_by filling_shadow b.p s)) r) n
-  by_stage (Migrates r) on = ap (λ (x : Device). x.down) on.device ∙ down-after (round_action (renewing filling_shadow b) r) n
+  by_stage (Loads r) on = down-after (round_action (first_writes (first_by filling_shadow b.p s)) r) n m on.device
+  by_stage (Migrates r) on = down-after (round_action (renewing filling_shadow b) r) n m on.device
   by_stage (Over end) on = absurd on
 
 pub same-step : (s : Plain) (n : Device) (b : Booting) (c : State) (m : Device) (d : Booting) (e : State)
@@ -183,11 +183,11 @@ same-item ReleaseItem s = refl
 
 -- an action of the engine leaves parts of one geometry
 pub AreParts-item : (p : Parameters) (s t : State) (e f : Progress) (m n : Device) (cuts : ℕ) → AreParts (parts p s e m cuts)
-    → t ≡ control_next items_shadow e s → Fits filling_shadow items_shadow f t → n ≡ after (action_next filling_shadow items_shadow e s m) m → IsFramed m n
+    → t ≡ control_next items_shadow e s → Fits filling_shadow items_shadow f t → IsAfter (action_next filling_shadow items_shadow e s m) m n → IsFramed m n
     → AreParts (parts p t f n cuts)
 AreParts-item p s t e f m n cuts w pool fits device frame =
     AreParts-on p s t e f m n cuts w (ap (λ (x : State). x.p) pool ∙ same-item (item_of items_shadow e s) s) fits
-    (ap (λ (x : Device). x.down) device ∙ down-after (action_next filling_shadow items_shadow e s m) m) frame
+    (down-after (action_next filling_shadow items_shadow e s m) m n device) frame
 
 -- ---- cuts
 

@@ -102,7 +102,7 @@ pub IsPowered-cut : {M : Type 0} (K : KindOf M) (laws : IsLawful K) → (p : Par
 IsPowered-cut K laws p start m next n new k cuts pick w powers cut some =
     let o : Origin = origin_from p start in
     subst (λ (d : Device). IsPowered K (powered p start next d k (cuts - 1))) (sym cut.device) (record {
-      at_moment = (goes_on_after_cut K laws o k m next n pick new.image w.at_moment powers cut.crash).0;
+      at_moment = (goes_on_after_cut K laws o k m next n pick new.image new.wear w.at_moment powers cut.crash).0;
       one = w.one;
       few = w.few;
       room = room-cut n.left new.image n.left_room cuts w.room some;

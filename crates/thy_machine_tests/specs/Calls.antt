@@ -3,7 +3,7 @@
 use Rattle.std.specs.Prelude.{◌≡◌, ◌<◌, ◌-◌, Result, IfOk, OnOk, OnErr}
 use Rattle.thy_block.specs.declared.parameters.Parameters.{Parameters}
 use Rattle.thy_block.specs.declared.nvm.NvmError.{NvmError}
-use Rattle.thy_block.specs.Device.{Device, HasFailed, settled}
+use Rattle.thy_block.specs.Device.{Device, HasFailedToSettle, IsSettled}
 use Rattle.thy_control.specs.State.{State}
 use Rattle.thy_dram.specs.Contents.{Contents}
 use Rattle.thy_checkpoint.specs.Progress.{Acts, action_next}
@@ -44,9 +44,9 @@ pub record MakesBarrier (w : Waiting Below) (n : Device)
     (result : Result EngineStep NvmError) (t : Waiting Below) (new : Device) : Type 0 where
   pub answer : IfOk result (λ step. step ≡ Barrier)
   pub scheme : OnOk result (t ≡ waited w)
-  pub nvm : OnOk result (new ≡ settled n)
+  pub nvm : OnOk result (IsSettled n new)
   pub kept : OnErr result (t ≡ w)
-  pub err : OnErr result (HasFailed n new)
+  pub err : OnErr result (HasFailedToSettle n new)
 
 -- the scheme below takes its next item; if it is a commit, barriers are left after it
 pub record TakesItemBelow (w : Waiting Below) (n : Device)

@@ -1,9 +1,8 @@
 //! The scheme, and what its calls make of it.
 ghost use Rattle.std.specs.Prelude.{◌≡◌, ◌-◌, ◌<◌, true, false, length, IfOk, OnOk, OnErr};
-ghost use Rattle.thy_block.specs.Device.{HasFailed, IsFramed, CountsFault, block_at, settled};
+ghost use Rattle.thy_block.specs.Device.{HasFailedToSettle, IsFramed, IsSettled, CountsFault, block_at};
 ghost use Rattle.thy_checkpoint.specs.Boot.{IsBoot};
-ghost use Rattle.thy_checkpoint.specs.Counts.{Counts};
-ghost use Rattle.thy_checkpoint.specs.Steps.{CanStep, action_of};
+ghost use Rattle.thy_checkpoint.specs.Steps.{CanStep};
 ghost use Rattle.thy_parts.specs.Seen.{loads_at};
 ghost use Rattle.thy_control.specs.State.{AreSoundTables};
 ghost use Rattle.thy_dram.specs.Contents.{lost};
@@ -82,8 +81,8 @@ fn make_barrier<N: Nvm>(left: u64, nvm: &mut N) -> Result<u64, NvmError>
     requires some { 0 < left }
     requires up { (N.device nvm.old).down ≡ false }
     ensures left { IfOk result (λ rest. rest ≡ left - 1) }
-    ensures settles { OnOk result (N.device nvm.new ≡ settled (N.device nvm.old)) }
-    ensures err { OnErr result (HasFailed (N.device nvm.old) (N.device nvm.new)) }
+    ensures settles { OnOk result (IsSettled (N.device nvm.old) (N.device nvm.new)) }
+    ensures err { OnErr result (HasFailedToSettle (N.device nvm.old) (N.device nvm.new)) }
     ensures frame { IsFramed (N.device nvm.old) (N.device nvm.new) }
     ensures cause { CountsFault result (N.device nvm.old).faults (N.device nvm.new).faults }
 {
@@ -130,7 +129,6 @@ impl WaitingScheme {
             IfOk result (λ block. block ≡ block_at held b) }
         ensures side { OnErr result (thynvm_parts.load_reads self.now.below.control b ≡ true) }
         ensures reads { IsReading result (N.device nvm.old) (N.device nvm.new) }
-        ensures same_writes { N.writes nvm.new ≡ N.writes nvm.old }
     {
         self.below.load_block(b, nvm)
     }
@@ -143,7 +141,6 @@ impl WaitingScheme {
         ensures ok { let held = penults self.now.below.control (N.device nvm.old) in
             IfOk result (λ block. block ≡ block_at held b) }
         ensures reads { IsReading result (N.device nvm.old) (N.device nvm.new) }
-        ensures same_writes { N.writes nvm.new ≡ N.writes nvm.old }
     {
         self.below.load_committed(b, nvm)
     }
@@ -187,7 +184,6 @@ impl WaitingScheme {
             Promotes (with_below later self.old) result self.old self.new }
         ensures some { OnErr result (is_promoting self.old.below.control ≡ true) }
         ensures reads { IsReading result (N.device nvm.old) (N.device nvm.new) }
-        ensures same_writes { N.writes nvm.new ≡ N.writes nvm.old }
     {
         self.below.promote_next(nvm)
     }
@@ -235,8 +231,6 @@ impl WaitingScheme {
         requires up { (N.device nvm.old).down ≡ false }
         ensures takes { TakesBoot start.now self.old (N.device nvm.old) result self.new (N.device nvm.new) }
         ensures sound { AreSoundTables self.new.below.control }
-        ensures writes { let action = action_of filling_thynvm (state_of start.now.state) self.old.below.boot self.old.below.control in
-            Counts action result (N.writes nvm.old) (N.writes nvm.new) }
     {
         let step = self.below.take_boot_step(start, nvm)?;
         self.left = left_booted(&step);

@@ -31,6 +31,8 @@ impl BlockStore<()> for Copying {
 
     ghost loads = { λ a m b n. (b.blocks.items ≡ a.blocks.items) × (b.copies ≡ a.copies) };
 
+    ghost stores = { λ b block stored a m c n. Unit {0} };
+
     ghost stays = { λ a m b n. a.faults ≤ b.faults };
 
     fn load(&mut self, b: u64, _nvm: &mut ()) -> Result<Block, NvmError> {

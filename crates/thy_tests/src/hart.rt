@@ -45,6 +45,8 @@ impl BlockStore<()> for Scarce {
 
     ghost loads = { λ a m b n. (b.blocks.items ≡ a.blocks.items) × (b.copies ≡ a.copies) × (b.page ≡ a.page) };
 
+    ghost stores = { λ b block stored a m c n. Unit {0} };
+
     ghost stays = { λ a m b n. Unit {0} };
 
     fn load(&mut self, b: u64, _nvm: &mut ()) -> Result<Block, NvmError> {
@@ -145,7 +147,7 @@ fn step<S: BlockStore<()>>(
 fn advance(rt: &impl Abort, plain: &mut Plain, hart: &Hart) {
     assert!(rt; plain.state().count < 1 << 62);
     plain.step();
-    expect(rt, *hart.cpu(), cpu_of(plain.state()));
+    expect(rt, hart.cpu(), cpu_of(plain.state()));
 }
 
 /// A block as it is read through the cache.

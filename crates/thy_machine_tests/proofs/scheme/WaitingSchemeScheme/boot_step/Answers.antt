@@ -3,7 +3,7 @@ use Rattle.thy_thynvm_parts.proofs.PartsLemmas.{are_parts}
 use Rattle.thy_thynvm_parts.specs.Scheme.{thynvm_scheme}
 use Rattle.thy_parts.proofs.BootStepLemmas.{may-step}
 use Rattle.thy_waiting_laws.proofs.BootLemmas.{below-boots}
-use Rattle.thy_machine_tests.proofs.CallLemmas.{boots-on, boot-fails-on, boot-stays, boot-writes, boot-made}
+use Rattle.thy_machine_tests.proofs.CallLemmas.{boots-on, boot-fails-on, boot-stays, boot-made}
 use Rattle.thy_machine_tests.proofs.scheme.WaitingSchemeScheme.boot_step.Goals as goal
 
 pub take_boot_step-requires-clause-can : goal.take_boot_step-requires-clause-can
@@ -38,11 +38,6 @@ returns-clause-frame g c = c.take_boot_step.ensures.takes.below.steps.frame
 
 pub returns-clause-cause : goal.returns-clause-cause
 returns-clause-cause g c = c.take_boot_step.ensures.takes.below.steps.cause
-
-pub returns-clause-no_writes : goal.returns-clause-no_writes
-returns-clause-no_writes g c =
-    boot-writes c.args.start.now c.args.self.now (g.N.Nvm.device c.args.nvm.now) c.take_boot_step.result (g.N.Nvm.writes c.args.nvm.now)
-    (g.N.Nvm.writes c.take_boot_step.new.nvm) c.take_boot_step.ensures.writes
 
 pub returns-clause-exact : goal.returns-clause-exact
 returns-clause-exact g c =

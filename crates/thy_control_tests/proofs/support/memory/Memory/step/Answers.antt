@@ -5,7 +5,7 @@ use Rattle.thy_control.specs.State.{State}
 use Rattle.thy_thynvm_parts.specs.Design.{items_thynvm}
 use Rattle.thy_checkpoint.specs.Progress.{Progress, action_next, engine_next}
 use Rattle.thy_thynvm_parts.specs.Filling.{filling_thynvm}
-use Rattle.thy_view.specs.Action.{after}
+use Rattle.thy_view.specs.Action.{IsAfter}
 use Rattle.thy_control_tests.proofs.MemoryLemmas.{IsMemory-item}
 use Rattle.thy_control_tests.proofs.support.memory.Memory.step.Goals as goal
 
@@ -23,4 +23,4 @@ invariant_of-self g c =
     = subst (λ r. OnOk r (f ≡ engine_next filling_thynvm items_thynvm e s)) c.expect.ensures c.step.ensures.engine in
     IsMemory-item c.self.inside.geometry e f s c.step.new.control m n c.self.inside.cuts c.self.invariant c.step.ensures.fits
     (ap (λ (x : Progress). x.p) engine)
-    (subst (λ r. OnOk r (n ≡ after (action_next filling_thynvm items_thynvm e s m) m)) c.expect.ensures c.step.ensures.device) c.step.ensures.frame
+    (subst (λ r. OnOk r (IsAfter (action_next filling_thynvm items_thynvm e s m) m n)) c.expect.ensures c.step.ensures.device) c.step.ensures.frame

@@ -1,6 +1,6 @@
 use Rattle.std.proofs.Common.{◌≡◌, OnOk, subst}
 use Rattle.thy_block.specs.Device.{Device}
-use Rattle.thy_view.specs.Action.{after}
+use Rattle.thy_view.specs.Action.{IsAfter}
 use Rattle.thy_checkpoint.specs.Progress.{Progress, control_next, action_next}
 use Rattle.thy_shadow_parts.specs.State.{State}
 use Rattle.thy_shadow_parts.specs.Filling.{filling_shadow}
@@ -17,7 +17,7 @@ invariant_of-self g c =
     let m : Device = c.step.new.nvm.device in
     let control : t ≡ control_next items_shadow e s
     = subst (λ r. OnOk r (t ≡ control_next items_shadow e s)) c.expect.ensures c.step.ensures.control in
-    let device : m ≡ after (action_next filling_shadow items_shadow e s n) n
-    = subst (λ r. OnOk r (m ≡ after (action_next filling_shadow items_shadow e s n) n)) c.expect.ensures c.step.ensures.device in
+    let device : IsAfter (action_next filling_shadow items_shadow e s n) n m
+    = subst (λ r. OnOk r (IsAfter (action_next filling_shadow items_shadow e s n) n m)) c.expect.ensures c.step.ensures.device in
     AreParts-item c.self.inside.geometry s t e c.step.new.self n m c.self.inside.cuts c.self.invariant control c.step.ensures.fits device
     c.step.ensures.frame
