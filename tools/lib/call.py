@@ -15,12 +15,25 @@ WISHES = {
     "--pcs": "says how often each program counter retired",
     "--state": "says the state after a cycle",
     "--state-at": "says the state at a count of instructions",
+    "--trace": "says which instructions retired, and what each loaded or stored",
+    "--trace-from": "leaves out those below a count of instructions",
+    "--trace-to": "leaves out those above a count of instructions",
     "--causes": "says how many cycles there were of each cause",
     "--epochs": "says the same for each time that an epoch was executed",
     "--wear": "says how many writes each place of the NVM took",
     TORN: "lets a cut tear blocks",
 }
-NUMBERED, OBSERVED_RUNS = ("--state", "--state-at"), ("run", "resume", "bench")
+BOUNDS = ("--trace-from", "--trace-to")
+NUMBERED, OBSERVED_RUNS = ("--state", "--state-at", *BOUNDS), ("run", "resume", "bench")
+
+# The options of sweep, between OUT and the command, that have a value: what each does. `--torn` is one too.
+SWEPT = {
+    "--from": "says the first cycle after which images are tried",
+    "--to": "says the last one",
+    "--step": "leaves out all but every Nth cycle",
+    "--tears": "says by which picks images are drawn",
+    "--all": "tries every image, if a cut can leave at most so many",
+}
 
 # What is missing if a call ends before its command, or before OUT.
 COMMANDS = ", ".join(list(OPERANDS)[:-1]) + f" or {list(OPERANDS)[-1]}"
@@ -31,6 +44,15 @@ def nearest(word, words, dashes=""):
     """Which of some words is nearest to another, as the end of a sentence; nothing where none is near."""
     found = difflib.get_close_matches(word, words, n=1)
     return f"; the nearest is {dashes}{found[0]}" if found else ""
+
+
+def after_sweep(words):
+    """The words of a sweep after OUT and its options, and these with their values."""
+    rest, given = list(words[1:]), {}
+    while rest and rest[0] in (*SWEPT, TORN):
+        option = rest.pop(0)
+        given[option] = rest.pop(0) if rest and option in SWEPT else ""
+    return rest, given
 
 
 class Call:
@@ -73,6 +95,9 @@ class Call:
         if not rest:
             return f"a command is missing: {COMMANDS}"
         if self.command in OPERANDS:
+            bound = next((wish for wish in self.wishes if wish in BOUNDS), "")
+            if bound and "--trace" not in self.wishes:
+                return f"{bound} goes with --trace"
             goes = f"{next(iter(self.wishes), '')} goes with {', '.join(OBSERVED_RUNS[:-1])} or {OBSERVED_RUNS[-1]}"
             return goes if self.wishes and self.command == "plain" else ""
         if self.command in self.wishes:

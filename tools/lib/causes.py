@@ -55,17 +55,24 @@ class Causes:
         return self.evictions_nvm + self.evictions_dram
 
 
-# Numbers that are estimated, as long as `observe` does not count them.
+# Numbers that are estimated, because `observe` does not count them. But of the journal's copies `--causes` says where they went.
 ESTIMATED = frozenset(
     "fills_nvm fills_dram evictions_nvm evictions_dram flushes_nvm flushes_dram promotions_nvm promotions_dram frame_copies "
     "buffer_copies home_copies journalled".split()
 )
 
+JOURNAL_COPIES = ("buffer_copies", "journalled")
+
 NAMES = tuple(Causes.__dataclass_fields__)
 
 
+def is_estimated(name, seen, scheme):
+    """Whether a number of a run is none that `observe` has written."""
+    return name in ESTIMATED and not (name in JOURNAL_COPIES and scheme == "journal" and seen.causes is not None)
+
+
 def causes_of(seen, scheme, pages, console):
-    """The numbers of a run. (A section of `observe` that counts by cause would be read here, and `ESTIMATED` be empty.)"""
+    """The numbers of a run."""
     check_scheme(seen, scheme)
     found = Causes()
     count_boots(found, seen)

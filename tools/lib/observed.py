@@ -6,7 +6,7 @@ import re
 from dataclasses import dataclass
 from typing import Optional
 
-from lib import counted, report, states
+from lib import counted, report, states, traced
 from lib.report import NUMBER
 
 EVENT = re.compile(rf"{NUMBER} (0|[1-9][0-9]*|-) ([a-z].*)")
@@ -65,6 +65,7 @@ class Observed:
     totals: dict  # first word: name: number; what stands directly behind the first word has the name ""
     pcs: Optional[dict] = None  # program counter: how often it retired; None if this was not asked for
     states: Optional[dict] = None  # head line of a state that was asked for: the state, or None if there was none
+    trace: Optional[list] = None  # the instructions that retired, in order; None if they were not asked for
     causes: Optional[dict] = None  # cause: how many cycles it has; None if this was not asked for
     epochs: Optional[list] = None  # the stretches of cycles; None if they were not asked for
     wear: Optional[dict] = None  # place: how many writes it took; None if this was not asked for
@@ -109,7 +110,7 @@ def pcs_of(lines):
 
 def is_head(line):
     """Whether a line is the head line of what was asked for in addition."""
-    return line == PCS or line in counted.HEADS or bool(states.HEAD.fullmatch(line))
+    return line in (PCS, traced.HEAD, *counted.HEADS) or bool(states.HEAD.fullmatch(line))
 
 
 def sections_of(lines):
@@ -130,7 +131,7 @@ def states_of(sections):
     """The states among sections, by their head lines."""
     found = {}
     for head, lines in sections.items():
-        if head != PCS and head not in counted.HEADS:
+        if states.HEAD.fullmatch(head):
             try:
                 found[head] = states.state_of(lines)
             except states.Fault as fault:
@@ -178,8 +179,9 @@ def read(lines):
     if cycles != sorted(cycles) or (cycles and cycles[-1] > totals["cycles"][""] + 1):
         raise Fault("the cycles of its events do not rise, or go past the last one")
     try:
+        trace = traced.read(sections, totals)
         counts = counted.read(sections, totals)
-    except counted.Fault as fault:
+    except (counted.Fault, traced.Fault) as fault:
         raise Fault(str(fault)) from None
     more = {head: counts.get(head) for head in counted.HEADS}
-    return Observed(events, trap[0] if trap else None, totals, pcs, states_of(sections), **more)
+    return Observed(events, trap[0] if trap else None, totals, pcs, states_of(sections), trace, **more)

@@ -1,5 +1,6 @@
 """Pictures by matplotlib, in the sizes of a paper: of a column, or of a page."""
 
+import logging
 import os
 import subprocess
 import sys
@@ -110,6 +111,8 @@ def axes(size, height, rows=1, columns=1, **more):
     """A figure of a width, with axes in rows and columns: an array of rows."""
     import matplotlib
 
+    # The first picture of a user looks for fonts; if that takes long, it would be said on standard error.
+    logging.getLogger("matplotlib.font_manager").setLevel(logging.ERROR)
     matplotlib.use("agg")
     matplotlib.rcParams.update(STYLE)
     from matplotlib import pyplot

@@ -135,6 +135,14 @@ hart 1 10004
 memory 10000 16
 """
 
+# A trace with a store and a load, and at last an instruction of hart 1 that could not be fetched.
+TRACE = """trace
+703 0 10000 1297
+708 0 10004 52a223 11004 4 11000
+711 0 10008 52c303 11005 1 10
+1850 1 10012 -
+"""
+
 # A run of one store, beside whose checkpoint the program ends, with what is counted of it. (Its writes are put on two places.)
 STORED = """\
 700 0 commit 0 overlapped 0

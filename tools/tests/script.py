@@ -98,18 +98,18 @@ class ScriptTest(CopyTest):
 
     def setUp(self):
         super().setUp()
-        for name in ("thynvm", "observe"):
+        for name in ("thynvm", "observe", "sweep"):
             self.file(f"crates/{name}/src/main.rt")
             os.makedirs(self.path(f"crates/{name}/out"))
-        self.file("crates.txt", "one:\ntwo: one\nthynvm: two\nobserve: two\n")
+        self.file("crates.txt", "one:\ntwo: one\nthynvm: two\nobserve: two\nsweep: two\n")
         for name in ("thynvm", "CHANGELOG.md"):
             shutil.copy(repository.path(name), self.path(name))
         self.script("bin/rt", RT)
         self.script("program", QUICK)
 
-    def install(self, program):
-        """Puts a program where the built one stands: a file, or the text of a script."""
-        place = self.path("crates/thynvm/out/thynvm")
+    def install(self, program, name="thynvm"):
+        """Puts a program where the built one of this name stands: a file, or the text of a script."""
+        place = self.path(f"crates/{name}/out/{name}")
         if program.startswith("#!"):
             self.script(place, program)
         else:

@@ -136,6 +136,13 @@ class CopyTest(ToolTest):
         """Copies the examples there."""
         shutil.copytree(repository.path("examples"), self.path("examples"))
 
+    def crates(self):
+        """Copies the code of the programs there that write under OUT."""
+        for name in ("observe", "sweep"):
+            shutil.copytree(repository.path("crates", name, "src"), self.path("crates", name, "src"))
+        self.file("crates.txt", "observe:\nsweep:\n")
+        self.file("HANDLES", "Handles allowed: none.\n")
+
     def beside(self, **programs):
         """An environment in whose PATH these scripts stand first."""
         for name, text in programs.items():

@@ -123,8 +123,20 @@ class ByCause(unittest.TestCase):
         # A cut fell before the last three copies, so more went into the journal than home.
         numbers = [523, 150, 0, 3, 0, 2, 0, 6, 3, 0, 10, 2, 2, 5, 500, 8, 0, 20]
         section = "".join(f"{name} {number}\n" for name, number in zip(counted.NAMES, numbers))
-        seen = found(f"{JOURNAL}causes\n{section}", "journal")
-        self.assertEqual((seen.journalled, seen.buffer_copies), (6, 3))
+        whole = f"{JOURNAL}causes\n{section}"
+        numbers = found(whole, "journal")
+        self.assertEqual((numbers.journalled, numbers.buffer_copies), (6, 3))
+        # So of the journal these two are counted, and nothing else that is estimated.
+        for text_, scheme, name, estimated in (
+            (whole, "journal", "journalled", False),
+            (whole, "journal", "buffer_copies", False),
+            (whole, "journal", "fills_nvm", True),
+            (whole, "thynvm", "buffer_copies", True),
+            (JOURNAL, "journal", "journalled", True),
+            (JOURNAL, "journal", "commits", False),
+        ):
+            seen = observed.read(text_.splitlines())
+            self.assertEqual(causes.is_estimated(name, seen, scheme), estimated, (name, scheme))
 
     def test_shadow_paging(self):
         # A frame that was filled within instructions was for an eviction, though only 20 writes landed in cycles of their own.

@@ -230,7 +230,7 @@ class Explain(ToolTest):
         no_out = f"observe needs OUT, the name under which text is put, and then a call{USAGE}"
         for words in (["observe"], ["observe", "out"], ["observe", "run", "a"], ["--quiet", "observe"]):
             self.explains(no_out, "2", *words, line="usage")
-        for option in ("--pcs", "--torn"):
+        for option in ("--pcs", "--trace", "--torn"):
             self.explains(f"{option} goes with run, resume or bench{USAGE}", "2", "observe", "out", option, "plain", "a", line="usage")
             self.explains(f"{option} stands twice{USAGE}", "2", "observe", "out", option, option, "run", "a", line="usage")
             self.explains(no_out, "2", "observe", "out", option, line="usage")
@@ -239,6 +239,17 @@ class Explain(ToolTest):
         twice = ("observe", "out", "--state-at", "7", "--torn", "--state-at", "8", "run", "a")
         self.explains(f"--state-at stands twice{USAGE}", "2", *twice, line="usage")
         self.explains("--state takes 1 to 19 decimal digits", "2", "observe", "out", "--state", "x", "run", "a", line="word state")
+        bound = ("observe", "out", "--trace-from", "7", "run", "a")
+        self.explains(f"--trace-from goes with --trace{USAGE}", "2", *bound, line="usage")
+        self.explains(f"--trace-to needs a number{USAGE}", "2", "observe", "out", "--trace", "--trace-to", line="usage")
+        bound = ("observe", "out", "--trace", "--trace-from", "0", "--trace-to", "x", "run", "a")
+        self.explains("--trace-to takes 1 to 19 decimal digits", "2", *bound, line="word trace-to")
+        bound = ("observe", "out", "--trace-from", "0", "--trace", "run", "a")
+        said = "--trace-from has to be above 0: the first instruction that retires has the count 1"
+        self.explains(said, "2", *bound, line="value trace-from 0")
+        bound = ("observe", "out", "--trace-from", "8", "--trace", "--trace-to", "7", "run", "a")
+        said = "--trace-to may not be below --trace-from, and has to be above 0"
+        self.explains(said, "2", *bound, line="value trace-to 7")
         self.explains("make has no run to observe", "2", "observe", "out", "make", "7", "x", line="usage")
         self.explains("make has no run to observe", "2", "observe", "out", "--pcs", "make", "7", "x", line="usage")
         said = "compare has three runs: observe run, once with each --scheme"

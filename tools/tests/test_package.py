@@ -15,8 +15,8 @@ import unittest
 
 from lib import repository
 from lib.packaging import completions, contents, manual, pages
-from lib.repository import OBSERVER, PROGRAM
-from tests.support import CopyTest, ToolTest, needs, needs_program
+from lib.repository import OBSERVER, PROGRAM, SWEEPER
+from tests.support import CopyTest, ToolTest, needs, needs_sweeper
 
 KIT = "a-kit logic 0123"
 
@@ -67,8 +67,8 @@ class Making(CopyTest):
         self.file("CHANGELOG.md", "# Changelog\n\n## 2 March 2031\n\n## 1 March 2031\n")
         self.file("README.md", "Read.\n")
         self.file("docs/A.md", "A\n")
-        self.file("crates.txt", "# a comment\nlow:\nthynvm: low\nobserve: low\nother:\n")
-        for crate in ("low", "thynvm", "observe", "other"):
+        self.file("crates.txt", "# a comment\nlow:\nthynvm: low\nobserve: low\nsweep: low\nother:\n")
+        for crate in ("low", "thynvm", "observe", "sweep", "other"):
             self.file(f"crates/{crate}/src/main.rt")
         self.script("examples/one/one.elf", "elf")
         self.file("few/x")
@@ -168,7 +168,8 @@ class Making(CopyTest):
             self.assertEqual(file.read(), page)
         for name in ("usr/share/bash-completion/completions/thynvm", "usr/share/zsh/vendor-completions/_thynvm"):
             self.assertTrue(os.path.isfile(self.path("root", name)))
-        self.assertEqual(stat.S_IMODE(os.stat(self.path("root/usr/lib/thynvm/bin/observe")).st_mode), 0o755)
+        for name in ("thynvm", "observe", "sweep"):
+            self.assertEqual(stat.S_IMODE(os.stat(self.path("root/usr/lib/thynvm/bin", name)).st_mode), 0o755)
         self.assertFalse(glob.glob(self.path("root/usr/share/doc/thynvm/copyright")))
 
     def test_changes_that_are_not_committed(self):
@@ -185,15 +186,17 @@ class Making(CopyTest):
         self.assertTrue(os.path.exists(self.path("made/thynvm_2031.03.02_arm64.deb")))
 
     def test_programs_that_are_not_built(self):
-        os.remove(self.path("crates/observe/out/observe"))
-        self.refused(f"there is no program {self.path('crates/observe/out/observe')}: `rt ci` builds it")
+        for name in ("sweep", "observe"):
+            path = self.path("crates", name, "out", name)
+            os.remove(path)
+            self.refused(f"there is no program {path}: `rt ci` builds it")
 
     def test_programs_that_are_too_old(self):
         later = time.time() + 120
         os.utime(self.path("crates/low/src/main.rt"), (later, later))
         self.refused(f"the program {self.path('crates/thynvm/out/thynvm')} is older than its crate low: `rt ci` builds it anew")
         # The script notes when it began to build, and goes by that.
-        for name in ("thynvm", "observe"):
+        for name in contents.PROGRAMS:
             path = self.file(f"crates/{name}/out/{name}.built", "")
             os.utime(path, (later + 1, later + 1))
         self.made()
@@ -208,6 +211,7 @@ class Making(CopyTest):
         self.file("crates/observe/out/observe.built", "low: other\nobserve: low\n")
         self.refused(said.format(self.path("crates/observe/out/observe")))
         self.file("crates/observe/out/observe.built", "low:\nobserve: low\n")
+        self.file("crates/sweep/out/sweep.built", "low:\nsweep: low\n")
         self.made()
 
     def test_programs_that_are_none(self):
@@ -385,18 +389,32 @@ class Completion(ToolTest):
         return done.stdout.split("\n")[:-1] if done.stdout != "\n" else []
 
     def test_commands(self):
-        self.assertCountEqual(self.proposed(""), [*self.COMMANDS, "build", "observe", "--quiet", "--version", "--help"])
+        self.assertCountEqual(self.proposed(""), [*self.COMMANDS, "build", "observe", "sweep", "--quiet", "--version", "--help"])
         self.assertCountEqual(self.proposed("re"), ["resume"])
         self.assertCountEqual(self.proposed("--quiet", ""), [*self.COMMANDS, "observe"])
         self.assertCountEqual(self.proposed("observe", "ot"), ["other"])
         counts = ["--causes", "--epochs", "--wear"]
-        wishes = ["--pcs", "--state", "--state-at", *counts, "--torn"]
+        traces = ["--trace", "--trace-from", "--trace-to"]
+        wishes = ["--pcs", "--state", "--state-at", *traces, *counts, "--torn"]
         self.assertCountEqual(self.proposed("observe", "out", ""), [*wishes, "run", "resume", "bench", "plain"])
         self.assertCountEqual(self.proposed("observe", "out", "--pcs", ""), [*wishes[1:], "run", "resume", "bench"])
-        left = ["--state-at", *counts, "run", "resume", "bench"]
+        left = ["--state-at", *traces, *counts, "run", "resume", "bench"]
         self.assertCountEqual(self.proposed("observe", "out", "--torn", "--state", "7", "--pcs", ""), left)
         self.assertEqual(self.proposed("observe", "out", "--state", ""), [])
+        self.assertEqual(self.proposed("observe", "out", "--trace", "--trace-to", ""), [])
         self.assertCountEqual(self.proposed("--quiet", "observe", "out", "r"), ["run", "resume"])
+
+    def test_commands_of_sweep(self):
+        self.assertEqual(self.proposed("sw"), ["sweep"])
+        self.assertEqual(self.proposed("sweep", "ot"), ["other"])
+        swept, runs = ["--from", "--to", "--step", "--tears", "--all"], ["run", "resume", "bench"]
+        self.assertCountEqual(self.proposed("sweep", "out", ""), [*swept, "--torn", *runs])
+        self.assertEqual(self.proposed("sweep", "out", "--from", ""), [])
+        self.assertCountEqual(self.proposed("sweep", "out", "--from", "9", "--torn", ""), [*swept[1:], *runs])
+        self.assertEqual(self.proposed("sweep", "out", "--torn", "bench", "7", "--ep"), ["--epoch"])
+        self.assertEqual(self.proposed("sweep", "out", "--pcs", ""), [])
+        self.assertEqual(self.proposed("--quiet", "sw"), [])
+        self.assertEqual(self.proposed("--quiet", "sweep", "out", ""), [])
 
     def test_options(self):
         self.assertCountEqual(self.proposed("plain", "-"), self.PLAIN)
@@ -409,6 +427,7 @@ class Completion(ToolTest):
         self.assertEqual(self.proposed("observe", "out", "--pcs", "bench", "7", "--ga"), ["--gap"])
         self.assertEqual(self.proposed("observe", "out", "--torn", "bench", "7", "--ep"), ["--epoch"])
         self.assertEqual(self.proposed("observe", "out", "--state-at", "9", "bench", "7", "--ga"), ["--gap"])
+        self.assertEqual(self.proposed("observe", "out", "--trace", "--trace-from", "9", "bench", "7", "--ga"), ["--gap"])
         self.assertEqual(self.proposed("make", "7", "-"), [])
 
     def test_values(self):
@@ -445,6 +464,15 @@ class Completion(ToolTest):
             ("thynvm observe out --pcs pl", "thynvm observe out --pcs pl"),
             ("thynvm observe out --state 7 be", "thynvm observe out --state 7 bench "),
             ("thynvm observe out --state 7 --state-", "thynvm observe out --state 7 --state-at "),
+            ("thynvm sw", "thynvm sweep "),
+            ("thynvm sweep ot", "thynvm sweep other "),
+            ("thynvm sweep out --st", "thynvm sweep out --step "),
+            ("thynvm sweep out --all 9 --f", "thynvm sweep out --all 9 --from "),
+            ("thynvm sweep out --torn be", "thynvm sweep out --torn bench "),
+            ("thynvm sweep out pl", "thynvm sweep out pl"),
+            ("thynvm sweep out --pc", "thynvm sweep out --pc"),
+            ("thynvm --quiet sw", "thynvm --quiet sw"),
+            ("thynvm --quiet sweep ou", "thynvm --quiet sweep ou"),
             ("thynvm run --sch", "thynvm run --scheme="),
             ("thynvm run --scheme=jo", "thynvm run --scheme=journal "),
             ("thynvm run --scheme sh", "thynvm run --scheme shadow "),
@@ -483,7 +511,7 @@ zle -N ask; zle -N zle-line-init ask
 
 
 @needs("git", "dpkg-deb")
-@needs_program(PROGRAM, OBSERVER)
+@needs_sweeper
 class Installed(unittest.TestCase):
     """The built programs, packaged from a copy of the repository, in an empty folder, without rt and without an environment."""
 
@@ -497,7 +525,7 @@ class Installed(unittest.TestCase):
                 os.makedirs(os.path.dirname(os.path.join(source, path)), exist_ok=True)
                 shutil.copy(repository.path(path), os.path.join(source, path))
         commit(source)
-        for program in (PROGRAM, OBSERVER):
+        for program in (PROGRAM, OBSERVER, SWEEPER):
             place = os.path.join(source, os.path.relpath(program, repository.TOP))
             os.makedirs(os.path.dirname(place))
             shutil.copy(program, place)
@@ -571,6 +599,17 @@ class Installed(unittest.TestCase):
             self.assertEqual((status, output, report.splitlines()[-1]), (0, "", "exit 7 at 3"))
             with open(out) as file:
                 self.assertEqual(file.readline(), "700 0 commit 0 overlapped 0\n")
+
+    def test_swept(self):
+        for command, folder in self.calls():
+            out = os.path.join(self.folder, "out")
+            words = ["--from", "701", "--to", "702", "run", "examples/exit_seven/exit_seven.elf", "--pages", "8", "--btt", "8", "--ptt", "8"]
+            status, output, report = self.call(*command, "sweep", out, *words, folder=folder)
+            self.assertEqual((status, output, report), (0, "", "commit 0 overlapped 0\n"))
+            with open(out) as file:
+                lines = file.readlines()
+            self.assertTrue(lines[0].startswith("cycles 701 "), lines[0])
+            self.assertEqual(lines[-1], "to 702\n")
 
     def test_bad_input(self):
         with open(os.path.join(self.folder, "bad"), "w") as file:

@@ -34,7 +34,9 @@ GNU = "[ $1 != --version ] || { echo GNU parallel; exit; }\n"
 PARALLEL = GNU + 'echo "$@" >>{words}; while read -r line; do sh -c "$line"; done'
 
 
-class Study(CopyTest):
+class Studies(CopyTest):
+    """A repository in which programs and parallel are scripts of known answers."""
+
     tool = "study"
 
     def setUp(self):
@@ -55,6 +57,8 @@ class Study(CopyTest):
     def keys(self, *names):
         return [tuple(row[name] for name in names) for row in self.rows()]
 
+
+class Study(Studies):
     def test_help(self):
         self.has_help()
         for words in (["--help"], ["draw", "--help"]):
@@ -272,6 +276,82 @@ class Study(CopyTest):
         self.refuses("No such file or directory", "--made", 3, self.path("none", "table"), env=self.with_parallel)
         os.remove(self.path(OBSERVER))
         self.refuses("a call of ./thynvm observe builds it", *words, env=self.with_parallel)
+
+
+# What rt answers for each case: the text of CONTROLLER.md's example, but with an epoch of 5 a fault, and with one of 7 another
+# output than that of the plain machine.
+TRIES = """
+for cases; do :; done
+for args in "$cases"/*.args; do
+    name=$(basename "$args" .args)
+    case $(tr '\\n' ' ' <"$args") in
+    *'--epoch 5 '*) printf 'checked: fault here\\ncase=%s run=fault proved=no\\n' "$name" >&2; continue ;;
+    *'--epoch 7 '*) printf '== %s\\nHello' "$name" ;;
+    *) printf '== %s\\n' "$name" ;;
+    esac
+    printf 'exit 7 at 80\\ncase=%s run=ended status=0 runners=1 proved=no\\n' "$name" >&2
+    printf '\\nobserved\\n'
+    cat {example}
+done
+"""
+
+PATCH = """--- a/crates.txt
++++ b/crates.txt
+@@ -1,2 +1,3 @@
++# Draft.
+ observe:
+ sweep:
+"""
+
+
+class Drafts(Studies):
+    """Studies of a draft."""
+
+    def setUp(self):
+        super().setUp()
+        self.crates()
+        self.draft = os.path.dirname(self.file("mine/0.patch", PATCH))
+        self.tried = self.beside(parallel=PARALLEL.replace("{words}", self.names["words"]), rt=TRIES.format(**self.names))
+
+    def test_rows_of_a_draft(self):
+        words = ["--program", "a.elf", "--epoch", "3,5", "--pages", 8, "--keep", self.path("outs"), "--draft", self.draft]
+        self.prints("", *words, self.path("table"), env=self.tried)
+        self.assertEqual(
+            self.keys("epoch", "scheme", "status", "end", "instructions", "writes"),
+            [("3", "mine", "0", "exit 7 at 80", "80", "531"), ("5", "mine", "-", "checked: fault here", "80", "-")],
+        )
+        # Of the causes the scheme is thynvm's.
+        self.assertEqual(self.rows()[0]["cause:boot_writes"], "522")
+        self.assertEqual(self.read("outs/a.elf-3-8-mine.out"), written.EXAMPLE)
+        self.assertEqual(self.read("outs/a.elf-5-8-mine.out"), "")
+        # The rows of the program stand in the same table.
+        self.prints("", *words[:4], "--pages", 8, "--scheme", "journal", "--resume", self.path("table"), env=self.with_parallel)
+        self.assertEqual([keys[0] for keys in self.keys("scheme")], ["journal", "journal", "mine", "mine"])
+
+    def test_the_crates_as_they_are(self):
+        words = ["--made", 3, "--scheme", "shadow", "--pages", 8, "--draft", "-"]
+        self.prints("", *words, self.path("table"), env=self.tried)
+        self.assertEqual(self.keys("program", "scheme", "instructions"), [("made 3", "unproved", "80")])
+        os.remove(self.path("crates/thynvm/out/thynvm"))
+        done = self.call(*words, self.path("other"), env=self.tried)
+        self.assertEqual(done.err, "study: the program is not built: no run is compared with the plain machine\n")
+        self.assertEqual((done.out, done.status), ("", 0))
+
+    def test_another_end(self):
+        words = ["--program", "a.elf", "--epoch", "3,7", "--pages", 8, "--draft", self.draft, self.path("table")]
+        self.refuses("these end or print otherwise than on the plain machine: a.elf 7 8 mine", *words, status=1, env=self.tried)
+        self.assertEqual(self.keys("status"), [("0",), ("0",)])
+
+    def test_refusals(self):
+        words, table = ["--made", 3, "--draft"], self.path("table")
+        self.refuses("with --draft one scheme runs", *words, self.draft, "--scheme", "thynvm,shadow", table, env=self.tried)
+        self.refuses("there is no patch in the folder none", *words, "none", table, env=self.tried)
+        self.refuses("rt, the command of the Rattle kit, is not in PATH", *words, self.draft, table, env=self.without())
+        self.assertFalse(os.path.exists(table))
+        wrong = self.beside(rt="echo 'error: wrong' >&2; exit 2")
+        self.refuses("rt try has made 0 of 1 runs: error: wrong", *words, self.draft, table, env=wrong)
+        self.file("mine/0.patch", PATCH.replace(" observe", " other"))
+        self.refuses("mine/0.patch does not fit the crates: ", *words, self.draft, "--resume", table, env=self.tried)
 
 
 # A table of two programs with two epochs and two schemes. A run came to no end.

@@ -39,9 +39,10 @@ class AtOnce(ScriptTest):
         calls += (["observe", "out", "rum"], ["observe", "run", "file"], ["observe", "out", "observe", "out", "run"])
         calls += (["--quiet"], ["--quiet", "build"], ["--quiet", "--version"], ["--quiet", "--quiet", "run"])
         calls += (["build", "now"], ["observe", "out", "--quiet", "run"])
-        for option in ("--pcs", "--torn", "--causes", "--epochs", "--wear"):
+        for option in ("--pcs", "--trace", "--torn", "--causes", "--epochs", "--wear"):
             calls += (["observe", "out", option], ["observe", "out", option, option, "run"], [option, "run", "file"])
-        calls += (["observe", "out", "--pcs", "--torn", "--pcs", "run"],)
+        calls += (["observe", "out", "--pcs", "--torn", "--pcs", "run"], ["observe", "out", "--trace", "--trace-from"])
+        calls += (["observe", "out", "--trace-to", "7", "--trace", "--trace-to", "8", "run"], ["--trace-to", "7", "run", "file"])
         calls += (["observe", "out", "--state"], ["observe", "out", "--state", "7"], ["observe", "out", "--state", "run", "file"])
         calls += (["observe", "out", "--state-at", "7", "--pcs", "--state-at", "8", "run"], ["--state", "7", "run", "file"])
         for words in calls:

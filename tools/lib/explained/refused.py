@@ -50,6 +50,10 @@ def help_with_bound(call, number):
 
 def help_with_value(call, field, number):
     """The range of an option whose value is outside of it."""
+    if field == "trace-from":
+        return "--trace-from has to be above 0: the first instruction that retires has the count 1"
+    if field == "trace-to":
+        return "--trace-to may not be below --trace-from, and has to be above 0"
     if field == "n":
         return f"N is 0 to {program.MOST_NUMBER}"
     bound = help_with_bound(call, int(number)) if field == "cuts" and not call.fault else ""

@@ -53,11 +53,12 @@ class Inbox:
 
 
 class Screen:
-    """What is written to, and the line below it that says how far the run is. `waits_for_keys` if something may be typed, so
-    that there is no line before the report's first."""
+    """What is written to, and the line below it that says how far the run is, as `how_far` says of what was told. `waits_for_keys`
+    if something may be typed, so that there is no line before the report's first."""
 
-    def __init__(self, waits_for_keys):
+    def __init__(self, waits_for_keys, how_far):
         self.line, self.at_start, self.when = Line(), True, 0
+        self.how_far = how_far
         self.waits_for_keys, self.began = waits_for_keys, time.monotonic()
 
     @property
@@ -77,7 +78,7 @@ class Screen:
             return
         if (self.line.is_drawn and seconds - self.when < PACE) or not has_terminal():
             return
-        self.line.draw(told.how_far(seconds))
+        self.line.draw(self.how_far(told, seconds))
         self.when = seconds
 
 
@@ -89,13 +90,13 @@ def has_terminal():
 
 
 class Run:
-    """A program that is to run. If `quiet`, the events of its report are left out. If `shown`, it is shown how far it is. If
-    `both`, its output comes here too, as it goes where the report goes. What is known at the end: the status or the signal by
+    """A program that is to run. If `quiet`, the events of its report are left out. If `shown`, it is shown how far it is, as
+    `how_far` says. If `both`, its output comes here too, as it goes where the report goes. What is known at the end: the status or the signal by
     which it ended, the bytes of its report, and all that it has written."""
 
-    def __init__(self, command, quiet, shown, both, waits_for_keys):
+    def __init__(self, command, quiet, shown, both, waits_for_keys, how_far=Told.how_far):
         self.command, self.quiet, self.shown, self.both = command, quiet, shown, both
-        self.told, self.screen = Told(), Screen(waits_for_keys)
+        self.told, self.screen = Told(), Screen(waits_for_keys, how_far)
         self.child, self.early = None, []
         self.status = self.signal = self.size = 0
         self.written, self.rest = None, b""

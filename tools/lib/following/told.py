@@ -11,6 +11,9 @@ from lib.report import Committed, Compared, Cut, Digest, Ended, NUMBER, Reloaded
 # none began.
 EVENT, RUN, END, CLOSING = "event", "run", "end", "closing"
 
+# How long a bar is.
+BAR = 20
+
 # The line of `make`, which has no run.
 MADE = re.compile(rf"made {NUMBER} {NUMBER}")
 
@@ -74,6 +77,13 @@ class Told:
         spent = self.latest - (self.first or self.latest)
         rate = f", {self.done / spent:.0f} a second" if spent > 0.1 else ""
         return f"epoch {self.epoch} ended at {self.count} instructions{rate}, {seconds:.0f} s"
+
+    def bar(self, seconds, pages, last):
+        """The same with the cycles of an observed or swept run with so many pages, which ends at the latest after the last one."""
+        cycles = min(self.least_cycles(pages), last)
+        full = BAR * cycles // last
+        far = f"epoch {self.epoch} ended" if self.epoch is not None else self.line or "no line of the report yet"
+        return f"[{'#' * full}{' ' * (BAR - full)}] at least {cycles} of {last} cycles, {far}, {seconds:.0f} s"
 
     def least_cycles(self, pages):
         """The cycles that the run had at least: those up to the last cut; one for each block, if the program was loaded since;

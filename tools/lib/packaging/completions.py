@@ -1,14 +1,18 @@
 """Completion in bash and zsh, made from the table of the program's options and from the help page."""
 
 from lib import program
-from lib.call import NUMBERED, OBSERVED_RUNS, WISHES
+from lib.call import NUMBERED, OBSERVED_RUNS, SWEPT, TORN, WISHES
 from lib.packaging import pages
 
 # The first words that the script has beside the commands.
-FIRST = ("build", "observe", "--quiet", "--version", "--help")
+FIRST = ("build", "observe", "sweep", "--quiet", "--version", "--help")
 
 # The commands that `observe OUT` takes.
 OBSERVED = (*OBSERVED_RUNS, "plain")
+
+# The options of `sweep OUT`, and which of these and of those of `observe OUT` a value follows.
+SWEPT_BY = {**SWEPT, TORN: WISHES[TORN]}
+VALUED = (*NUMBERED, *SWEPT)
 
 # The operands that are no files.
 NUMBERS = ("N",)
@@ -65,7 +69,7 @@ _thynvm_value() {
 }
 
 _thynvm() {
-    local words current=${COMP_WORDS[COMP_CWORD]} at=0 before='@FIRST@ @COMMANDS@' command options operands word option='' wishes
+    local words current=${COMP_WORDS[COMP_CWORD]} at=0 before='@FIRST@ @COMMANDS@' command options operands word option='' wishes=''
     COMPREPLY=()
     _thynvm_words
     if [[ $current == = ]]; then
@@ -76,11 +80,16 @@ _thynvm() {
         at=1 before='observe @COMMANDS@'
     fi
     if [[ ${words[at]} == observe ]]; then
+        wishes=' @WISHES@ ' before='@WISHES@ @OBSERVED@'
+    elif [[ ${words[at]} == sweep && $at = 0 ]]; then
+        wishes=' @SWEPT@ ' before='@SWEPT@ @RUNS@'
+    fi
+    if [[ -n $wishes ]]; then
         [[ ${#words[@]} != $((at + 1)) ]] || { _thynvm_files; return; }
-        at=$((at + 2)) wishes=' @WISHES@ ' before='@WISHES@ @OBSERVED@'
+        at=$((at + 2))
         while [[ ${#words[@]} -gt $at && $wishes == *" ${words[at]} "* ]]; do
             wishes=${wishes/ ${words[at]} / } before="${wishes/ ${words[at]} / }@RUNS@"
-            [[ ${words[at]} != @NUMBERED@ ]] || at=$((at + 1))
+            [[ ${words[at]} != @VALUED@ ]] || at=$((at + 1))
             at=$((at + 1))
         done
         [[ ${#words[@]} -ge $at ]] || return
@@ -136,7 +145,8 @@ def bash():
         "COMMANDS": " ".join(program.OPERANDS),
         "OBSERVED": " ".join(OBSERVED),
         "WISHES": " ".join(WISHES),
-        "NUMBERED": f"@({'|'.join(NUMBERED)})",
+        "SWEPT": " ".join(SWEPT_BY),
+        "VALUED": f"@({'|'.join(VALUED)})",
         "RUNS": " ".join(OBSERVED_RUNS),
         "NUMBERS": " | ".join(NUMBERS),
         "OPTIONS": options,
@@ -150,7 +160,7 @@ ZSH = r"""#compdef thynvm
 _thynvm() {
     local at=2
     local word
-    local -a first commands observed runs wishes
+    local -a first commands observed runs wishes swept
     first=(
 @FIRST@    )
     commands=(
@@ -161,15 +171,20 @@ _thynvm() {
 @RUNS@    )
     wishes=(
 @WISHES@    )
+    swept=(
+@SWEPT@    )
     if ((CURRENT > 2)) && [[ $words[2] == --quiet ]]; then
         at=3 first=("${(@M)first:#observe:*}")
     fi
-    if ((CURRENT > at)) && [[ $words[at] == observe ]]; then
+    if ((CURRENT > 2)) && [[ $words[2] == sweep ]]; then
+        wishes=("${(@)swept}") observed=("${(@)runs}")
+    fi
+    if ((CURRENT > at)) && [[ $words[at] == observe || $words[2] == sweep ]]; then
         ((CURRENT == at + 1)) && { _files; return }
         at=$((at + 2)) first=("${(@)wishes}") commands=("${(@)observed}") word=$words[at]
         while ((CURRENT > at)) && [[ -n ${(M)first:#$word:*} ]]; do
             first=("${(@)first:#$word:*}") commands=("${(@)runs}")
-            [[ $word == @NUMBERED@ ]] && at=$((at + 1))
+            [[ $word == @VALUED@ ]] && at=$((at + 1))
             at=$((at + 1)) word=$words[at]
         done
         ((CURRENT >= at)) || return
@@ -225,7 +240,8 @@ def zsh(page):
         "OBSERVED": described(OBSERVED, said),
         "RUNS": described(OBSERVED_RUNS, said),
         "WISHES": described(WISHES, {**said, **WISHES}),
-        "NUMBERED": f"({'|'.join(NUMBERED)})",
+        "SWEPT": described(SWEPT_BY, {**said, **SWEPT_BY}),
+        "VALUED": f"({'|'.join(VALUED)})",
         "OPTIONS": options,
     }
     return filled_in(ZSH, parts)

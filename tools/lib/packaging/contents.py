@@ -15,14 +15,14 @@ from lib.packaging import completions, manual
 
 # The scripts that a package does not have: they are for work on the repository, or need the kit.
 FOR_DEVELOPERS = (
-    *("cycle-cost", "evaluation", "examples", "first-run", "hostile", "instructions", "kills", "lint", "package", "progress"),
-    *("quick-rt", "random", "readers", "test", "tutorial", "unproved", "version-one"),
+    *("cycle-cost", "draft", "evaluation", "examples", "first-run", "forgetful", "hostile", "instructions", "kills", "lint"),
+    *("package", "progress", "quick-rt", "random", "readers", "test", "tutorial", "unproved", "version-one"),
 )
 
 # Of tools/lib what only these need.
-THEIR_MODULES = ("evaluations", "hostile_calls", "lint", "packaging", "random_runs")
+THEIR_MODULES = ("evaluations", "forgetful", "hostile_calls", "lint", "packaging", "random_runs")
 
-PROGRAMS = ("thynvm", "observe")
+PROGRAMS = ("thynvm", "observe", "sweep")
 
 # What stands in the package as it does in the repository, beside scripts: files, and folders with all that they have.
 FILES = ("thynvm", "README.md", "CHANGELOG.md", "CONTRIBUTING.md")

@@ -9,6 +9,7 @@ import sys
 import tempfile
 
 from lib import causes, observed, report
+from lib.drafts import copies, tries
 from lib.options import Refused
 from lib.repository import OBSERVER, PROGRAM
 
@@ -22,6 +23,9 @@ COLUMNS = ("status", "end", "instructions", *TOTALS, *CAUSES)
 
 # What stands for a number that there is not.
 NONE = "-"
+
+# How many seconds a run of a draft may take. One that goes on for ever is better ended by --limit.
+SECONDS = 3600
 
 
 class Failed(Refused):
@@ -111,6 +115,24 @@ def made(jobs, words, script):
                     continue
     if status != 0:
         raise Failed(f"parallel has ended with {status}")
+
+
+def drafted(jobs, draft):
+    """What each of some jobs came to without proof, with the crates as a draft changes them."""
+    with tempfile.TemporaryDirectory(prefix="draft-") as folder:
+        copies.copied(folder, copies.patches_of(draft))
+        done = tries.tried(folder, "observe", [job["call"] for job in jobs], SECONDS)
+    for job, one in zip(jobs, done):
+        lines = one.report.decode(errors="replace").splitlines()
+        status = NONE if one.status is None else one.status
+        printed, out = (text.decode(errors="replace") for text in (one.printed, one.text or b""))
+        yield {"job": job["job"], "status": status, "end": end_of(lines), "printed": printed, "out": out}
+
+
+def differs(answer, plain, plan):
+    """Whether a run has ended with another line than the plain machine, or printed something else. (`bench` prints nothing.)"""
+    prints = plan.call[0] == "run" and answer["printed"] != plain["printed"]
+    return answer["status"] in (0, 1) and (prints or answer["end"] != plain["end"])
 
 
 def cells_of(answer, instructions, settings):
