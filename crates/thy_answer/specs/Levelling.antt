@@ -31,13 +31,13 @@ pub record IsFoundAs (gap : ℕ) (handed seen : Device) : Type 0 where
   pub fits : seen.fits ≡ handed.fits
   pub whole : seen.whole ≡ handed.whole
 
--- what the run sees says how often a line has moved; the registers that the device holds, if it is up, are what this count
--- makes of the first ones, while the count has not saturated
-pub record HasMoved (handed seen : Device) : Type 0 where
-  pub every : ℕ
+-- What the run sees says how often a line has moved: at each barrier before which the option's number of writes was made since the
+-- last move. The registers that the device holds, if it is up, are what this count makes of the first ones, while the count has not
+-- saturated.
+pub record HasMoved (gap : ℕ) (handed seen : Device) : Type 0 where
   pub since : ℕ
   pub moves : ℕ
-  pub says : seen.wear ≡ Levels every since moves
+  pub says : seen.wear ≡ Levels gap since moves
   pub registers : handed.down ≡ false → moves < 2 ^ 64 - 1
       → registers_in handed.image ≡ moved_times moves (unmoved (length seen.image))
 
@@ -56,7 +56,7 @@ pub record IsLeftAs (gap : ℕ) (handed seen : Device) : Type 0 where
   pub fits : seen.fits ≡ handed.fits
   pub whole : seen.whole ≡ handed.whole
   -- with a gap over a device whose barriers make no write of their own
-  pub moved : gap ≢ 0 → handed.wear ≡ Plain → HasMoved handed seen
+  pub moved : gap ≢ 0 → handed.wear ≡ Plain → HasMoved gap handed seen
 
 -- ---- what follows for the device that is handed back, without the one that the run saw
 

@@ -9,7 +9,7 @@ use Rattle.thy_block.specs.declared.nvm.FitError.{FitError}
 use Rattle.thy_block.specs.declared.nvm.FitError.TheVariants.{Failed, Memory}
 use Rattle.thy_block.specs.declared.outside.PutError.{PutError}
 use Rattle.thy_block.specs.Counts.{next}
-use Rattle.thy_block.specs.Device.{Device, Crash, HasFailedToFit, IsCut, lent_by, Wear}
+use Rattle.thy_block.specs.Device.{Device, Crash, HasFailedToFit, IsCut, lent_by, Wear, Plain, Levels, Unsaid}
 use Rattle.thy_block.specs.Outside.{Stock}
 use Rattle.thy_block.proofs.LoanLemmas.{framed_within, same_loan}
 use Rattle.thy_block.specs.Flat.{flat}
@@ -21,9 +21,11 @@ use Rattle.thy_gap.specs.Seen.{unmapped}
 use Rattle.thy_gap.proofs.SeenLemmas.{length-unmap}
 use Rattle.thy_layout.specs.Decoded.{Decoded}
 use Rattle.thy_text.specs.Event.{Event, Scheme, EpochEnd, Commit, Cut, Restart, Reload, Ended}
+use Rattle.thy_run.proofs.EveryLemmas.{every-cut}
 use Rattle.thy_view.specs.Kind.{KindOf}
 use Rattle.thy_view.specs.Origin.{Origin}
 use Rattle.thy_view.specs.Safe.{ceiling}
+use Rattle.thy_run.specs.Every.{every_of}
 use Rattle.thy_run.specs.Cuts.{cuts_among}
 use Rattle.thy_run.specs.Images.{Found, found, HasLeft, AllFit}
 use Rattle.thy_run.specs.Laws.{Promise, found_at_start}
@@ -87,14 +89,24 @@ IsFoundAs-levelled gap every since moves name n some = record { direct = λ none
 crash_lent : (name : GName) (n : Device) (g : List Block) → Crash n g → Crash (lent_by name n) g
 crash_lent name n g c = record { same_length = c.same_length; each = c.each }
 
+-- over a plain device a gap says after how many writes it moves a line; so it does so as often as it said before
+pub every-levelled : (w v : Wear) (every since moves before some many : ℕ) → w ≡ Plain
+    → every_of (wear_over w every since moves) ≡ every_of (wear_over v before some many) → every ≡ before
+every-levelled Plain Plain every since moves before some many plain same = cc
+every-levelled Plain (Levels e s m) every since moves before some many plain same = absurd (cc)
+every-levelled Plain Unsaid every since moves before some many plain same = absurd (cc)
+every-levelled (Levels e s m) v every since moves before some many plain same = absurd (cc)
+every-levelled Unsaid v every since moves before some many plain same = absurd (cc)
+
 pub IsLeftAs-levelled : (gap every since moves : ℕ) (name : GName) (r : Registers) (n : Device) → 0 < gap
     → 0 < length (looks every since moves r (lent_by name n)).image
     → ImageMeansSeen (lent_by name n) (looks every since moves r (lent_by name n))
     → CrashMeansSeen (lent_by name n) (looks every since moves r (lent_by name n))
     → LeftMeansSeen (lent_by name n) (looks every since moves r (lent_by name n))
     → RegistersMeanMoves (lent_by name n) (looks every since moves r (lent_by name n)) moves
+    → (n.wear ≡ Plain → every ≡ gap)
     → IsLeftAs gap n (looks every since moves r (lent_by name n))
-IsLeftAs-levelled gap every since moves name r n some lines image crash left moved =
+IsLeftAs-levelled gap every since moves name r n some lines image crash left moved gaps =
     let fitted : (r.lines == 0) ≡ false = ne_eqb r.lines 0 (λ e. omega (arith, e, lines, length-unmap r n.image)) in
     record {
       direct = λ none. absurd (omega (arith, none, some));
@@ -109,10 +121,9 @@ IsLeftAs-levelled gap every since moves name r n some lines image crash left mov
       fits = refl;
       whole = refl;
       moved = λ more plain. record {
-        every = every;
         since = since;
         moves = moves;
-        says = ap (λ (w : Wear). wear_over w every since moves) plain;
+        says = ap (λ (w : Wear). wear_over w every since moves) plain ∙ ap (λ (e : ℕ). Levels e since moves) (gaps plain);
         registers = λ up few. moved lines up few;
       };
     }
@@ -227,14 +238,14 @@ RunOverSeen-seen K has_seen source job before program after found left ran obser
 -- ---- blocks and loans
 
 stayed_saved : (name : Option (List ℕ)) (due : Bool) (c : Config) (stood left : Device) (old new : Stock) (why : Option PutError) → SavesUnder name due c stood left old new why → HasStayed stood left
-stayed_saved (Some name) true c stood left old new why h = record { blocks = h.0.crash.same_length; lent = ap (λ (n : Device). n.lent) h.0.device }
-stayed_saved (Some name) false c stood left old new why h = record { blocks = ap (λ (n : Device). length n.image) h.0; lent = ap (λ (n : Device). n.lent) h.0 }
-stayed_saved None true c stood left old new why h = record { blocks = ap (λ (n : Device). length n.image) h.0; lent = ap (λ (n : Device). n.lent) h.0 }
-stayed_saved None false c stood left old new why h = record { blocks = ap (λ (n : Device). length n.image) h.0; lent = ap (λ (n : Device). n.lent) h.0 }
+stayed_saved (Some name) true c stood left old new why h = record { blocks = h.0.crash.same_length; lent = ap (λ (n : Device). n.lent) h.0.device; every = every-cut stood.down stood.wear left.wear h.0.wear }
+stayed_saved (Some name) false c stood left old new why h = record { blocks = ap (λ (n : Device). length n.image) h.0; lent = ap (λ (n : Device). n.lent) h.0; every = ap (λ (n : Device). every_of n.wear) h.0 }
+stayed_saved None true c stood left old new why h = record { blocks = ap (λ (n : Device). length n.image) h.0; lent = ap (λ (n : Device). n.lent) h.0; every = ap (λ (n : Device). every_of n.wear) h.0 }
+stayed_saved None false c stood left old new why h = record { blocks = ap (λ (n : Device). length n.image) h.0; lent = ap (λ (n : Device). n.lent) h.0; every = ap (λ (n : Device). every_of n.wear) h.0 }
 
 -- a run and a save leave a device with the same number of blocks, reached by the same loans
 pub HasStayed-ran : {M : Type 0} (K : KindOf M) (o : Origin) (given : Given) (cycles : ℕ) (events : List Event) (name : Option (List ℕ)) (due : Bool) (c : Config) (stood left : Device) (old new : Stock) (why : Option PutError)
     → Promise K o given cycles events stood → SavesUnder name due c stood left old new why → HasStayed given.fitted left
 HasStayed-ran K o given cycles events name due c stood left old new why promise saved =
     let last : HasStayed stood left = stayed_saved name due c stood left old new why saved in
-    record { blocks = last.blocks ∙ promise.room.blocks; lent = last.lent ∙ promise.room.lent }
+    record { blocks = last.blocks ∙ promise.room.blocks; lent = last.lent ∙ promise.room.lent; every = last.every ∙ promise.room.every }

@@ -5,6 +5,7 @@ use Rattle.thy_block.specs.declared.nvm.FitError.{FitError}
 use Rattle.thy_block.specs.declared.nvm.Shape.{Shape}
 use Rattle.thy_block.specs.Device.{Device, HasFailedToFit, fitted}
 use Rattle.thy_block.specs.Outside.{Stock}
+use Rattle.thy_run.specs.Every.{every_of}
 use Rattle.thy_run.specs.Cuts.{cuts_among}
 use Rattle.thy_run.specs.Going.{origin_of, IsPlanned}
 use Rattle.thy_run.specs.declared.plan.Plan.{Plan}
@@ -42,10 +43,12 @@ pub record IsPlanOf (source : ProgramSource) (job : Job) (stock : Stock) (p : Pl
 abbrev pub shape_of : {M : Type 0} → KindOf M → Plan → Shape
 shape_of K p = record { blocks = K.blocks p.geometry; queue = p.geometry.nvmq; cuts = length p.config.cuts }
 
--- a device has the same number of blocks as before, and is reached by the same loans
+-- a device has the same number of blocks as before, is reached by the same loans, and moves a block after the same number of writes
+-- if it levels
 pub record HasStayed (old new : Device) : Type 0 where
   pub blocks : length new.image ≡ length old.image
   pub lent : new.lent ≡ old.lent
+  pub every : every_of new.wear ≡ every_of old.wear
 
 -- ---- runs of a plan
 

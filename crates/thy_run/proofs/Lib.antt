@@ -1,3 +1,4 @@
+pub mod EveryLemmas
 pub mod StepFrames
 pub mod Fitting
 pub mod FittingLaws

@@ -1,11 +1,13 @@
 -- A device keeps the picks of the cuts that fell, is fitted no second time, and so keeps its size and its room.
 use Rattle.std.proofs.Common.{◌≡◌, ℕ, zero, suc, ◌+◌, Bool, true, false, MatchBool, List, [], ◌∷◌, ◌++◌, length, sym, ◌∙◌, ap, subst, arith}
 use Rattle.thy_block.specs.Device.{Device, IsFramed, cut_to}
+use Rattle.thy_run.proofs.EveryLemmas.{every-cut}
 use Rattle.thy_view.specs.Kind.{KindOf}
 use Rattle.thy_view.specs.Origin.{Origin}
+use Rattle.thy_run.specs.Every.{every_of}
 use Rattle.thy_run.specs.Laws.{torn}
 use Rattle.thy_run.specs.World.{World, Given, TakesStep, is_due, IsCutOff, tear, Ran}
-use Rattle.thy_run.proofs.StepFrames.{TakesStep-framed}
+use Rattle.thy_run.proofs.StepFrames.{TakesStep-every, TakesStep-framed}
 
 -- the device keeps the picks of the first cuts, and what it was fitted with
 pub record StaysFitted (given : Given) (passed : ℕ) (n : Device) : Type 0 where
@@ -16,9 +18,11 @@ pub record StaysFitted (given : Given) (passed : ℕ) (n : Device) : Type 0 wher
   pub queue_room : n.queue_room ≡ given.fitted.queue_room
   pub lent : n.lent ≡ given.fitted.lent
   pub whole : n.whole ≡ given.fitted.whole
+  pub every : every_of n.wear ≡ every_of given.fitted.wear
 
-pub StaysFitted-framed : (given : Given) (passed : ℕ) (old new : Device) → IsFramed old new → StaysFitted given passed old → StaysFitted given passed new
-StaysFitted-framed given passed old new f h = record {
+pub StaysFitted-framed : (given : Given) (passed : ℕ) (old new : Device) → IsFramed old new → every_of new.wear ≡ every_of old.wear
+    → StaysFitted given passed old → StaysFitted given passed new
+StaysFitted-framed given passed old new f every h = record {
   picks = f.picks ∙ h.picks;
   fits = f.fits ∙ h.fits;
   blocks = f.blocks ∙ h.blocks;
@@ -26,12 +30,13 @@ StaysFitted-framed given passed old new f h = record {
   queue_room = f.queue_room ∙ h.queue_room;
   lent = f.lent ∙ h.lent;
   whole = f.whole ∙ h.whole;
+  every = every ∙ h.every;
 }
 
 pub StaysFitted-step : {M : Type 0} (K : KindOf M) (o : Origin) (given : Given) (w x : World M) → TakesStep K o w x → StaysFitted given w.passed w.device → StaysFitted given x.passed x.device
 StaysFitted-step {M = M} K o given w x step h =
     subst (λ k. StaysFitted given k x.device) (sym (ap (λ (y : World M). y.passed) step.next_is))
-    (StaysFitted-framed given w.passed w.device x.device (TakesStep-framed K o w x step) h)
+    (StaysFitted-framed given w.passed w.device x.device (TakesStep-framed K o w x step) (TakesStep-every K o w x step) h)
 
 keeps_by : {M : Type 0} (K : KindOf M) (o : Origin) (given : Given) (w x next : World M) → TakesStep K o w x → StaysFitted given w.passed w.device
     → (b : Bool) → MatchBool b (IsCutOff K o (tear given.config.tears x.passed) x next) (next ≡ x) → StaysFitted given next.passed next.device
@@ -47,6 +52,7 @@ keeps_by {M = M} K o given w x next step h true cut =
       queue_room = ap (λ (n : Device). n.queue_room) device ∙ here.queue_room;
       lent = ap (λ (n : Device). n.lent) device ∙ here.lent;
       whole = ap (λ (n : Device). n.whole) device ∙ here.whole;
+      every = every-cut x.device.down x.device.wear next.device.wear cut.cut.wear ∙ here.every;
     }
 keeps_by {M = M} K o given w x next step h false is =
     subst (λ (y : World M). StaysFitted given y.passed y.device) (sym is) (StaysFitted-step K o given w x step h)
@@ -61,6 +67,7 @@ StaysFitted-ran {M = M} K o given zero w first = record {
   queue_room = ap (λ (n : Device). n.queue_room) first.device;
   lent = ap (λ (n : Device). n.lent) first.device;
   whole = ap (λ (n : Device). n.whole) first.device;
+  every = ap (λ (n : Device). every_of n.wear) first.device;
 }
 StaysFitted-ran {M = M} K o given (suc k) w (before, ran, cycle) =
     keeps_by K o given before cycle.between w cycle.steps (StaysFitted-ran K o given k before ran) (is_due K o given.config.cuts cycle.between) cycle.cut

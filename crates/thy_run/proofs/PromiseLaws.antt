@@ -15,7 +15,9 @@ use Rattle.thy_view.specs.Origin.{Origin}
 use Rattle.thy_layout.specs.Decoded.{Decoded}
 use Rattle.thy_view.specs.Safe.{ceiling, Safe}
 use Rattle.thy_view.specs.Views.{doubt_of}
+use Rattle.thy_run.proofs.EveryLemmas.{every-failed}
 use Rattle.thy_view.proofs.SafeLemmas.{Safe-failed}
+use Rattle.thy_run.specs.Every.{every_of}
 use Rattle.thy_run.specs.Cuts.{is_end, has_ended, cuts_among, numbered, last_cuttable, cuts_up_to}
 use Rattle.thy_run.specs.Images.{Found, HasLeft, AllFit}
 use Rattle.thy_run.specs.Laws.{course_of, marks_at, first_marks, marks_of, found_at_start, torn, IsSafe, LeavesRoom, Promise, RunKeepsPromise}
@@ -38,7 +40,7 @@ use Rattle.thy_run.proofs.StrideLaws.{AllStride-part, Strode, strode_step, strod
 use Rattle.thy_run.proofs.WorldLaws.{Coheres, Listed, Good, listed_going, events_uncut, fits_before, leads_before, reported_before, Coheres-stepped, Good-ran, cycles-ran}
 use Rattle.thy_block.proofs.RangeLemmas.{epoch_least}
 use Rattle.thy_block.proofs.BasicLemmas.{first_empty}
-use Rattle.thy_run.proofs.StepFrames.{TakesStep-framed}
+use Rattle.thy_run.proofs.StepFrames.{TakesStep-every, TakesStep-framed}
 
 -- ---- lists
 
@@ -85,6 +87,7 @@ leaves_room given passed events n stays few left cuts = record {
   queue_room = stays.queue_room;
   lent = stays.lent;
   whole = stays.whole;
+  every = stays.every;
 }
 
 module _ {M : Type 0} (K : KindOf M) (o : Origin) (given : Given) (w : World M) (least : 1 ≤ o.geometry.epoch) (g : Good K o given.config.cuts w) (keeps : StaysFitted given w.passed w.device)
@@ -125,7 +128,8 @@ module _ {M : Type 0} (K : KindOf M) (o : Origin) (given : Given) (w : World M) 
         cuts_listed = p.cuts_listed;
         picks_listed = f.framed.picks ∙ p.picks_listed;
         fits_stay = f.framed.fits ∙ keeps.fits;
-        room = leaves_room given w.passed w.events n (StaysFitted-framed given w.passed w.device n f.framed keeps) g.listed.few (ap length left ∙ g.stands.left) fit.1;
+        room = leaves_room given w.passed w.events n (StaysFitted-framed given w.passed w.device n f.framed
+            (every-failed f.leaves.acted.failed.action w.device n f.leaves.acted.failed.failed) keeps) g.listed.few (ap length left ∙ g.stands.left) fit.1;
         safe_at_return =
             let action = f.leaves.acted.failed.action in
             IsSafe-fault K.decode (line o w) (seen K o w) m action n g.stands.fits g.stands.leads f.leaves.safe;
@@ -147,10 +151,10 @@ module _ {M : Type 0} (K : KindOf M) (o : Origin) (given : Given) (w : World M) 
       first_empty (cuts_among part) (cuts_among rest) (sym (cuts_among-append part rest) ∙ ap cuts_among (sym whole) ∙ events_uncut (line o next) w.fresh (seen K o w) step.r.did (seen K o next) (w.cycles + 1)) in
       let left_next : next.device.left ≡ w.device.left = (TakesStep-framed K o w next step).left in
       let left : n.left ≡ next.device.left = elim device as (λ _. n.left ≡ next.device.left) [ inl e ↦ ap (λ (x : Device). x.left) e | inr f ↦ f.framed.left ] in
-      let at_next : StaysFitted given w.passed next.device = StaysFitted-framed given w.passed w.device next.device (TakesStep-framed K o w next step) keeps in
+      let at_next : StaysFitted given w.passed next.device = StaysFitted-framed given w.passed w.device next.device (TakesStep-framed K o w next step) (TakesStep-every K o w next step) keeps in
       let kept : StaysFitted given w.passed n = elim device as (λ _. StaysFitted given w.passed n) [
         | inl e ↦ subst (StaysFitted given w.passed) (sym e) at_next
-        | inr f ↦ StaysFitted-framed given w.passed next.device n f.framed at_next
+        | inr f ↦ StaysFitted-framed given w.passed next.device n f.framed (ap every_of f.failed.counts.wear) at_next
       ] in
       let fit = cuts_fit given.config.cuts w.cycles w (listed_going K o given.config.cuts w g step.going) in
       let same_cuts : cuts_among (w.events ++ part) ≡ cuts_among w.events =

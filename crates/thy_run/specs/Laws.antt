@@ -15,6 +15,7 @@ use Rattle.thy_view.specs.Origin.{Origin, at, IsOrigin}
 use Rattle.thy_view.specs.WithTurns.{with_turns}
 use Rattle.thy_view.specs.Booting.{found_first}
 use Rattle.thy_view.specs.Safe.{ceiling}
+use Rattle.thy_run.specs.Every.{every_of}
 use Rattle.thy_run.specs.Cuts.{cuts_among, numbered, cuts_up_to, last_cuttable}
 use Rattle.thy_run.specs.Images.{Found, found, HasLeft, AllFit}
 use Rattle.thy_run.specs.Progress.{IsSoonOver, IsPaced}
@@ -63,8 +64,9 @@ torn tears zero = []
 torn tears (suc k) = torn tears k ++ tear tears k ∷ []
 
 -- The device that a run leaves has the number of blocks and the room in its queue that it had after its fit, its blocks
--- land whole if they did so then, and it is reached by the same loans. It has kept an image for each cut, and no more
--- than cuts are listed, and has the room for images that it was fitted with.
+-- land whole if they did so then, and it is reached by the same loans. If it levels, it moves a block after the same number of
+-- writes. It has kept an image for each cut, and no more than cuts are listed, and has the room for images that it was fitted
+-- with.
 pub record LeavesRoom (given : Given) (events : List Event) (n : Device) : Type 0 where
   pub blocks : length n.image ≡ length given.fitted.image
   pub kept : length n.left ≡ length (cuts_among events)
@@ -73,6 +75,7 @@ pub record LeavesRoom (given : Given) (events : List Event) (n : Device) : Type 
   pub queue_room : n.queue_room ≡ given.fitted.queue_room
   pub lent : n.lent ≡ given.fitted.lent
   pub whole : n.whole ≡ given.fitted.whole
+  pub every : every_of n.wear ≡ every_of given.fitted.wear
 
 -- What is promised of a run. Its events are lawful. Each cut left one image, and the restarts are what these images
 -- mean. Its cuts and their picks are the listed ones. The device was not fitted again, has room for one more cut, and

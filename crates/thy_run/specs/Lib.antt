@@ -5,6 +5,7 @@ pub mod Unfinished
 pub mod Due
 pub mod Progress
 pub mod Strides
+pub mod Every
 pub mod Laws
 pub mod Sending
 pub mod Watching

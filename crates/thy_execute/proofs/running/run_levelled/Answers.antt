@@ -3,16 +3,18 @@ use Rattle.std.specs.Borrow.{GName}
 use Rattle.thy_base.specs.declared.config.Config.{Config}
 use Rattle.thy_block.specs.declared.nvm.FitError.{FitError}
 use Rattle.thy_block.specs.declared.nvm.Shape.{Shape}
-use Rattle.thy_block.specs.Device.{Device, HasFailedToFit, fitted, lent_by}
+use Rattle.thy_block.specs.Device.{Device, HasFailedToFit, Plain, fitted, lent_by}
 use Rattle.thy_gap.specs.Levelled.{looks}
 use Rattle.thy_gap.proofs.SeenLemmas.{length-unmap}
+use Rattle.thy_run.proofs.EveryLemmas.{every-unworn}
 use Rattle.thy_answer.proofs.LawLemmas.{some_blocks}
 use Rattle.thy_answer.specs.Answering.{Outside, outside, shape_for}
 use Rattle.thy_answer.specs.Levelling.{IsFoundAs, IsLeftAs}
 use Rattle.thy_answer.specs.Kept.{named}
-use Rattle.thy_execute.proofs.LevellingLemmas.{IsFoundAs-levelled, IsLeftAs-levelled, RunOverSeen-seen, failed_within, same_loan_failed}
+use Rattle.thy_execute.proofs.LevellingLemmas.{IsFoundAs-levelled, IsLeftAs-levelled, RunOverSeen-seen, every-levelled, failed_within, same_loan_failed}
 use Rattle.thy_execute.proofs.PlanLemmas.{fitted_for_plan, shape_planned}
 use Rattle.thy_execute.proofs.running.run_levelled.Goals as goal
+use Rattle.thy_run.specs.Every.{every_of}
 
 pub fit-requires-clause-blocks : goal.fit-requires-clause-blocks
 fit-requires-clause-blocks g c =
@@ -82,10 +84,17 @@ returns-in-Ok-clause-runs g c = λ job names p.
     subst (λ x. IsFoundAs job.config.gap (g.N.Nvm.device x) found) (ap (λ l. l.inner.now) c.over-lines.ensures)
     (subst (λ r. IsFoundAs job.config.gap (g.N.Nvm.device first.now) (looks c.over-lines.result.every c.over-lines.result.since c.over-lines.result.moves r (lent_by first.ghost_name (g.N.Nvm.device first.now)))) (sym (ap (λ l. l.registers) c.over-lines.ensures))
     (IsFoundAs-levelled job.config.gap c.over-lines.result.every c.over-lines.result.since c.over-lines.result.moves first.ghost_name (g.N.Nvm.device first.now) some)) in
+    let every : every_of left.wear ≡ every_of found.wear
+    = c.run_fitted-ran.ensures.stays.every ∙ ap (λ (n : Device). every_of n.wear) c.in-Ok.ensures.ok ∙ every-unworn found.wear in
+    let gaps : (g.N.Nvm.device last.now).wear ≡ Plain → c.run_fitted-ran.new.nvm.every ≡ job.config.gap
+    = λ plain.
+    every-levelled (g.N.Nvm.device last.now).wear (g.N.Nvm.device first.now).wear c.run_fitted-ran.new.nvm.every c.run_fitted-ran.new.nvm.since
+    c.run_fitted-ran.new.nvm.moves c.over-lines.result.every c.over-lines.result.since c.over-lines.result.moves plain every
+    ∙ ap (λ l. l.every) c.over-lines.ensures ∙ ap (λ (x : Config). x.gap) p.config in
     let is_left : IsLeftAs job.config.gap after.device left =
     subst (λ x. IsLeftAs job.config.gap (g.N.Nvm.device x) left) (sym stands)
     (IsLeftAs-levelled job.config.gap c.run_fitted-ran.new.nvm.every c.run_fitted-ran.new.nvm.since c.run_fitted-ran.new.nvm.moves last.ghost_name c.run_fitted-ran.new.nvm.registers (g.N.Nvm.device last.now) some lines
     c.recall_meaning.ensures.image c.recall_meaning.ensures.crash c.recall_meaning.ensures.left
-    c.recall_meaning.ensures.moves) in
+    c.recall_meaning.ensures.moves gaps) in
     RunOverSeen-seen K g.O.Observer.has_seen (named c.args.source) job before p.program after found left c.run_fitted-ran.result c.run_fitted-ran.new.observer is_found is_left
     (c.run_fitted-ran.ensures.runs job c.args.blocks.items found names p fit)
