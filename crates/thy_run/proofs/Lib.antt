@@ -21,6 +21,7 @@ pub mod BusyLaws
 pub mod SoonLaws
 pub mod StrideLaws
 pub mod PickLaws
+pub mod PicksLemmas
 pub mod PromiseLaws
 pub mod AlikeLaws
 pub mod ConsoleLaws

@@ -24,7 +24,7 @@ use Rattle.thy_run.specs.Due.{IsQuiet, AreQuietBelow}
 use Rattle.thy_run.specs.Going.{origin_of, given_of, turns_then, world_at, reporting_of, IsPlanned, GoesOn, HasDrawn, HasRoomToList, IsStepped, Passes}
 use Rattle.thy_run.specs.Laws.{released_of}
 use Rattle.thy_run.specs.Promises.{HasStepped}
-use Rattle.thy_run.specs.Quiet.{IsWatched, IsLed, LeadsQuietly, IsQuietCycle, IsPaused, RunsQuietly}
+use Rattle.thy_run.specs.Quiet.{IsRowEnd, IsWatched, IsLed, LeadsQuietly, IsQuietCycle, IsPaused, RunsQuietly}
 use Rattle.thy_run.specs.Rounds.{Running, RunEndsAt, ending_of}
 use Rattle.thy_run.specs.Seeing.{Watched, RunEndsSeen}
 use Rattle.thy_run.specs.declared.ending.Ending.{Ending}
@@ -195,6 +195,14 @@ AreQuietBelow-on cuts p q below uncut fresh h a cycle few =
       later = fresh ∙ w.later;
       uncut = subst (λ (k : ℕ). (nat_lt k (length cuts) && slice_index cuts k == cycle) ≡ false) (sym uncut) w.uncut;
     }
+
+-- a row can begin below this cycle, also once quiet cycles are done
+pub IsRowEnd-on : {M : Type 0} (plan : Plan) (p q : Progress M) (below end : ℕ) → q.passed ≡ p.passed → q.fresh ≡ p.fresh → AreQuietBelow plan.config.cuts p below
+    → ((k : ℕ) → k < end → k + 5 ≤ plan.geometry.limit) → ((k : ℕ) → k < end → k + 5 < below) → IsRowEnd plan q end
+IsRowEnd-on plan p q below end uncut fresh h limit room = record {
+  limit = limit;
+  quiet = λ k l a cycle few. AreQuietBelow-on plan.config.cuts p q below uncut fresh h a cycle (omega (arith, few, room k l));
+}
 
 -- sinks that had taken all that they had to get, and were given nothing in quiet cycles, have taken it all
 pub Running-led : {M O : Type 0} (K : KindOf M) (has_seen : O → List Taken → Type 0) (plan : Plan) (fitted : Device) (p q : Progress M) (n m : Device) (k now : ℕ) (turns : List ℕ) (o : O) (t0 t1 r0 r1 : Stream)

@@ -3,6 +3,7 @@ pub mod Cuts
 pub mod Images
 pub mod Unfinished
 pub mod Due
+pub mod Picks
 pub mod Progress
 pub mod Strides
 pub mod Every

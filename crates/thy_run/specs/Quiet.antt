@@ -8,7 +8,7 @@ use Rattle.thy_run.specs.declared.plan.Plan.{Plan}
 use Rattle.thy_run.specs.declared.progress.Progress.{Progress}
 use Rattle.thy_run.specs.declared.quiet.Pause.{Pause}
 use Rattle.thy_run.specs.declared.quiet.Pause.TheVariants.{Limit, Steps, Stuck}
-use Rattle.thy_run.specs.Due.{IsQuiet}
+use Rattle.thy_run.specs.Due.{IsQuiet, AreQuietBelow}
 use Rattle.thy_run.specs.Going.{GoesOn, HasDrawn, IsStepped, IsStuck}
 use Rattle.thy_run.specs.Seeing.{Watched}
 use Rattle.thy_run.specs.Watching.{Taken, Sees, taken}
@@ -36,6 +36,11 @@ abbrev pub LeadsQuietly : {M O : Type 0} → KindOf M → (O → List Taken → 
 LeadsQuietly K has_seen plan p q n done now old_o new_o =
     (fitted : Device) (turns : List ℕ) → GoesOn K plan fitted p n done turns
     → Watched K has_seen plan fitted p n done turns old_o → IsLed K has_seen plan fitted p q n done now new_o
+
+-- a row that begins below this cycle has five cycles before the limit, and each of them in which a hart advances is quiet
+pub record IsRowEnd {M : Type 0} (plan : Plan) (p : Progress M) (end : ℕ) : Type 0 where
+  pub limit : (k : ℕ) → k < end → k + 5 ≤ plan.geometry.limit
+  pub quiet : (k : ℕ) → k < end → AreQuietBelow plan.config.cuts p (k + 6)
 
 -- the next cycle is not quiet: its step from q has something to report, or failed; or none is left
 abbrev pub StopsAt : {M : Type 0} → KindOf M → Plan → Progress M → Progress M → Device → Device → ℕ → List ℕ → Pause → Type 0

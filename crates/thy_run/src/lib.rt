@@ -13,6 +13,7 @@ mod gather;
 mod laws;
 mod note;
 mod observer;
+mod picks;
 mod plan;
 mod progress;
 mod quiet;

@@ -1,18 +1,18 @@
 //! Cycles with nothing to report, one after another. Their loop knows of no sink, so it is made once for a machine, a
 //! device and an observer, and what it calls becomes part of it. An instruction's cycles are taken in a row where the machine takes
 //! them so.
-ghost use Rattle.std.specs.Prelude.{◌≡◌, ◌≤◌, ◌<◌, ◌+◌, ℕ, List, true};
+ghost use Rattle.std.specs.Prelude.{◌≡◌, ◌≤◌, ◌<◌, ◌+◌, ℕ, List};
 ghost use Rattle.thy_block.specs.Device.{Device as DeviceValue};
 ghost use Rattle.thy_view.specs.Advances.{IsOthersCycle};
-ghost use Rattle.thy_run.specs.Due.{AreQuietBelow};
 ghost use Rattle.thy_run.specs.Going.{IsPlanned, HasDrawn};
-ghost use Rattle.thy_run.specs.Quiet.{IsWatched, LeadsQuietly, PassesTo, RunsQuietly};
+ghost use Rattle.thy_run.specs.Quiet.{IsRowEnd, IsWatched, LeadsQuietly, PassesTo, RunsQuietly};
 ghost use Rattle.thy_run.specs.Watching.{CanSee};
 
 use crate::advance::{
     HartCycle, advance, is_quiet, list_hart, quiet_below, stays_quiet, take_other,
 };
 use crate::observer::Observer;
+use crate::picks::pass_picks;
 use crate::plan::Plan;
 use crate::progress::Progress;
 use thy_base::{Nvm, Pick};
@@ -65,38 +65,37 @@ fn pass_other<M: Computer, N: Nvm, O: Observer>(
 /// The cycles that a row has at most.
 const ROW: u64 = 5;
 
-/// Whether a row's cycles are left before the limit, all of them below this cycle.
-#[inline(always)]
-fn has_room(plan: &Plan, below: u64, now: u64) -> bool
-    requires planned { IsPlanned plan.now }
-    requires few { now < plan.now.geometry.limit }
-    ensures limit { result ≡ true → now + 5 ≤ plan.now.geometry.limit }
-    ensures below { result ≡ true → now + 5 < below }
+/// Below which cycle a row can begin: its cycles are left before the limit, and all of them are below this cycle.
+fn row_end(plan: &Plan, below: u64) -> u64
+    ensures limit { (k : ℕ) → k < result → k + 5 ≤ plan.now.geometry.limit }
+    ensures below { (k : ℕ) → k < result → k + 5 < below }
 {
-    now + ROW <= plan.geometry.numbers().limit && now + ROW < below
+    let limit = plan.geometry.numbers().limit;
+    let end = if limit < below { limit } else { below };
+    end.saturating_sub(ROW)
 }
 
-/// Takes cycles in a row in which a hart advances, if the machine takes some so and none of them can have anything to report. The
-/// observer sees each. It answers how many it took.
+/// Takes cycles in a row in which a hart advances, if the machine takes some so and none of them can have anything to report, as is
+/// so below `end`. The observer sees each. It answers how many it took.
 #[inline(always)]
 fn pass_row<M: Computer, N: Nvm, O: Observer>(
     progress: &mut Progress<M>,
     plan: &Plan,
-    below: u64,
+    end: u64,
     now: u64,
     nvm: &N,
     observer: &mut O,
 ) -> u64
     requires planned { IsPlanned plan.now }
     requires watched { IsWatched M.kind O.has_seen plan.now progress.old (N.device nvm.now) now observer.old }
-    requires below { AreQuietBelow plan.now.config.cuts progress.old below }
+    requires end { IsRowEnd plan.now progress.old end }
     requires few { now < plan.now.geometry.limit }
     ensures leads { let n = N.device nvm.now in
         let p = progress.old in
         LeadsQuietly M.kind O.has_seen plan.now p progress.new n now (now + result) observer.old observer.new }
     ensures few { now + result ≤ plan.now.geometry.limit }
 {
-    if !has_room(plan, below, now) {
+    if now >= end {
         return 0;
     }
     let harts = plan.geometry.harts();
@@ -105,13 +104,15 @@ fn pass_row<M: Computer, N: Nvm, O: Observer>(
     let row = progress.machine.advance_on(pick, &plan.start, nvm);
     let moves = row.moved;
     for seen in 0..moves {
-        progress.mix.next(harts);
         observer.see(&Advance::Moved.stepped(), 0, now + seen + 1);
     }
     match row.retired {
-        None => moves,
+        None => {
+            pass_picks(&mut progress.mix, harts, moves);
+            moves
+        }
         Some(hart) => {
-            progress.mix.next(harts);
+            pass_picks(&mut progress.mix, harts, moves + 1);
             list_hart(&mut progress.turns, harts, hart);
             observer.see(&Advance::Retired(hart).stepped(), 0, now + moves + 1);
             moves + 1
@@ -140,9 +141,10 @@ pub fn run_quiet<M: Computer, N: Nvm, O: Observer>(
     let harts = plan.geometry.harts();
     let limit = plan.geometry.numbers().limit;
     let below = quiet_below(progress, plan);
+    let end = row_end(plan, below);
     let mut now = done;
     while now < limit {
-        let taken = pass_row(progress, plan, below, now, nvm, observer);
+        let taken = pass_row(progress, plan, end, now, nvm, observer);
         if taken > 0 {
             now += taken;
             continue;

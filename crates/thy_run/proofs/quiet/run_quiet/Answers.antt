@@ -7,7 +7,7 @@ use Rattle.thy_run.specs.Due.{IsQuiet}
 use Rattle.thy_run.specs.Going.{HasDrawn, IsStepped}
 use Rattle.thy_run.specs.Quiet.{IsLed, PassesTo, PassedTo}
 use Rattle.thy_run.specs.Seeing.{Watched}
-use Rattle.thy_run.proofs.QuietLemmas.{IsLed-advanced, IsLed-passed, IsLed-row, IsLed-rowless, AreQuietBelow-on, drawn_on}
+use Rattle.thy_run.proofs.QuietLemmas.{IsLed-advanced, IsLed-passed, IsLed-row, IsLed-rowless, AreQuietBelow-on, IsRowEnd-on, drawn_on}
 use Rattle.thy_run.proofs.SeeingLemmas.{CanSee-watched}
 use Rattle.thy_run.proofs.quiet.run_quiet.Goals as goal
 use Rattle.thy_run.proofs.quiet.run_quiet.Goals.{in-Advanced+else-not-stays_quiet, in-Left+in_default}
@@ -20,11 +20,12 @@ pass_row-taken-requires-clause-watched g c =
     let led = c.loop-now.invariant.led h.0 h.1 h.2 h.3 in
     (h.0, led.turns, led.goes, led.watched)
 
-pub pass_row-taken-requires-clause-below : goal.pass_row-taken-requires-clause-below
-pass_row-taken-requires-clause-below g c =
+pub pass_row-taken-requires-clause-end : goal.pass_row-taken-requires-clause-end
+pass_row-taken-requires-clause-end g c =
     let h = c.requires.watched in
     let led = c.loop-now.invariant.led h.0 h.1 h.2 h.3 in
-    AreQuietBelow-on c.args.plan.now.config.cuts c.args.progress.now c.loop-now.progress c.quiet_below-below.result led.uncut led.fresh c.quiet_below-below.ensures
+    IsRowEnd-on c.args.plan.now c.args.progress.now c.loop-now.progress c.quiet_below-below.result c.row_end-end.result led.uncut led.fresh c.quiet_below-below.ensures
+    c.row_end-end.ensures.limit c.row_end-end.ensures.below
 
 pub pass_row-taken-requires-clause-few : goal.pass_row-taken-requires-clause-few
 pass_row-taken-requires-clause-few g c =
