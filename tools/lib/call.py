@@ -33,6 +33,7 @@ SWEPT = {
     "--step": "leaves out all but every Nth cycle",
     "--tears": "says by which picks images are drawn",
     "--all": "tries every image, if a cut can leave at most so many",
+    "--compare": "says what of a state is compared",
 }
 
 # What is missing if a call ends before its command, or before OUT.

@@ -94,6 +94,31 @@ say(*end)
 """
 
 
+# A script in place of ./thynvm. Its sweep is of the run of PROGRAM_OF_SIX, which ends in cycle 7, and of one tear.
+SWEEPER_OF_SIX = """#!/usr/bin/env python3
+import sys
+words = sys.argv[1:]
+if words == ["build"]:
+    sys.exit()
+with open("{calls}", "a") as file:
+    print(*words, file=file)
+first, last, step, tear = (int(words[words.index(name) + 1]) for name in ("--from", "--to", "--step", "--tears"))
+cuts = [cut for cut in range(first, last + 1, step) if cut < 7]
+if not cuts:
+    print(f"value from {{first}}", file=sys.stderr)
+    sys.exit(2)
+rows = []
+for low, high, lead in ((1, 2, "none"), (3, 6, "epoch 1 at 3" if tear == 1 else "epoch 0 at 0")):
+    row = [cut for cut in cuts if low <= cut <= high]
+    if row:
+        rows += ["differs 3 by pick 0"] if row[0] == 3 and tear == 0 and {wrong} else []
+        rows.append(f"cycles {{row[0]}} {{row[-1]}} counts 0 3 queued 1 images 2 tried 1, {{lead}} times 1 boot 10 12")
+with open(words[1], "w") as file:
+    print(*rows, "states 1 rows 1", f"to {{last}}" if last < 7 else "exit 7 at 3", sep="\\n", file=file)
+sys.exit({wrong})
+"""
+
+
 class Cuts(CopyTest):
     tool = "cuts"
 
@@ -250,6 +275,26 @@ class Cuts(CopyTest):
         about = {"cut": 710, "tear": 0, "differs": [], "end": end, "status": None, "was_cut": True, "restarts": [0], "reloads": 0}
         self.assertEqual(self.logged()[710, 0], about)
         self.assertEqual(self.logged()[690, 1]["end"], ["reload"])
+
+    def test_sweeps_in_place_of_runs(self):
+        # One sweep a tear, of rows of two and of four cycles; the run ends in cycle 7.
+        for wrong in (1, 0):
+            self.script("thynvm", SWEEPER_OF_SIX.format(calls=self.path("swept"), wrong=wrong))
+            words = [self.guest, "--from", 1, "--to", 7, "--tears", "0,1", "--until-restart", "--pages", 8]
+            differ = "cuts 3 to 6 tear 0 differs in the state\n" if wrong else ""
+            sums = f"{differ}runs 14, {4 * wrong} differ, 2 ended before the cut\n{SUMS.split(chr(10), 2)[2]}"
+            self.prints(sums, *words, status=wrong)
+        kept, *call = self.read("swept").splitlines()[1].split()[1:]
+        self.assertTrue(kept.endswith("/1-7"))
+        run = f"run {self.guest} --pages 8 --limit 1000000000000"
+        self.assertEqual(call, f"--from 1 --to 7 --step 1 --tears 1 {run}".split())
+        done = self.call(self.guest, "--from", 2, "--to", 6, "--step", 4, "--tears", "1", "--until-restart")
+        sums = "runs 2, 0 differ, 0 ended before the cut\nrestarts of epoch 1: 1\nreloads: 1\nthe tears decided at 0 of 2 cuts\n"
+        self.assertEqual((done.out, done.err, done.status), (sums, "", 0))
+        done = self.call(self.guest, "--from", 7, "--to", 9, "--tears", "0,1", "--until-restart")
+        sums = "runs 6, 0 differ, 6 ended before the cut\nreloads: 0\nthe tears decided at 0 of 0 cuts\n"
+        said = "cuts: nothing was tested: no cut fell in the run\n"
+        self.assertEqual((done.out, done.err, done.status), (sums, said, 2))
 
     def test_an_image_until_the_restart(self):
         # It has the checkpoint of epoch 4, with which the run begins in cycle 2. A cut before leaves just that, too.

@@ -407,7 +407,7 @@ class Completion(ToolTest):
     def test_commands_of_sweep(self):
         self.assertEqual(self.proposed("sw"), ["sweep"])
         self.assertEqual(self.proposed("sweep", "ot"), ["other"])
-        swept, runs = ["--from", "--to", "--step", "--tears", "--all"], ["run", "resume", "bench"]
+        swept, runs = ["--from", "--to", "--step", "--tears", "--all", "--compare"], ["run", "resume", "bench"]
         self.assertCountEqual(self.proposed("sweep", "out", ""), [*swept, "--torn", *runs])
         self.assertEqual(self.proposed("sweep", "out", "--from", ""), [])
         self.assertCountEqual(self.proposed("sweep", "out", "--from", "9", "--torn", ""), [*swept[1:], *runs])

@@ -34,10 +34,10 @@ class Sweep(ToolTest):
     def test_the_sums_of_pieces(self):
         # The rows end at 20, 30 and 40. The second has two leads, and the run ends in the third.
         said = "states 4 rows 3\nrestarts 1 3\nreloads 1\ndecided 1\nlongest boot 699\nlost most 35 sum 105\nexit 7 at 30\n"
-        self.prints(said, *self.sweep("--from", 11, "--to", 60, "--tears", "0,1", "run", "F", "--pages", 8))
+        self.prints(said, *self.sweep("--from", 11, "--to", 60, "--tears", "0,1", "--compare", "registers", "run", "F", "--pages", 8))
         calls = self.read("calls").splitlines()
         self.assertEqual(len(calls), 5)
-        self.assertEqual(calls[0], f"sweep {self.path('kept')}/11-20 --from 11 --to 20 --tears 0,1 run F --pages 8")
+        self.assertEqual(calls[0], f"sweep {self.path('kept')}/11-20 --from 11 --to 20 --tears 0,1 --compare registers run F --pages 8")
 
     def test_pieces_that_are_kept(self):
         self.call(*self.sweep("--from", 11, "--to", 30, "run", "F"))

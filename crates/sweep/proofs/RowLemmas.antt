@@ -1,8 +1,8 @@
 -- Images that were tried, one after another.
-use Rattle.std.proofs.Common.{◌≡◌, ℕ, ◌+◌, ◌<◌, ◌≤◌, ◌==◌, Bool, true, false, Some, None, List, [], ◌∷◌, ◌++◌, length, map, take, refl, sym, ◌∙◌, ap, subst, inl, inr, arith, append-nil}
+use Rattle.std.proofs.Common.{◌≡◌, ℕ, ◌+◌, ◌==◌, true, false, List, [], ◌∷◌, ◌++◌, refl, sym, ◌∙◌, ap, subst, inl, inr, arith}
 use Rattle.std.specs.Prelude.{MatchBool}
-use Rattle.std.specs.List.{AllByRecursion, list_any}
-use Rattle.std.proofs.lemmas.Bool.{eqb-true, ne_eqb, eqb-false, eq-eqb, or_left, or_right, or_from, or_parts, cases_lt}
+use Rattle.std.specs.List.{AllByRecursion}
+use Rattle.std.proofs.lemmas.Bool.{ne_eqb, eqb-false, eq-eqb, or_left, or_right, or_from, or_parts, cases_lt}
 use Rattle.std.proofs.lemmas.List.{map-append}
 use Rattle.std.proofs.lemmas.List.Folds.{list_any-append}
 use Rattle.thy_block.specs.declared.block.Block.{Block}
@@ -65,7 +65,7 @@ tried-append (t ∷ ts) us tried = tried-append ts us _
 module _ {M : Type 0} (K : KindOf M) (plan : Plan) (n : Device) (mix : Mix) where
   -- none was
   pub HasTried-none : (row : Row) → HasTried K plan n mix [] row row
-  HasTried-none row = record { each = tt; leads = refl; tried = refl; first = refl; queued = refl; images = refl }
+  HasTried-none row = record { each = tt; leads = refl; tried = refl; first = refl; last = refl; queued = refl; images = refl }
 
   -- some were, and then others
   pub HasTried-then : (ts us : List Try) (old mid new : Row) → HasTried K plan n mix ts old mid → HasTried K plan n mix us mid new
@@ -75,6 +75,7 @@ module _ {M : Type 0} (K : KindOf M) (plan : Plan) (n : Device) (mix : Mix) wher
     leads = two.leads ∙ ap (noted_all us) one.leads ∙ sym (noted-append ts us old.leads.items);
     tried = two.tried ∙ ap (tried_all us) one.tried ∙ sym (tried-append ts us old.tried);
     first = two.first ∙ one.first;
+    last = two.last ∙ one.last;
     queued = two.queued ∙ one.queued;
     images = two.images ∙ one.images;
   }
@@ -149,23 +150,27 @@ module _ {M : Type 0} (K : KindOf M) (plan : Plan) (n : Device) (mix : Mix) wher
 
   -- ---- a row that is extended, and the images of one
 
-  has-extended : (tries : List Try) (old row : Row) (cycle count : ℕ) → HasTried K plan n mix tries old row → HasTried K plan n mix tries old (extended cycle count row)
+  has-extended : (tries : List Try) (old row : Row) (cycle count : ℕ) → HasTried K plan n mix tries old row
+      → HasTried K plan n mix tries (record old { last = cycle }) (extended cycle count row)
   has-extended tries old row cycle count h = record {
     each = h.each;
     leads = h.leads;
     tried = h.tried;
     first = h.first;
+    last = refl;
     queued = h.queued;
     images = h.images;
   }
 
   -- with one cycle more the images stay those that were tried
-  pub asked-extended : (a : Asked) (old row : Row) (cycle count : ℕ) → TriesAsked K plan n mix a old row → TriesAsked K plan n mix a old (extended cycle count row)
+  pub asked-extended : (a : Asked) (old row : Row) (cycle count : ℕ) → TriesAsked K plan n mix a old row
+      → TriesAsked K plan n mix a (record old { last = cycle }) (extended cycle count row)
   asked-extended a old row cycle count h =
+      let before : Row = record old { last = cycle } in
       let new : Row = extended cycle count row in
       (elim (wants a.all (places_of n))
       as (λ t. MatchBool t (TriesImages K plan n mix (crash_images n) old row) (TriesPicks K plan n mix a (picks_of a) old row)
-      → MatchBool t (TriesImages K plan n mix (crash_images n) old new) (TriesPicks K plan n mix a (picks_of a) old new)) [
+      → MatchBool t (TriesImages K plan n mix (crash_images n) before new) (TriesPicks K plan n mix a (picks_of a) before new)) [
         | true ↦ λ x. record { tries = x.tries; has = has-extended x.tries old row cycle count x.has; are = x.are }
         | false ↦ λ x. record {
           tries = x.tries;

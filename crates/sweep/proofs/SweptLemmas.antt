@@ -1,12 +1,12 @@
 -- A call that sweeps a run, from its parts.
-use Rattle.std.proofs.Common.{◌≡◌, ℕ, Bool, true, false, ◌||◌, nat_lt, is_some, ◌⊎◌, List, [], length, Err, refl, sym, ap, subst, inl, inr, arith}
+use Rattle.std.proofs.Common.{◌≡◌, ℕ, Bool, false, ◌||◌, nat_lt, is_some, ◌⊎◌, List, length, Err, ap, subst, inl, inr, arith}
 use Rattle.std.specs.Str.{bytes_eq}
 use Rattle.std.proofs.lemmas.Bool.{or_parts}
 use Rattle.std.proofs.lemmas.Bool.Decides.{nat_tests}
 use Rattle.std.proofs.lemmas.List.{nil_from_length}
 use Rattle.thy_answer.specs.declared.refusal.Refusal.TheVariants.{Device as DeviceRefusal}
 use Rattle.thy_answer.specs.Answering.{Outside, Closes, WordsDue}
-use Rattle.thy_answer.specs.Sources.{ProgramSource, IsProgram}
+use Rattle.thy_answer.specs.Sources.{ProgramSource}
 use Rattle.thy_block.specs.declared.block.Block.{Block}
 use Rattle.thy_block.specs.Outside.{Stock, Stream}
 use Rattle.thy_execute.specs.Planning.{IsPlanOf}

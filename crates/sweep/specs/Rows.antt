@@ -1,5 +1,5 @@
 -- What the images led to that were tried of one cycle, and which these are.
-use Rattle.std.specs.Prelude.{◌≡◌, ℕ, ◌+◌, ◌-◌, ◌^◌, ◌<◌, ◌==◌, ◌&&◌, min, nat_lt, nat_le, Bool, true, false, if◌then◌else◌, MatchBool, List, [], ◌∷◌, ◌++◌, length, map, slice_index_or, Option, Some, None}
+use Rattle.std.specs.Prelude.{◌≡◌, ℕ, ◌-◌, ◌^◌, ◌<◌, ◌==◌, ◌&&◌, min, nat_lt, nat_le, Bool, true, false, if◌then◌else◌, MatchBool, List, [], ◌∷◌, ◌++◌, length, map, slice_index_or, Option, Some, None}
 use Rattle.std.specs.List.{AllByRecursion}
 use Rattle.thy_block.specs.declared.block.Block.{Block}
 use Rattle.thy_block.specs.declared.mix.Mix.{Mix}
@@ -57,6 +57,7 @@ pub record HasTried {M : Type 0} (K : KindOf M) (plan : Plan) (n : Device) (mix 
   pub leads : new.leads.items ≡ noted_all tries old.leads.items
   pub tried : new.tried ≡ tried_all tries old.tried
   pub first : new.first ≡ old.first
+  pub last : new.last ≡ old.last
   pub queued : new.queued ≡ old.queued
   pub images : new.images ≡ old.images
 

@@ -4,7 +4,7 @@ use Rattle.thy_answer.specs.declared.refusal.Refusal.{Refusal}
 use Rattle.thy_answer.specs.declared.refusal.Refusal.TheVariants.{Words, Device as DeviceRefusal}
 use Rattle.thy_answer.specs.Answering.{Outside, Closes, RunDue, WordsDue, report_of_refusal, with_device}
 use Rattle.thy_answer.specs.Machines.{Choice}
-use Rattle.thy_answer.specs.Sources.{ProgramSource, file as of_file, image as of_image, made as of_made, IsProgram}
+use Rattle.thy_answer.specs.Sources.{ProgramSource, file as of_file, image as of_image, made as of_made}
 use Rattle.thy_block.specs.declared.block.Block.{Block}
 use Rattle.thy_block.specs.declared.nvm.FitError.{FitError}
 use Rattle.thy_block.specs.Device.{HasFailedToFit, fitted}

@@ -1,8 +1,11 @@
 //! What a sweep comes to so far: its text, its open row, and its sums.
-ghost use Rattle.std.specs.Prelude.{◌≡◌, true, false, None, Some, OnOk, option_map};
+ghost use Rattle.std.specs.Prelude.{◌≡◌, ◌||◌, true, false, List, ◌∷◌, None, Some, OnOk, option_map};
 ghost use Rattle.thy_sweep.specs.Sums.{no_rows};
 ghost use Rattle.sweep.specs.Concluding.{is_empty};
-ghost use Rattle.sweep.specs.Kept.{closed_into, extended};
+ghost use Rattle.sweep.specs.Kept.{closed_into, differs_in, extended};
+ghost use Rattle.sweep.specs.Still.{IsKept, IsLooked};
+ghost use Rattle.thy_block.specs.declared.nvm.Write.{Write as Written};
+ghost use Rattle.thy_block.specs.Device.{block_at};
 
 use crate::row::Row;
 use std::alloc::{AllocError, Global};
@@ -82,32 +85,64 @@ fn count_leads(restarts: &mut Vec<Restarts>, leads: &[Lead]) -> Result<(), Alloc
     Ok(())
 }
 
+/// Keeps the queue of a device.
+fn keep_queue(queue: &mut Vec<Write>, nvm: &MemNvm) -> Result<(), AllocError>
+    ensures { OnOk result (queue.new.items ≡ nvm.now.device.queue) }
+{
+    queue.clear();
+    for i in 0..nvm.waits() {
+        queue.push(nvm.waiting(i))?;
+    }
+    Ok(())
+}
+
+/// The block that has landed at the place of a device's oldest queued write, if there is one.
+fn first_of(nvm: &MemNvm) -> Block
+    ensures { (w : Written) (ws : List Written) → nvm.now.device.queue ≡ w ∷ ws → result ≡ block_at nvm.now.device.image w.at }
+{
+    if nvm.waits() == 0 {
+        return Block::ZERO;
+    }
+    let at = nvm.waiting(0).at;
+    nvm.landed(at)
+}
+
 impl Kept {
     /// Keeps a device as it is.
-    fn keep(&mut self, nvm: &MemNvm) -> Result<(), AllocError> {
+    fn keep(&mut self, nvm: &MemNvm) -> Result<(), AllocError>
+        ensures { OnOk result (IsKept self.new nvm.now.device) }
+    {
+        keep_queue(&mut self.queue, nvm)?;
+        self.first = first_of(nvm);
         self.changed = false;
-        self.queue.clear();
-        for i in 0..nvm.waits() {
-            self.queue.push(nvm.waiting(i))?;
-        }
-        if nvm.waits() > 0 {
-            self.first = nvm.landed(nvm.waiting(0).at);
-        }
         Ok(())
     }
 
     /// Looks at the device after a cycle.
-    fn look(&mut self, nvm: &MemNvm) {
-        if !self.changed {
-            self.changed = !is_still(&self.queue, &self.first, nvm);
+    fn look(&mut self, nvm: &MemNvm)
+        ensures { IsLooked self.old self.new nvm.now.device }
+    {
+        if self.changed {
+            return;
         }
+        let still = is_still(self.queue.as_slice(), &self.first, nvm);
+        self.changed = !still;
     }
+}
+
+/// Whether a state differs, or one that an image of a row led to.
+fn has_difference(differs: bool, row: &Row) -> bool
+    ensures { result ≡ (differs || differs_in row.now) }
+{
+    differs || row.differs.len() > 0
 }
 
 impl Account {
     /// Nothing was tried.
     pub fn new(alloc: Global) -> Account
         ensures current { result.current ≡ None }
+        ensures unkept { result.kept.changed ≡ true }
+        ensures same { result.differs ≡ false }
         ensures sums { result.sums ≡ no_rows }
     {
         Account {
@@ -126,6 +161,8 @@ impl Account {
 
     /// Looks at the device after a cycle.
     pub fn look(&mut self, nvm: &MemNvm)
+        ensures looked { IsLooked self.old.kept self.new.kept nvm.now.device }
+        ensures differs { self.new.differs ≡ self.old.differs }
         ensures current { self.new.current ≡ self.old.current }
         ensures sums { self.new.sums ≡ self.old.sums }
     {
@@ -134,6 +171,9 @@ impl Account {
 
     /// Whether the device is as it was when the open row began. Then one more cycle is of that row.
     pub fn repeats(&mut self, cycle: u64, count: u64) -> bool
+        ensures still { result ≡ true → self.new.kept.changed ≡ false }
+        ensures kept { self.new.kept ≡ self.old.kept }
+        ensures differs { self.new.differs ≡ self.old.differs }
         ensures more { result ≡ true → self.new.current ≡ option_map (extended cycle count) self.old.current }
         ensures other { result ≡ false → self.new.current ≡ self.old.current }
         ensures sums { self.new.sums ≡ self.old.sums }
@@ -167,6 +207,7 @@ impl Account {
     /// Closes the open row, if there is one.
     fn close(&mut self, alloc: Global) -> Result<(), AllocError>
         ensures current { self.new.current ≡ None }
+        ensures differs { self.new.differs ≡ self.old.differs }
         ensures sums { OnOk result (self.new.sums ≡ closed_into self.old.current self.old.sums) }
     {
         let Some(row) = self.current.take() else {
@@ -183,11 +224,13 @@ impl Account {
     /// Memory ran out.
     pub fn open(&mut self, alloc: Global, row: Row, nvm: &MemNvm) -> Result<(), AllocError>
         ensures current { OnOk result (self.new.current ≡ Some row) }
+        ensures kept { OnOk result (IsKept self.new.kept nvm.now.device) }
+        ensures differs { OnOk result (self.new.differs ≡ (self.old.differs || differs_in row)) }
         ensures sums { OnOk result (self.new.sums ≡ closed_into self.old.current self.old.sums) }
     {
         self.close(alloc)?;
         self.kept.keep(nvm)?;
-        self.differs = self.differs || !row.differs.is_empty();
+        self.differs = has_difference(self.differs, &row);
         self.current = Some(row);
         Ok(())
     }

@@ -1,13 +1,15 @@
 //! What is to be tried, as the words between OUT and the command say it.
 ghost use Rattle.std.specs.Prelude.{◌≡◌};
+ghost use Rattle.sweep.specs.Findings.{has};
 ghost use Rattle.sweep.specs.Rows.{pick_of, picks_of};
 ghost use Rattle.sweep.specs.Sweeping.{ends_at};
 
+use crate::compared::Compared;
 use std::alloc::{AllocError, Global};
 use thy_arguments::{is_list, list_of, number};
 
 /// How many options there are.
-const OPTIONS: usize = 6;
+const OPTIONS: usize = 7;
 
 /// The picks whose images are tried if nothing else is asked for.
 static PICKS: [u64; 4] = [0, 1, 2, 3];
@@ -27,6 +29,8 @@ pub struct Asked {
     pub all: u64,
     /// The run goes over an NVM whose blocks may be torn.
     pub torn: bool,
+    /// What of a state that is restored is compared.
+    pub compared: Compared,
 }
 
 /// Why the options are refused.
@@ -50,6 +54,7 @@ enum Name {
     Step,
     Tears,
     All,
+    Compare,
 }
 
 /// The texts of the options that were given.
@@ -60,6 +65,7 @@ struct Given {
     step: Option<String>,
     tears: Option<String>,
     all: Option<String>,
+    compare: Option<String>,
     torn: bool,
 }
 
@@ -75,6 +81,8 @@ fn name_of(word: &str) -> Option<Name> {
         Some(Name::Tears)
     } else if word == "--all" {
         Some(Name::All)
+    } else if word == "--compare" {
+        Some(Name::Compare)
     } else {
         None
     }
@@ -96,6 +104,7 @@ impl Given {
             step: None,
             tears: None,
             all: None,
+            compare: None,
             torn: false,
         }
     }
@@ -115,6 +124,7 @@ impl Given {
             Name::Step => keep(&mut self.step, text),
             Name::Tears => keep(&mut self.tears, text),
             Name::All => keep(&mut self.all, text),
+            Name::Compare => keep(&mut self.compare, text),
         }
     }
 }
@@ -199,8 +209,17 @@ fn picks_of(
     }
 }
 
+/// What is compared: all of a state, if nothing else is asked for.
+fn compared_of(compare: &Option<String>) -> Result<Compared, Unasked> {
+    match compare {
+        None => Ok(Compared::State),
+        Some(text) if text.as_str() == "registers" => Ok(Compared::Registers),
+        Some(_) => Err(Unasked::Word("compare")),
+    }
+}
+
 /// What texts ask for. The first option whose text can't be read is refused, then the first whose value is out of range, in the
-/// order from, to, step, tears, all.
+/// order from, to, step, tears, all, compare.
 fn asked_by(alloc: Global, given: &Given) -> Result<Asked, Unasked> {
     let from = number_of(&given.from, "from")?;
     let to = number_of(&given.to, "to")?;
@@ -209,6 +228,7 @@ fn asked_by(alloc: Global, given: &Given) -> Result<Asked, Unasked> {
         return Err(Unasked::Word("tears"));
     }
     let all = number_of(&given.all, "all")?;
+    let compared = compared_of(&given.compare)?;
     let from = above_zero(from, "from")?.unwrap_or(1);
     let to = above_zero(to, "to")?;
     if let Some(last) = to {
@@ -229,6 +249,7 @@ fn asked_by(alloc: Global, given: &Given) -> Result<Asked, Unasked> {
             picks,
             all: all.unwrap_or(0),
             torn: given.torn,
+            compared,
         }),
         Err(error) => Err(Unasked::Memory(error)),
     }
@@ -269,7 +290,9 @@ impl Asked {
     }
 
     /// Whether images are tried after a cycle.
-    pub fn has(&self, cycle: u64) -> bool {
+    pub fn has(&self, cycle: u64) -> bool
+        ensures { result ≡ has self.now cycle }
+    {
         cycle >= self.from && self.step > 0 && (cycle - self.from) % self.step == 0
     }
 

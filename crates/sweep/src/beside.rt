@@ -1,10 +1,12 @@
 //! The plain machine that runs beside the run, and the states that it had at the two checkpoints that a cut can lead to.
-ghost use Rattle.std.specs.Prelude.{◌≡◌, ◌≤◌, true, IfOk};
+ghost use Rattle.std.specs.Prelude.{◌≡◌, ◌≤◌, true, None, IfOk, OnOk};
 ghost use Rattle.thy_isa.specs.Step.{state_of};
+ghost use Rattle.sweep.specs.Findings.{IsBeside, IsSealed, RunsTo, committed};
 
+use crate::compared::Compared;
 use std::alloc::{AllocError, Global};
 use thy_base::Geometry;
-use thy_isa::{CpuState, MachState};
+use thy_isa::MachState;
 use thy_layout::Start;
 use thy_plain::Plain;
 use thy_text::Event;
@@ -12,10 +14,12 @@ use thy_text::Event;
 /// A run counts fewer instructions than this.
 const MANY: u64 = 1 << 62;
 
-/// The plain machine, at the count of the latest seal; and its states at the counts of two checkpoints.
+/// The plain machine, at the count of the latest seal; its states at the counts of two checkpoints; and what of a state is compared.
 #[derive(Drop)]
 pub struct Beside {
     plain: Plain,
+    /// What of a state is compared.
+    compared: Compared,
     /// The state of the committed checkpoint, or the start.
     done: MachState,
     /// The state of the checkpoint under way, if there is one.
@@ -40,37 +44,10 @@ fn copy_of(alloc: Global, state: &MachState) -> Result<MachState, AllocError>
     })
 }
 
-/// Whether two lists of bytes are the same.
-fn are_same(a: &[u8], b: &[u8]) -> bool
-    ensures { result ≡ true → a.now ≡ b.now }
-{
-    a == b
-}
-
-/// Whether two processors are the same.
-fn is_same_cpu(a: &CpuState, b: &CpuState) -> bool
-    ensures { result ≡ true → a.now ≡ b.now }
-{
-    *a == *b
-}
-
-/// Whether two states are the same, with their memories and consoles.
-fn is_same_state(a: &MachState, b: &MachState) -> bool
-    ensures { result ≡ true → state_of a.now ≡ state_of b.now }
-{
-    let same_cpu = is_same_cpu(&a.cpu(), &b.cpu());
-    if !same_cpu {
-        return false;
-    }
-    let same_console = are_same(a.console.as_slice(), b.console.as_slice());
-    if !same_console {
-        return false;
-    }
-    are_same(a.memory.as_slice(), b.memory.as_slice())
-}
-
 /// Steps a plain machine with one hart to a count.
-fn step_to(plain: &mut Plain, count: u64) {
+fn step_to(plain: &mut Plain, count: u64)
+    ensures { RunsTo count plain.old plain.new }
+{
     let now = plain.state().count;
     if count < now {
         return;
@@ -107,30 +84,47 @@ fn step_by(plain: &mut Plain, turns: &[u8]) {
 
 impl Beside {
     /// The plain machine at the start of a run.
-    pub fn new(alloc: Global, start: &Start, geometry: &Geometry) -> Result<Beside, AllocError> {
+    pub fn new(
+        alloc: Global,
+        start: &Start,
+        geometry: &Geometry,
+        compared: Compared,
+    ) -> Result<Beside, AllocError>
+        ensures compared { IfOk result (λ beside. beside.compared ≡ compared) }
+        ensures done { IfOk result (λ beside. state_of beside.done ≡ state_of start.now.state) }
+        ensures sealed { IfOk result (λ beside. beside.sealed ≡ None) }
+    {
         let input = start.input.duplicate(alloc)?;
         let plain = Plain::in_state(alloc, &start.state, geometry, input)?;
         let done = copy_of(alloc, &start.state)?;
         Ok(Beside {
             plain,
+            compared,
             done,
             sealed: None,
         })
     }
 
     /// Keeps the state at the count of a checkpoint that is under way now, after these turns.
-    fn seal(&mut self, alloc: Global, count: u64, turns: &[u8]) -> Result<(), AllocError> {
+    fn seal(&mut self, alloc: Global, count: u64, turns: &[u8]) -> Result<(), AllocError>
+        ensures compared { self.new.compared ≡ self.old.compared }
+        ensures done { self.new.done ≡ self.old.done }
+        ensures sealed { OnOk result (IsSealed self.new) }
+    {
         if turns.is_empty() {
             step_to(&mut self.plain, count);
         } else {
             step_by(&mut self.plain, turns);
         }
-        self.sealed = Some(copy_of(alloc, self.plain.state())?);
+        let state = copy_of(alloc, self.plain.state())?;
+        self.sealed = Some(state);
         Ok(())
     }
 
     /// The checkpoint under way is committed.
-    fn commit(&mut self) {
+    fn commit(&mut self)
+        ensures { self.new ≡ committed self.old }
+    {
         if let Some(state) = self.sealed.take() {
             self.done = state;
         }
@@ -140,7 +134,9 @@ impl Beside {
     ///
     /// # Errors
     /// Memory ran out.
-    pub fn follow(&mut self, alloc: Global, event: &Event) -> Result<(), AllocError> {
+    pub fn follow(&mut self, alloc: Global, event: &Event) -> Result<(), AllocError>
+        ensures { self.new.compared ≡ self.old.compared }
+    {
         match event {
             Event::EpochEnd { count, turns, .. } => self.seal(alloc, *count, turns.as_slice()),
             Event::Commit { .. } => {
@@ -156,12 +152,14 @@ impl Beside {
     }
 
     /// Whether the plain machine has this state at the count of a checkpoint that a cut can lead to.
-    pub fn has(&self, state: &MachState) -> bool {
-        if is_same_state(&self.done, state) {
+    pub fn has(&self, state: &MachState) -> bool
+        ensures { result ≡ true → IsBeside self.now state.now }
+    {
+        if self.compared.are_same(&self.done, state) {
             return true;
         }
         match &self.sealed {
-            Some(sealed) => is_same_state(sealed, state),
+            Some(sealed) => self.compared.are_same(sealed, state),
             None => false,
         }
     }

@@ -9,6 +9,7 @@
 mod account;
 mod asked;
 mod beside;
+mod compared;
 mod concluding;
 mod naming;
 mod row;

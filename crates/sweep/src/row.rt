@@ -70,6 +70,7 @@ impl Row {
     /// A row of one cycle, of which nothing was tried yet.
     pub fn new(alloc: Global, cycle: u64, count: u64, queued: u64) -> Row
         ensures first { result.first ≡ cycle }
+        ensures last { result.last ≡ cycle }
         ensures queued { result.queued ≡ queued }
         ensures untried { result.tried ≡ 0 }
         ensures empty { result.leads.items ≡ [] }

@@ -1,9 +1,11 @@
 //! The run of a sweep, cycle by cycle, with what is tried after each.
-ghost use Rattle.std.specs.Prelude.{◌≡◌, ◌<◌, [], None, IfOk, OnOk, length};
+ghost use Rattle.std.specs.Prelude.{◌≡◌, ◌<◌, true, false, [], None, IfOk, OnOk, length};
 ghost use Rattle.thy_run.specs.Going.{IsPlanned};
 ghost use Rattle.thy_run.specs.Rounds.{IsFitted};
 ghost use Rattle.thy_run.specs.Sending.{sinks};
+ghost use Rattle.sweep.specs.Findings.{counted};
 ghost use Rattle.sweep.specs.Kept.{KeepsRows, LooksTo, OpensRow};
+ghost use Rattle.sweep.specs.Still.{IsLooked};
 ghost use Rattle.sweep.specs.Sweeping.{CanLook, SweepsRun};
 ghost use Rattle.thy_sweep.specs.Sums.{no_rows};
 ghost use Rattle.thy_trial.specs.Rooms.{HasRoomFor};
@@ -11,6 +13,7 @@ ghost use Rattle.thy_trial.specs.Rooms.{HasRoomFor};
 use crate::account::{Account, Last};
 use crate::asked::Asked;
 use crate::beside::Beside;
+use crate::compared::Compared;
 use crate::row::Row;
 use crate::trying::try_cycle;
 use std::alloc::{AllocError, Global};
@@ -45,7 +48,9 @@ pub enum Swept {
 }
 
 /// How many instructions are retired once a cycle did this.
-fn counted(count: u64, start: u64, did: Did) -> u64 {
+fn counted(count: u64, start: u64, did: Did) -> u64
+    ensures { result ≡ counted count start did }
+{
     match did {
         Did::Retired(_) => count.saturating_add(1),
         Did::Restarted(_, count) => count,
@@ -55,14 +60,17 @@ fn counted(count: u64, start: u64, did: Did) -> u64 {
 }
 
 impl Watch {
-    /// Before the first cycle of a plan's run.
-    pub fn new(alloc: Global, plan: &Plan) -> Result<Watch, AllocError>
+    /// Before the first cycle of a plan's run, of which this is compared.
+    pub fn new(alloc: Global, plan: &Plan, compared: Compared) -> Result<Watch, AllocError>
+        ensures compared { IfOk result (λ watch. watch.beside.compared ≡ compared) }
         ensures current { IfOk result (λ watch. watch.account.current ≡ None) }
+        ensures unkept { IfOk result (λ watch. watch.account.kept.changed ≡ true) }
+        ensures same { IfOk result (λ watch. watch.account.differs ≡ false) }
         ensures sums { IfOk result (λ watch. watch.account.sums ≡ no_rows) }
     {
         Ok(Watch {
             account: Account::new(alloc),
-            beside: Beside::new(alloc, &plan.start, &plan.geometry)?,
+            beside: Beside::new(alloc, &plan.start, &plan.geometry, compared)?,
             count: 0,
             followed: 0,
         })
@@ -70,7 +78,8 @@ impl Watch {
 
     /// Follows the run past the events that are new.
     fn follow(&mut self, alloc: Global, events: &Events) -> Result<(), AllocError>
-        ensures { self.new.account ≡ self.old.account }
+        ensures account { self.new.account ≡ self.old.account }
+        ensures compared { self.new.beside.compared ≡ self.old.beside.compared }
     {
         for i in self.followed..events.len() {
             self.beside.follow(alloc, events.get(i))?;
@@ -88,13 +97,15 @@ impl Watch {
         events: &Events,
         nvm: &MemNvm,
     ) -> Result<(), AllocError>
+        ensures compared { self.new.beside.compared ≡ self.old.beside.compared }
+        ensures looked { IsLooked self.old.account.kept self.new.account.kept nvm.now.device }
+        ensures differs { self.new.account.differs ≡ self.old.account.differs }
         ensures current { self.new.account.current ≡ self.old.account.current }
         ensures sums { self.new.account.sums ≡ self.old.account.sums }
     {
         self.count = counted(self.count, start, did);
-        self.follow(alloc, events)?;
         self.account.look(nvm);
-        Ok(())
+        self.follow(alloc, events)
     }
 }
 
@@ -109,8 +120,10 @@ fn try_row<M: Computer>(
     watch: &mut Watch,
     nvm: &MemNvm,
 ) -> Result<Room, CoreError>
-    requires { CanLook M.kind plan.now progress.now nvm.now.device room }
+    requires can { CanLook M.kind plan.now progress.now nvm.now.device room }
+    requires compared { watch.old.beside.compared ≡ asked.now.compared }
     ensures room { IfOk result (HasRoomFor plan.now nvm.now.device) }
+    ensures compared { watch.new.beside.compared ≡ watch.old.beside.compared }
     ensures opens { let n = nvm.now.device in
         let mix = progress.now.mix in
         OnOk result (OpensRow M.kind plan.now n mix asked.now cycle watch.old.account watch.new.account) }
@@ -145,8 +158,10 @@ fn look<M: Computer>(
     watch: &mut Watch,
     nvm: &MemNvm,
 ) -> Result<Room, CoreError>
-    requires { CanLook M.kind plan.now progress.now nvm.now.device room }
+    requires can { CanLook M.kind plan.now progress.now nvm.now.device room }
+    requires compared { watch.old.beside.compared ≡ asked.now.compared }
     ensures room { IfOk result (HasRoomFor plan.now nvm.now.device) }
+    ensures compared { watch.new.beside.compared ≡ watch.old.beside.compared }
     ensures looks { let n = nvm.now.device in
         let mix = progress.now.mix in
         OnOk result (LooksTo M.kind plan.now n mix asked.now cycle watch.old.account watch.new.account) }
@@ -185,7 +200,10 @@ pub fn sweep_run<M: Computer, T: Sink, R: Sink>(
     requires queue { shape.now.queue ≡ nvm.old.device.queue_room }
     requires some { 0 < shape.now.queue }
     requires closed { watch.old.account.current ≡ None }
+    requires unkept { watch.old.account.kept.changed ≡ true }
+    requires same { watch.old.account.differs ≡ false }
     requires fresh { watch.old.account.sums ≡ no_rows }
+    requires compared { watch.old.beside.compared ≡ asked.now.compared }
     ensures rows { KeepsRows M.kind plan.now nvm.old.device asked.now watch.new.account result }
     ensures run { let before = sinks (T.stream terminal.old) (R.stream report.old) in
         let after = sinks (T.stream terminal.new) (R.stream report.new) in

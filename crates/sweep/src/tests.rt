@@ -1,12 +1,14 @@
 //! Calls over memory: what is put under OUT. The numbers were worked out by hand from the rules of the controller.
 
 use crate::asked::take_asked;
+use crate::compared::Compared;
 use crate::concluding::refuse_asked;
 use crate::top::sweep;
 use std::alloc::{AllocError, Global};
 use std::process::Abort;
 use std::test::Fail;
-use thy_base::Shelf;
+use thy_base::{Bytes, Shelf};
+use thy_isa::{MachState, Regs, Status};
 use thy_nvm::MemNvm;
 use thy_out::{MemShelf, MemSink};
 
@@ -79,7 +81,7 @@ fn called(alloc: Global, line: &str) -> Result<Given, AllocError> {
 /// In every fourth cycle a write lands, if one is queued then: after cycle 697 the second cycle of the boot is the first of these,
 /// and finds none; 174 others do, the last one with the commit block. After cycle 698 it is the boot's first, and the commit block
 /// lands by the barrier. The second commit block is written in cycle 721, and the program has ended then.
-static TEXTS: [(&str, u8, &str); 3] = [
+static TEXTS: [(&str, u8, &str); 4] = [
     (
         "sweep --from 697 --to 700 run F --pages 8 --btt 8 --ptt 8",
         0,
@@ -119,6 +121,19 @@ static TEXTS: [(&str, u8, &str); 3] = [
          lost most 0 sum 0\n\
          to 698\n",
     ),
+    (
+        "sweep --compare registers --from 721 --to 721 run F --pages 8 --btt 8 --ptt 8",
+        0,
+        "cycles 721 721 counts 3 3 queued 1 images 2 tried 2, epoch 0 at 0 times 1 boot 10 10, epoch 1 at 3 times 1 boot 10 10\n\
+         states 2 rows 1\n\
+         restarts 0 1\n\
+         restarts 1 1\n\
+         reloads 0\n\
+         decided 1\n\
+         longest boot 10\n\
+         lost most 3 sum 3\n\
+         to 721\n",
+    ),
 ];
 
 #[test]
@@ -133,7 +148,7 @@ fn the_text_has_each_row_and_the_sums(rt: HostRuntime) -> Result<(), Fail> {
 }
 
 /// Calls that are refused, and their reports.
-static REFUSED: [(&str, &str); 14] = [
+static REFUSED: [(&str, &str); 18] = [
     ("sweep run O", "usage\n"),
     ("sweep plain F", "usage\n"),
     ("sweep compare F", "usage\n"),
@@ -145,6 +160,13 @@ static REFUSED: [(&str, &str); 14] = [
     ("sweep --torn --all 5 run F", "usage\n"),
     ("sweep --from x --to 0 run F", "word from\n"),
     ("sweep --from 0 --to x run F", "word to\n"),
+    (
+        "sweep --compare registers --compare registers run F",
+        "usage\n",
+    ),
+    ("sweep --compare registers", "usage\n"),
+    ("sweep --compare x --to 0 run F", "word compare\n"),
+    ("sweep --compare x --all y run F", "word all\n"),
     ("sweep --step 0 run F", "value step 0\n"),
     ("sweep --from 5 --to 4 run F", "value to 4\n"),
     (
@@ -165,5 +187,44 @@ fn a_call_that_is_refused_puts_nothing(rt: HostRuntime) -> Result<(), Fail> {
         );
         assert!(rt; !given.is_put, "{line}");
     }
+    Ok(())
+}
+
+/// A state with a memory, a console and a program counter.
+fn state_with(
+    alloc: Global,
+    memory: &[u8],
+    console: &[u8],
+    pc: u64,
+) -> Result<MachState, AllocError> {
+    Ok(MachState {
+        pc,
+        regs: Regs::new(),
+        memory: Bytes::from_vec(Vec::from_slice(alloc, memory)?),
+        console: Bytes::from_vec(Vec::from_slice(alloc, console)?),
+        cursor: 0,
+        brk: 0,
+        floor: 0,
+        count: 0,
+        status: Status::Running,
+        other: None,
+    })
+}
+
+#[test]
+fn registers_are_compared_without_memory_and_console(rt: HostRuntime) -> Result<(), Fail> {
+    let alloc = rt.alloc();
+    let state = state_with(alloc, &[1, 2], &[3], 4)?;
+    let memory = state_with(alloc, &[1, 5], &[3], 4)?;
+    let console = state_with(alloc, &[1, 2], &[3, 6], 4)?;
+    let pc = state_with(alloc, &[1, 2], &[3], 8)?;
+    assert!(rt; Compared::State.are_same(&state, &state), "the same");
+    assert!(rt; Compared::Registers.are_same(&state, &state), "the same");
+    assert!(rt; !Compared::State.are_same(&state, &memory), "memory");
+    assert!(rt; Compared::Registers.are_same(&state, &memory), "memory");
+    assert!(rt; !Compared::State.are_same(&state, &console), "console");
+    assert!(rt; Compared::Registers.are_same(&state, &console), "console");
+    assert!(rt; !Compared::State.are_same(&state, &pc), "pc");
+    assert!(rt; !Compared::Registers.are_same(&state, &pc), "pc");
     Ok(())
 }

@@ -68,7 +68,7 @@ fn sweep_fitted<M: Computer, H: Shelf, T: Sink, R: Sink>(
         (T.stream terminal.new) (R.stream report.new) in
         SweepsOver M.kind out.now asked.now (named source.entry) plan.now before after result }
 {
-    let Ok(mut watch) = Watch::new(alloc, plan) else {
+    let Ok(mut watch) = Watch::new(alloc, plan, asked.compared) else {
         return report_short(report);
     };
     let swept = sweep_run::<M, T, R>(alloc, plan, shape, asked, terminal, report, &mut watch, nvm);

@@ -1,9 +1,10 @@
 //! The images of one cycle, tried one after another.
-ghost use Rattle.std.specs.Prelude.{◌≡◌, ◌<◌, ◌-◌, ◌^◌, ◌&&◌, min, nat_le, nat_lt, true, false, IfOk, IfSome, IfNone, OnOk};
+ghost use Rattle.std.specs.Prelude.{◌≡◌, ◌<◌, ◌-◌, ◌^◌, ◌&&◌, min, nat_le, nat_lt, true, false, [], ◌∷◌, ◌++◌, IfOk, IfSome, IfNone, OnOk};
 ghost use Rattle.thy_block.specs.Counts.{next};
 ghost use Rattle.thy_sweep.specs.Choices.{count_of, places_of};
 ghost use Rattle.thy_sweep.specs.Images.{crash_images};
 ghost use Rattle.thy_trial.specs.Rooms.{CanTryOf, HasRoomFor};
+ghost use Rattle.sweep.specs.Findings.{IsKnown, IsNamed, is_load};
 ghost use Rattle.sweep.specs.Rows.{NotesNumber, NotesPick, TriesAsked, TriesImages, TriesPicks, noted_if, picks_of, wants};
 ghost use Rattle.sweep.specs.Sweeping.{most_cycles};
 
@@ -22,7 +23,9 @@ use thy_view::{Computer, CoreError};
 const MOST: u64 = 1_000_000_000_000;
 
 /// Whether a boot loaded the start.
-fn is_load(booted: Option<Booted>) -> bool {
+fn is_load(booted: Option<Booted>) -> bool
+    ensures { result ≡ is_load booted }
+{
     match booted {
         Some(booted) => booted.mark.is_none(),
         None => false,
@@ -30,11 +33,21 @@ fn is_load(booted: Option<Booted>) -> bool {
 }
 
 /// Whether what was found is a boot that loaded the start, or one that restored a state of the plain machine.
-fn is_known(found: &Found, beside: &Beside) -> bool {
+fn is_known(found: &Found, beside: &Beside) -> bool
+    ensures { result ≡ true → IsKnown beside.now found.now }
+{
     match &found.state {
         Some(state) => beside.has(state),
         None => is_load(found.booted),
     }
+}
+
+/// Adds a name.
+fn add_name(names: &mut Vec<Name>, name: Name) -> Result<(), AllocError>
+    ensures { OnOk result (names.new.items ≡ names.old.items ++ name ∷ []) }
+{
+    names.push(name)?;
+    Ok(())
 }
 
 /// Notes the name of an image, unless what was found is known.
@@ -43,19 +56,23 @@ fn note_difference(
     name: Name,
     beside: &Beside,
     differs: &mut Vec<Name>,
-) -> Result<(), AllocError> {
-    if is_known(found, beside) {
+) -> Result<(), AllocError>
+    ensures { OnOk result (IsNamed beside.now found.now name differs.old.items differs.new.items) }
+{
+    let known = is_known(found, beside);
+    if known {
         return Ok(());
     }
-    differs.push(name)?;
-    Ok(())
+    add_name(differs, name)
 }
 
 /// Notes what trying an image of this name came to.
 fn note(found: &Found, name: Name, beside: &Beside, row: &mut Row) -> Result<(), AllocError>
     ensures leads { OnOk result (row.new.leads.items ≡ noted_if found.now.booted row.old.leads.items) }
+    ensures named { OnOk result (IsNamed beside.now found.now name row.old.differs.items row.new.differs.items) }
     ensures tried { row.new.tried ≡ next row.old.tried }
     ensures first { row.new.first ≡ row.old.first }
+    ensures last { row.new.last ≡ row.old.last }
     ensures queued { row.new.queued ≡ row.old.queued }
     ensures images { row.new.images ≡ row.old.images }
 {

@@ -1,26 +1,33 @@
-use Rattle.std.proofs.Common.{◌≡◌, sym, ◌∙◌, ap, inl, inr}
+use Rattle.std.proofs.Common.{◌≡◌, ◌||◌, sym, ◌∙◌, ap, subst, inl, inr}
 use Rattle.std.proofs.lemmas.Result.{on_ok_weaker}
-use Rattle.thy_block.specs.Device.{Device}
-use Rattle.thy_sweep.specs.declared.sums.Sums.{Sums}
-use Rattle.sweep.specs.declared.account.Account.{Account}
-use Rattle.sweep.specs.Kept.{OpensRow, closed_into, extended}
 use Rattle.std.specs.Prelude.{Option, option_map}
+use Rattle.thy_block.specs.Device.{Device}
+use Rattle.sweep.specs.declared.account.Account.{Account}
+use Rattle.sweep.specs.declared.account.Kept.{Kept}
 use Rattle.sweep.specs.declared.row.Row.{Row}
+use Rattle.sweep.specs.Kept.{OpensRow, closed_into, differs_in, extended}
+use Rattle.sweep.specs.Still.{IsLooked}
 use Rattle.sweep.proofs.running.look.Goals as goal
 
 pub returns-then-not-has-clause-looks : goal.returns-then-not-has-clause-looks
-returns-then-not-has-clause-looks g c = inl (c.pass.ensures.sums, inl c.pass.ensures.current)
+returns-then-not-has-clause-looks g c =
+    inl (record { sums = c.pass.ensures.sums; differs = c.pass.ensures.differs; stays = inl c.pass.ensures.current; looked = c.pass.ensures.looked })
 
 pub returns-then-more-clause-looks : goal.returns-then-more-clause-looks
 returns-then-more-clause-looks g c =
+    let old : Kept = c.args.watch.now.account.kept in
+    let n : Device = c.args.nvm.now.device in
     let count = c.pass.new.self.count in
-    inl (
-      c.repeats-more.ensures.sums ∙ c.pass.ensures.sums,
-      inr (
+    inl (record {
+      sums = c.repeats-more.ensures.sums ∙ c.pass.ensures.sums;
+      differs = c.repeats-more.ensures.differs ∙ c.pass.ensures.differs;
+      stays = inr (
         count,
         c.repeats-more.ensures.more c.if-more.true ∙ ap (option_map (extended c.args.cycle count)) c.pass.ensures.current,
-      ),
-    )
+        c.repeats-more.ensures.still c.if-more.true,
+      );
+      looked = subst (λ (k : Kept). IsLooked old k n) (sym c.repeats-more.ensures.kept) c.pass.ensures.looked;
+    })
 
 pub returns-clause-looks : goal.returns-clause-looks
 returns-clause-looks g c =
@@ -29,6 +36,7 @@ returns-clause-looks g c =
     let mid : Account = c.repeats-more.new.self in
     let current : mid.current ≡ old.current = c.repeats-more.ensures.other c.if-more.false ∙ c.pass.ensures.current in
     let sums : mid.sums ≡ old.sums = c.repeats-more.ensures.sums ∙ c.pass.ensures.sums in
+    let differs : mid.differs ≡ old.differs = c.repeats-more.ensures.differs ∙ c.pass.ensures.differs in
     on_ok_weaker c.try_row.result
     (λ (h : OpensRow g.M.Computer.kind c.args.plan.now n c.args.progress.now.mix c.args.asked.now c.args.cycle mid c.try_row.new.watch.account).
     inr (record {
@@ -36,6 +44,9 @@ returns-clause-looks g c =
       opened = h.opened;
       sums = h.sums ∙ ap (λ (o : Option Row). closed_into o mid.sums) current ∙ ap (closed_into old.current) sums;
       first = h.first;
+      last = h.last;
       says = h.says;
+      kept = h.kept;
+      differs = h.differs ∙ ap (λ b. b || differs_in h.row) differs;
     }))
     c.try_row.ensures.opens

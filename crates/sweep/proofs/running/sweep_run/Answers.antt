@@ -7,7 +7,7 @@ use Rattle.thy_run.specs.Sending.{Sinks, sinks}
 use Rattle.thy_run.proofs.StartLemmas.{Running-first, RunEnds-limit}
 use Rattle.sweep.specs.Sweeping.{IsSwept}
 use Rattle.thy_run.specs.Going.{world_at}
-use Rattle.sweep.proofs.KeptLemmas.{HasRows-none, HasRows-looked}
+use Rattle.sweep.proofs.KeptLemmas.{HasRows-kept, IsKeeping-none, IsKeeping-looked, acted_once}
 use Rattle.sweep.proofs.SweepLemmas.{can_look, room_back}
 use Rattle.sweep.proofs.running.sweep_run.Goals as goal
 
@@ -15,7 +15,9 @@ pub loop-done-init : goal.loop-done-init
 loop-done-init g c =
     let n = c.args.nvm.now.device in
     record {
-      rows = HasRows-none g.M.Computer.kind c.args.plan.now n c.args.asked.now c.args.watch.now.account c.requires.closed c.requires.fresh;
+      rows = IsKeeping-none g.M.Computer.kind c.args.plan.now n c.args.asked.now c.args.watch.now.account n c.requires.closed c.requires.fresh c.requires.unkept
+          c.requires.same;
+      compared = c.requires.compared;
       swept = record {
         turns = [];
         running = Running-first g.M.Computer.kind g.met.M.Computer.lawful c.args.plan.now c.in-Ok.progress n (g.T.Sink.stream c.args.terminal.now)
@@ -39,8 +41,8 @@ single-requires-clause-few g c =
     subst (λ (l : ℕ). c.loop-done.done < l) limit c.loop-done-test.true
 
 -- an image can be tried after the cycle
-pub look-requires : goal.look-requires
-look-requires g c =
+pub look-requires-clause-can : goal.look-requires-clause-can
+look-requires-clause-can g c =
     let h = c.loop-done.invariant.swept in
     let n = c.args.nvm.now.device in
     let x = c.single.new in
@@ -64,9 +66,11 @@ loop-done-preserved g c =
     (sinks (g.T.Sink.stream x.terminal) (g.R.Sink.stream x.report)) c.loop-done.room
     = record { turns = made.0; running = made.1; room = h.room } in
     record {
-      rows = HasRows-looked g.M.Computer.kind c.args.plan.now n c.args.asked.now x.nvm.device x.progress.mix (c.loop-done.done + 1)
+      rows = IsKeeping-looked g.M.Computer.kind c.args.plan.now n c.args.asked.now c.loop-done.nvm.device x.nvm.device x.progress.mix (c.loop-done.done + 1)
           (world_at x.progress x.nvm.device (c.loop-done.done + 1) made.0) c.loop-done.watch.account c.look.new.watch.account made.1.goes.ran refl refl
+          (acted_once g.M.Computer.kind c.args.plan.now c.loop-done.progress x.progress c.loop-done.nvm.device x.nvm.device c.loop-done.done h.turns made.0 c.in-Goes.stepped made.2)
           c.loop-done.invariant.rows c.in-Ok-look.ensures.looks;
+      compared = c.look.ensures.compared ∙ c.loop-done.invariant.compared;
       swept = record {
         turns = made.0;
         running = made.1;
@@ -78,13 +82,16 @@ loop-done-preserved g c =
 -- ---- its rows
 
 pub returns-in-Stops-clause-rows : goal.returns-in-Stops-clause-rows
-returns-in-Stops-clause-rows g c = c.loop-done.invariant.rows
+returns-in-Stops-clause-rows g c =
+    HasRows-kept g.M.Computer.kind c.args.plan.now c.args.nvm.now.device c.args.asked.now c.loop-done.watch.account c.loop-done.nvm.device c.loop-done.invariant.rows
 
 pub returns-in-Breaks-clause-rows : goal.returns-in-Breaks-clause-rows
-returns-in-Breaks-clause-rows g c = c.loop-done.invariant.rows
+returns-in-Breaks-clause-rows g c =
+    HasRows-kept g.M.Computer.kind c.args.plan.now c.args.nvm.now.device c.args.asked.now c.loop-done.watch.account c.loop-done.nvm.device c.loop-done.invariant.rows
 
 pub returns-clause-rows : goal.returns-clause-rows
-returns-clause-rows g c = c.loop-done.invariant.rows
+returns-clause-rows g c =
+    HasRows-kept g.M.Computer.kind c.args.plan.now c.args.nvm.now.device c.args.asked.now c.loop-done.watch.account c.loop-done.nvm.device c.loop-done.invariant.rows
 
 pub returns-then-ends_at-clause-rows : goal.returns-then-ends_at-clause-rows
 returns-then-ends_at-clause-rows g c =
@@ -92,9 +99,11 @@ returns-then-ends_at-clause-rows g c =
     let n : Device = c.args.nvm.now.device in
     let x = c.single.new in
     let made = c.in-Goes.ensures n h.turns (g.T.Sink.stream c.args.terminal.now) (g.R.Sink.stream c.args.report.now) h.running in
-    HasRows-looked g.M.Computer.kind c.args.plan.now n c.args.asked.now x.nvm.device x.progress.mix (c.loop-done.done + 1)
+    HasRows-kept g.M.Computer.kind c.args.plan.now n c.args.asked.now c.look.new.watch.account x.nvm.device
+    (IsKeeping-looked g.M.Computer.kind c.args.plan.now n c.args.asked.now c.loop-done.nvm.device x.nvm.device x.progress.mix (c.loop-done.done + 1)
     (world_at x.progress x.nvm.device (c.loop-done.done + 1) made.0) c.loop-done.watch.account c.look.new.watch.account made.1.goes.ran refl refl
-    c.loop-done.invariant.rows c.in-Ok-look.ensures.looks
+    (acted_once g.M.Computer.kind c.args.plan.now c.loop-done.progress x.progress c.loop-done.nvm.device x.nvm.device c.loop-done.done h.turns made.0 c.in-Goes.stepped made.2)
+    c.loop-done.invariant.rows c.in-Ok-look.ensures.looks)
 
 -- ---- what it leaves
 

@@ -1,5 +1,6 @@
+use Rattle.std.proofs.Common.{◌≡◌}
 use Rattle.thy_run.specs.Sending.{sinks}
-use Rattle.sweep.specs.Kept.{HasRows}
+use Rattle.sweep.proofs.KeptLemmas.{IsKeeping}
 use Rattle.sweep.specs.Sweeping.{IsSwept}
 use Rattle.sweep.proofs.running.sweep_run.Given as goal
 
@@ -10,5 +11,6 @@ invariant-loop-done g l =
     let now = sinks (g.T.Sink.stream l.terminal) (g.R.Sink.stream l.report) in
     record {
       swept : IsSwept g.M.Computer.kind l.plan l.initial.nvm.device l.progress l.nvm.device l.done before now l.room;
-      rows : HasRows g.M.Computer.kind l.plan l.initial.nvm.device l.asked l.watch.account;
+      rows : IsKeeping g.M.Computer.kind l.plan l.initial.nvm.device l.asked l.watch.account l.nvm.device;
+      compared : l.watch.beside.compared ≡ l.asked.compared;
     }

@@ -1,4 +1,4 @@
-use Rattle.std.proofs.Common.{◌≡◌, sym, ◌∙◌, ap, subst}
+use Rattle.std.proofs.Common.{◌∙◌}
 use Rattle.thy_block.specs.Device.{Device}
 use Rattle.sweep.specs.declared.row.Row.{Row}
 use Rattle.sweep.proofs.RowLemmas.{tried-of}
@@ -16,6 +16,9 @@ returns-in-Ok-clause-opens g c =
       opened = c.in-Ok.ensures.current;
       sums = c.in-Ok.ensures.sums;
       first = has.first ∙ c.new-row.ensures.first;
+      last = has.last ∙ c.new-row.ensures.last;
+      kept = c.in-Ok.ensures.kept;
+      differs = c.in-Ok.ensures.differs;
       says = record {
         queued = has.queued ∙ c.new-row.ensures.queued ∙ c.waits.ensures;
         images = c.in_ok-room.ensures.images;

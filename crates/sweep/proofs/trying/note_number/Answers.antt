@@ -1,4 +1,4 @@
-use Rattle.std.proofs.Common.{[], ◌∷◌, refl}
+use Rattle.std.proofs.Common.{refl}
 use Rattle.thy_block.specs.Device.{Device}
 use Rattle.thy_sweep.specs.Choices.{chosen, places_of}
 use Rattle.thy_trial.specs.declared.room.Found.{Found}
@@ -15,6 +15,7 @@ returns-in-Ok-clause-tried g c =
         leads = c.in-Ok.ensures.leads;
         tried = c.note.ensures.tried;
         first = c.note.ensures.first;
+        last = c.note.ensures.last;
         queued = c.note.ensures.queued;
         images = c.note.ensures.images;
       };

@@ -1,4 +1,4 @@
-use Rattle.std.proofs.Common.{◌≡◌, ◌∷◌, [], true, sym, ◌∙◌, ap, subst, refl, append-nil}
+use Rattle.std.proofs.Common.{◌∷◌, [], sym, ◌∙◌, ap, subst, refl, append-nil}
 use Rattle.std.specs.Prelude.{Option, IfSome}
 use Rattle.thy_block.specs.Device.{Device}
 use Rattle.thy_nvm.specs.Calls.{is_listed}
@@ -51,6 +51,7 @@ returns-in-Ok-clause-tried g c =
         leads = c.in-Ok.ensures.leads;
         tried = c.note.ensures.tried;
         first = c.note.ensures.first;
+        last = c.note.ensures.last;
         queued = c.note.ensures.queued;
         images = c.note.ensures.images;
       };

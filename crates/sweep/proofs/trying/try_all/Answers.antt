@@ -1,8 +1,8 @@
-use Rattle.std.proofs.Common.{◌≡◌, ◌+◌, ◌<◌, ◌≤◌, ℕ, List, [], ◌∷◌, ◌++◌, length, take, get_or, sym, ◌∙◌, ap, subst, arith}
+use Rattle.std.proofs.Common.{◌≡◌, ◌<◌, ◌≤◌, ℕ, List, [], length, take, get_or, sym, ◌∙◌, ap, subst, arith}
 use Rattle.std.proofs.lemmas.List.{take_all, take_more}
 use Rattle.thy_block.specs.declared.block.Block.{Block}
 use Rattle.thy_block.specs.Device.{Device}
-use Rattle.thy_sweep.specs.Choices.{AreNumbered, chosen, count_of, places_of}
+use Rattle.thy_sweep.specs.Choices.{AreNumbered, count_of, places_of}
 use Rattle.thy_sweep.specs.Images.{crash_images}
 use Rattle.thy_sweep.proofs.ChoiceLemmas.{numbers_images}
 use Rattle.sweep.specs.Rows.{TriesImages}

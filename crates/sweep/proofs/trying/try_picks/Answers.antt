@@ -1,4 +1,4 @@
-use Rattle.std.proofs.Common.{◌≡◌, ℕ, List, sym, ◌∙◌, ap, subst, arith}
+use Rattle.std.proofs.Common.{◌≡◌, ℕ, List, sym, ◌∙◌, subst, arith}
 use Rattle.sweep.specs.declared.row.Row.{Row}
 use Rattle.sweep.specs.Rows.{NotesPick, TriesPicks, picks_of}
 use Rattle.sweep.proofs.RowLemmas.{IsTrying, IsTrying-none, IsTrying-on}

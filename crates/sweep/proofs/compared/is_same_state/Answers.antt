@@ -1,7 +1,7 @@
 use Rattle.std.proofs.Common.{◌≡◌, sym, ◌∙◌, ap}
 use Rattle.thy_isa.specs.declared.state.CpuState.{CpuState}
 use Rattle.thy_isa.specs.Step.{State, cpu_of, state_of, state_with}
-use Rattle.sweep.proofs.beside.is_same_state.Goals as goal
+use Rattle.sweep.proofs.compared.is_same_state.Goals as goal
 
 pub returns : goal.returns
 returns c = λ same.
