@@ -6,7 +6,9 @@ use Rattle.std.specs.List.{flat_map}
 use Rattle.std.proofs.lemmas.List.{flat_map_more, take_more}
 use Rattle.std.proofs.lemmas.List.Concat.{flat_map-append}
 use Rattle.thy_run.specs.Watching.{Taken}
+use Rattle.thy_text.specs.Event.{Event}
 use Rattle.thy_observe.specs.declared.causes.Cause.{Cause}
+use Rattle.thy_observe.specs.declared.counting.Calls.{Calls}
 use Rattle.thy_observe.specs.declared.epochs.Row.{Row}
 use Rattle.thy_observe.specs.declared.ledger.Ledger.{Ledger}
 use Rattle.thy_observe.specs.declared.watch.Watch.{Watch}
@@ -18,7 +20,9 @@ use Rattle.thy_observe.specs.Tallied.{IsTally}
 use Rattle.thy_observe.proofs.LedgerLemmas.{counted}
 use Rattle.observe.specs.declared.beginning.Begun.{Begun}
 use Rattle.observe.specs.declared.options.Options.{Options}
-use Rattle.observe.specs.CountText.{AreCountsOf, AreOf, HasWhole, cause_name, causes_by, causes_part, causes_text, count_row, epoch_cell, epoch_row, epochs_by, epochs_head, epochs_part, number_cells, span_cells, tab, wear_part}
+use Rattle.observe.specs.declared.head.Asked.{Asked}
+use Rattle.observe.specs.CountText.{AreCountsOf, AreOf, HasWhole, cause_name, causes_by, causes_part, causes_text, count_row, epoch_cell, epoch_row, epochs_by, epochs_head, epochs_part, number_cells, nvm_counts, span_cells, tab, wear_part}
+use Rattle.observe.specs.HeadText.{IsHead}
 use Rattle.observe.specs.Sections.{GoesOn, HasSections}
 use Rattle.observe.proofs.TextLemmas.{three-parts, two-parts}
 
@@ -119,10 +123,12 @@ pushed-if (Ok x) old new more is = is
 pushed-if (Err e) old new more is = tt
 
 -- a whole text has what is counted and the writes of each place after all else
-pub whole-of : (o : Options) (begun : Option Begun) (w : Watch) (wear head text next whole : List ℕ) → HasSections o begun w.changes head text
-    → GoesOn (AreCountsOf o w) text next → whole ≡ next ++ wear_part o.wear wear → HasWhole o begun w wear whole
-whole-of o begun w wear head text next whole sections counted is = record {
+pub whole-of : (asked : Asked) (events : List Event) (o : Options) (begun : Option Begun) (w : Watch) (calls : Calls) (wear head text next whole : List ℕ)
+    → IsHead asked w.tally calls events head → HasSections o begun w.changes head text
+    → GoesOn (AreCountsOf o w) text next → whole ≡ next ++ wear_part o.wear wear → HasWhole asked events o begun w (nvm_counts calls wear) whole
+whole-of asked events o begun w calls wear head text next whole is_head sections counted is = record {
   head = head;
+  is_head = is_head;
   text = text;
   sections = sections;
   counted = counted.0;

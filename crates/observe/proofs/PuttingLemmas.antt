@@ -10,7 +10,7 @@ use Rattle.thy_view.specs.Origin.{setting_of}
 use Rattle.thy_text.specs.declared.closing.Closing.TheVariants.{Memory as ClosingMemory}
 use Rattle.thy_text.specs.Closings.{closing_of}
 use Rattle.thy_arguments.specs.declared.words.Command.{Command}
-use Rattle.thy_arguments.specs.Settings.{Order, IsInRange, order_of, settings_of}
+use Rattle.thy_arguments.specs.Settings.{IsInRange, order_of, settings_of}
 use Rattle.thy_answer.specs.declared.answer.Answer.{Answer}
 use Rattle.thy_answer.specs.declared.refusal.Refusal.{Refusal}
 use Rattle.thy_answer.specs.Answering.{Around, NvmOf, Outside, Closes, around, report_of_refusal}
@@ -22,7 +22,9 @@ use Rattle.thy_observe.specs.Watched.{IsWatch, HasLast}
 use Rattle.observe.specs.declared.beginning.Begun.{Begun}
 use Rattle.observe.specs.declared.options.Options.{Options}
 use Rattle.observe.specs.Beginning.{IsBegunBy, IsBegunOf, IsProgramOf, IsUnreadOf, origin_of}
-use Rattle.observe.specs.CountText.{HasWhole, wear_part}
+use Rattle.observe.specs.declared.head.Asked.{Asked}
+use Rattle.observe.specs.CountText.{HasWhole, NvmCounts, wear_part}
+use Rattle.observe.specs.HeadText.{IsHead, asked_by}
 use Rattle.observe.specs.Observing.{AreSections, HasTextOf, IsAskedFor, IsLacking, IsObserved, ReportsOut, IsUnread, is_refused_by, was_begun}
 use Rattle.observe.specs.Sections.{HasSections, HasText, IsText, IsTextOf, setting_by}
 use Rattle.observe.specs.Wanting.{asks, counts}
@@ -127,21 +129,21 @@ IsLacking-memory o old new answered status some closes is =
 
 -- ---- the shelf after a program was read from it
 
-pub IsObserved-same : {N : Type 0} (c : Choice) (d : NvmOf N) (wear : N → List ℕ) (options : Options) (out : List ℕ) (words : List (List ℕ)) (old middle : Stock)
+pub IsObserved-same : {N : Type 0} (c : Choice) (d : NvmOf N) (counted_by : N → NvmCounts) (options : Options) (out : List ℕ) (words : List (List ℕ)) (old middle : Stock)
     (nvm : N) (terminal report : Stream) (after : Around N) (status : ℕ)
-    → middle ≡ old → IsObserved c d wear options out words (around middle nvm terminal report) after status
-    → IsObserved c d wear options out words (around old nvm terminal report) after status
-IsObserved-same c d wear options out words old middle nvm terminal report after status same h =
-    subst (λ (s : Stock). IsObserved c d wear options out words (around s nvm terminal report) after status) same h
+    → middle ≡ old → IsObserved c d counted_by options out words (around middle nvm terminal report) after status
+    → IsObserved c d counted_by options out words (around old nvm terminal report) after status
+IsObserved-same c d counted_by options out words old middle nvm terminal report after status same h =
+    subst (λ (s : Stock). IsObserved c d counted_by options out words (around s nvm terminal report) after status) same h
 
 -- a call that leaves OUT as it was, as no run was begun
-pub IsObserved-left : {N : Type 0} (c : Choice) (d : NvmOf N) (wear : N → List ℕ) (options : Options) (out : List ℕ) (words : List (List ℕ)) (old middle : Stock)
+pub IsObserved-left : {N : Type 0} (c : Choice) (d : NvmOf N) (counted_by : N → NvmCounts) (options : Options) (out : List ℕ) (words : List (List ℕ)) (old middle : Stock)
     (nvm : N) (terminal report : Stream) (after : Around N) (a : Answer) (w : Watch)
     → middle ≡ old → is_refused_by options out (settings_of words) ≡ false → was_begun a ≡ false
     → ClaimSeen c d IsWatch HasLast words (around middle nvm terminal report) after a w
-    → IsObserved c d wear options out words (around old nvm terminal report) after a.status
-IsObserved-left c d wear options out words old middle nvm terminal report after a w same free none claim =
-    IsObserved-same c d wear options out words old middle nvm terminal report after a.status same (record {
+    → IsObserved c d counted_by options out words (around old nvm terminal report) after a.status
+IsObserved-left c d counted_by options out words old middle nvm terminal report after a w same free none claim =
+    IsObserved-same c d counted_by options out words old middle nvm terminal report after a.status same (record {
       free = free;
       middle = after;
       answer = a;
@@ -151,14 +153,14 @@ IsObserved-left c d wear options out words old middle nvm terminal report after 
     })
 
 -- a call without a text, as memory ran out
-pub IsObserved-lacks : {N : Type 0} (c : Choice) (d : NvmOf N) (wear : N → List ℕ) (options : Options) (out : List ℕ) (words : List (List ℕ)) (old middle shelf : Stock)
+pub IsObserved-lacks : {N : Type 0} (c : Choice) (d : NvmOf N) (counted_by : N → NvmCounts) (options : Options) (out : List ℕ) (words : List (List ℕ)) (old middle shelf : Stock)
     (first nvm : N) (terminal shown report reported last : Stream) (a : Answer) (w : Watch) (status : ℕ)
     → middle ≡ old → is_refused_by options out (settings_of words) ≡ false → was_begun a ≡ true
     → ClaimSeen c d IsWatch HasLast words (around middle first terminal report) (around shelf nvm shown reported) a w
     → IsLacking options reported last a.status status
-    → IsObserved c d wear options out words (around old first terminal report) (around shelf nvm shown last) status
-IsObserved-lacks c d wear options out words old middle shelf first nvm terminal shown report reported last a w status same free begun claim lacking =
-    IsObserved-same c d wear options out words old middle first terminal report (around shelf nvm shown last) status same (record {
+    → IsObserved c d counted_by options out words (around old first terminal report) (around shelf nvm shown last) status
+IsObserved-lacks c d counted_by options out words old middle shelf first nvm terminal shown report reported last a w status same free begun claim lacking =
+    IsObserved-same c d counted_by options out words old middle first terminal report (around shelf nvm shown last) status same (record {
       free = free;
       middle = around shelf nvm shown reported;
       answer = a;
@@ -168,20 +170,21 @@ IsObserved-lacks c d wear options out words old middle shelf first nvm terminal 
     })
 
 -- a call with a text, which was put or could not be
-pub IsObserved-puts : {N : Type 0} (c : Choice) (d : NvmOf N) (wear : N → List ℕ) (options : Options) (out : List ℕ) (words : List (List ℕ)) (old middle shelf put : Stock)
-    (first nvm : N) (terminal shown report reported last : Stream) (a : Answer) (w : Watch) (command : Option Command) (begun : Option Begun) (whole : List ℕ)
-    (why : Option PutError) (status : ℕ)
+pub IsObserved-puts : {N : Type 0} (c : Choice) (d : NvmOf N) (counted_by : N → NvmCounts) (options : Options) (out : List ℕ) (words : List (List ℕ)) (old middle shelf put : Stock)
+    (first nvm : N) (terminal shown report reported last : Stream) (a : Answer) (w : Watch) (command : Option Command) (known : Asked) (begun : Option Begun)
+    (whole : List ℕ) (why : Option PutError) (status : ℕ)
     → middle ≡ old → is_refused_by options out (settings_of words) ≡ false → was_begun a ≡ true
     → ClaimSeen c d IsWatch HasLast words (around middle first terminal report) (around shelf nvm shown reported) a w
-    → IfSome command (IsAskedFor words) → IfSome begun (IsBegunOf (option_map order_of command) middle) → HasWhole options begun w (wear nvm) whole
+    → IfSome command (IsAskedFor words) → known ≡ asked_by (settings_of words) → IfSome begun (IsBegunOf (option_map order_of command) middle)
+    → HasWhole known a.events.last options begun w (counted_by nvm) whole
     → IsPut out whole shelf put why → ReportsOut out why reported last a.status status
-    → IsObserved c d wear options out words (around old first terminal report) (around put nvm shown last) status
-IsObserved-puts c d wear options out words old middle shelf put first nvm terminal shown report reported last a w command begun whole why status same free ran claim asked by has is reports =
+    → IsObserved c d counted_by options out words (around old first terminal report) (around put nvm shown last) status
+IsObserved-puts c d counted_by options out words old middle shelf put first nvm terminal shown report reported last a w command known begun whole why status same free ran claim asked is_known by has is reports =
     let ends = Ends-sections options words middle command begun w has.head has.text asked by has.sections in
-    let rest : List ℕ = has.counted ++ wear_part options.wear (wear nvm) in
+    let rest : List ℕ = has.counted ++ wear_part options.wear (counted_by nvm).wear in
     let text : whole ≡ has.head ++ (ends.section ++ rest) =
     has.splits ∙ ap (λ (t : List ℕ). t ++ rest) ends.splits ∙ append_assoc has.head ends.section rest in
-    IsObserved-same c d wear options out words old middle first terminal report (around put nvm shown last) status same (record {
+    IsObserved-same c d counted_by options out words old middle first terminal report (around put nvm shown last) status same (record {
       free = free;
       middle = around shelf nvm shown reported;
       answer = a;
@@ -190,6 +193,7 @@ IsObserved-puts c d wear options out words old middle shelf put first nvm termin
       ends = inr (inr (record {
         begun = ran;
         head = has.head;
+        is_head = subst (λ (x : Asked). IsHead x w.tally (counted_by nvm).calls a.events.last has.head) is_known has.is_head;
         section = ends.section;
         sections = ends.sections;
         counted = has.counted;

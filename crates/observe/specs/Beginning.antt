@@ -1,5 +1,5 @@
 -- What the observed run begins with.
-use Rattle.std.specs.Prelude.{◌≡◌, ℕ, Bool, false, is_some, List, Option, Some, None}
+use Rattle.std.specs.Prelude.{◌≡◌, Bool, false, is_some, Option, Some, None}
 use Rattle.std.specs.Borrow.{Bor}
 use Rattle.thy_block.specs.Bytes.{bytes_of}
 use Rattle.thy_base.specs.Config.{parameters_of}
@@ -7,7 +7,7 @@ use Rattle.thy_block.specs.Outside.{Stock}
 use Rattle.thy_isa.specs.Step.{state_of}
 use Rattle.thy_view.specs.Origin.{Origin}
 use Rattle.thy_arguments.specs.declared.words.Job.{Job as JobStruct}
-use Rattle.thy_arguments.specs.Settings.{Job, Order, run, resume, bench, compare, plain, make, job_of}
+use Rattle.thy_arguments.specs.Settings.{Job, Order, run, resume, bench, job_of}
 use Rattle.thy_answer.specs.declared.refusal.Refusal.{Refusal}
 use Rattle.thy_answer.specs.declared.source.ProgramSource.{ProgramSource as SourceValue}
 use Rattle.thy_answer.specs.Kept.{named}

@@ -4,8 +4,10 @@ use Rattle.std.specs.Fmt.{decimal}
 use Rattle.std.specs.List.{flat_map}
 use Rattle.thy_block.specs.Counts.{next}
 use Rattle.thy_run.specs.Watching.{Taken}
+use Rattle.thy_text.specs.Event.{Event}
 use Rattle.thy_observe.specs.declared.causes.Cause.{Cause}
 use Rattle.thy_observe.specs.declared.causes.Cause.TheVariants.{Boot, Instruction, Meanwhile, Flush, Merge, Seal, Promotion, Copy, Home, Page, Processor, Table, Commit, Barrier, NvmDrain, DramDrain, Nothing}
+use Rattle.thy_observe.specs.declared.counting.Calls.{Calls}
 use Rattle.thy_observe.specs.declared.epochs.End.{End}
 use Rattle.thy_observe.specs.declared.epochs.End.TheVariants as end
 use Rattle.thy_observe.specs.declared.epochs.Row.{Row}
@@ -16,6 +18,8 @@ use Rattle.thy_observe.specs.Kinds.{has_waited}
 use Rattle.thy_observe.specs.Watched.{IsWatch}
 use Rattle.observe.specs.declared.beginning.Begun.{Begun}
 use Rattle.observe.specs.declared.options.Options.{Options}
+use Rattle.observe.specs.declared.head.Asked.{Asked}
+use Rattle.observe.specs.HeadText.{IsHead}
 use Rattle.observe.specs.Sections.{HasSections}
 use Rattle.observe.specs.StateText.{rows_from}
 
@@ -129,11 +133,26 @@ AreOf text w part = (seen : List Taken) → IsWatch w seen → part ≡ text see
 abbrev pub AreCountsOf : Options → Watch → List ℕ → Type 0
 AreCountsOf o w part = AreOf (counts_text o) w part
 
--- a whole text: its head with what is asked for in addition, what is counted, and how many writes each place has taken
-pub record HasWhole (options : Options) (begun : Option Begun) (w : Watch) (wear whole : List ℕ) : Type 0 where
+-- what an NVM has counted: its calls, and the writes of each place
+pub record NvmCounts : Type 0 where
+  pub calls : Calls
+  pub wear : List ℕ
+
+abbrev pub nvm_counts : Calls → List ℕ → NvmCounts
+nvm_counts calls wear = record { calls = calls; wear = wear }
+
+-- by what its calls say
+abbrev pub counts_of : {N : Type 0} → (N → Calls) → (N → List ℕ) → N → NvmCounts
+counts_of calls wear n = nvm_counts (calls n) (wear n)
+
+-- a whole text: what every text begins with, with what is asked for in addition, what is counted, and how many writes each place
+-- has taken
+pub record HasWhole (asked : Asked) (events : List Event) (options : Options) (begun : Option Begun) (w : Watch) (n : NvmCounts)
+    (whole : List ℕ) : Type 0 where
   pub head : List ℕ
+  pub is_head : IsHead asked w.tally n.calls events head
   pub text : List ℕ
   pub sections : HasSections options begun w.changes head text
   pub counted : List ℕ
   pub counts : AreCountsOf options w counted
-  pub splits : whole ≡ text ++ (counted ++ wear_part options.wear wear)
+  pub splits : whole ≡ text ++ (counted ++ wear_part options.wear n.wear)

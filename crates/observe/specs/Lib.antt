@@ -3,5 +3,8 @@ pub mod Beginning
 pub mod StateText
 pub mod TraceText
 pub mod Sections
+pub mod EventText
+pub mod TotalsText
+pub mod HeadText
 pub mod CountText
 pub mod Observing

@@ -25,7 +25,8 @@ use Rattle.observe.specs.declared.options.Options.{Options}
 use Rattle.observe.specs.Beginning.{IsProgramOf, IsUnreadBy, origin_of, run_in}
 use Rattle.observe.specs.Sections.{IsText}
 use Rattle.observe.specs.Wanting.{asks, counts, lacks_trace, needs_run}
-use Rattle.observe.specs.CountText.{AreCountsOf, wear_part}
+use Rattle.observe.specs.CountText.{AreCountsOf, NvmCounts, wear_part}
+use Rattle.observe.specs.HeadText.{IsHead, asked_by}
 
 -- OUT is this name
 abbrev pub is_name : List ℕ → Option (List ℕ) → Bool
@@ -126,18 +127,21 @@ abbrev pub AreSections : Options → List (List ℕ) → Stock → Watch → Lis
 AreSections options words shelf w section =
     MatchBool (asks options) (HasTextOf options words shelf w section) (section ≡ [])
 
--- A run was begun, and a text was put under OUT, or was not; all else is left alone. The text ends with what is asked for in
--- addition, with what is counted in the cycles that were seen, and with the writes of each place that the NVM has counted.
-pub record PutsOut {N : Type 0} (wear : N → List ℕ) (options : Options) (out : List ℕ) (words : List (List ℕ))
+-- A run was begun, and a text was put under OUT, or was not; all else is left alone. The text begins with the lines of the run's
+-- events, its trap and its totals, by the cycles that were seen and the calls that the NVM has counted; of the plain machine with the
+-- trap. It ends with what is asked for in addition, with what is counted in these cycles, and with the writes of each place that the
+-- NVM has counted.
+pub record PutsOut {N : Type 0} (counted_by : N → NvmCounts) (options : Options) (out : List ℕ) (words : List (List ℕ))
     (before middle after : Around N) (a : Answer) (w : Watch) (status : ℕ) : Type 0 where
   pub begun : was_begun a ≡ true
   pub head : List ℕ
+  pub is_head : IsHead (asked_by (settings_of words)) w.tally (counted_by middle.nvm).calls a.events.last head
   pub section : List ℕ
   pub sections : AreSections options words before.shelf w section
   pub counted : List ℕ
   pub counts : AreCountsOf options w counted
   pub why : Option PutError
-  pub put : IsPut out (head ++ (section ++ (counted ++ wear_part options.wear (wear middle.nvm)))) middle.shelf after.shelf why
+  pub put : IsPut out (head ++ (section ++ (counted ++ wear_part options.wear (counted_by middle.nvm).wear))) middle.shelf after.shelf why
   pub nvm : after.nvm ≡ middle.nvm
   pub terminal : after.terminal ≡ middle.terminal
   pub is_reported : ReportsOut out why middle.report after.report a.status status
@@ -161,7 +165,7 @@ pub record LacksOut {N : Type 0} (options : Options) (middle after : Around N) (
 
 -- OUT is no name that the arguments have. They were answered as thynvm answers them, and what was seen is the run's
 -- cycles, or the trap of the plain machine. Then OUT was put, or nothing was.
-pub record IsObserved {N : Type 0} (c : Choice) (d : NvmOf N) (wear : N → List ℕ) (options : Options) (out : List ℕ) (words : List (List ℕ))
+pub record IsObserved {N : Type 0} (c : Choice) (d : NvmOf N) (counted_by : N → NvmCounts) (options : Options) (out : List ℕ) (words : List (List ℕ))
     (before after : Around N) (status : ℕ) : Type 0 where
   pub free : is_refused_by options out (settings_of words) ≡ false
   pub middle : Around N
@@ -170,11 +174,11 @@ pub record IsObserved {N : Type 0} (c : Choice) (d : NvmOf N) (wear : N → List
   pub claim : ClaimSeen c d IsWatch HasLast words before middle answer watch
   pub ends : LeavesOut middle after answer status
       ⊎ LacksOut options middle after answer status
-      ⊎ PutsOut wear options out words before middle after answer watch status
+      ⊎ PutsOut counted_by options out words before middle after answer watch status
 
 -- what a call does, with OUT, these options and these arguments
-abbrev pub Observed : {N : Type 0} → Choice → NvmOf N → (N → List ℕ) → Options → List ℕ → List (List ℕ) → Around N → Around N → ℕ → Type 0
-Observed c d wear options out words before after status =
+abbrev pub Observed : {N : Type 0} → Choice → NvmOf N → (N → NvmCounts) → Options → List ℕ → List (List ℕ) → Around N → Around N → ℕ → Type 0
+Observed c d counted_by options out words before after status =
     ((e : WordsError) × IsTurned options out words (outside_of d before) (outside_of d after) status e)
     ⊎ IsUnread options words (outside_of d before) (outside_of d after) status
-    ⊎ IsObserved c d wear options out words before after status
+    ⊎ IsObserved c d counted_by options out words before after status

@@ -5,17 +5,17 @@
 //! has taken. With `--torn` before the
 //! command the run goes over an NVM whose blocks may be torn.
 //!
-//! Open specs/Observing.antt first, and src/top.rt; src/out.rt and what it uses make the text, without contracts, and
-//! src/sections.rt, src/counts.rt and src/wear.rt what is added to it, exactly. `main` makes the real shelf, sinks and device. It stands on thy_cli,
-//! thy_files, thy_observe, thy_plain, thy_out and thy_nvm; nothing stands on it.
+//! Open specs/Observing.antt first, and src/top.rt; src/head.rt and what it uses make what every text begins with, and
+//! src/sections.rt, src/counts.rt and src/wear.rt what is added to it. `main` makes the real shelf, sinks and device. It stands on
+//! thy_cli, thy_files, thy_observe, thy_plain, thy_out and thy_nvm; nothing stands on it.
 #![tactic(auto)]
 
 mod beginning;
 mod counts;
+mod head;
 mod lines;
 mod naming;
 mod options;
-mod out;
 mod sections;
 mod states;
 #[cfg(test)]

@@ -9,13 +9,15 @@ ghost use Rattle.thy_run.specs.Sending.{Sent};
 ghost use Rattle.thy_text.specs.Closings.{closing_of};
 ghost use Rattle.thy_arguments.specs.Settings.{IsInRange, order_of, settings_of};
 ghost use Rattle.observe.specs.Beginning.{IsBegunOf, IsUnreadOf, has_run};
+ghost use Rattle.observe.specs.CountText.{counts_of};
+ghost use Rattle.observe.specs.HeadText.{asked_by, asked_in};
 ghost use Rattle.observe.specs.Wanting.{asks};
 ghost use Rattle.observe.specs.Observing.{IsAskedFor, IsLacking, IsRefusedFor, ReportsOut, Observed, is_refused_by};
 
 use crate::beginning::{Begun, begin};
+use crate::head::{Asked, was_begun};
 use crate::naming::is_refused;
 use crate::options::Options;
-use crate::out::{Asked, was_begun};
 use crate::whole::whole_text;
 use std::alloc::Global;
 use thy_arguments::{Command, WordsError, settings};
@@ -46,6 +48,8 @@ fn command_of(
     ensures free { OnOk result
         (is_refused_by options out.now (settings_of (map string_bytes words.now)) ≡ false) }
     ensures asked { IfOk result (λ o. IfSome o (IsAskedFor (map string_bytes words.now))) }
+    ensures known { IfOk result (λ o. asked_in (option_map order_of o)
+        ≡ asked_by (settings_of (map string_bytes words.now))) }
     ensures refused { IfErr result (IsRefusedFor options out.now (map string_bytes words.now)) }
 {
     match settings(alloc, words) {
@@ -152,7 +156,8 @@ pub fn observe<H: Shelf, T: Sink, R: Sink, N: Nvm + Counts>(
         let machines = by_scheme ⟦<Machine<Thynvm> as Computer>⟧.kind
         ⟦<Machine<Journal> as Computer>⟧.kind
         ⟦<Machine<Shadow> as Computer>⟧.kind in
-        Observed machines nvms N.wear options out.now (map string_bytes words.now) before after result }
+        let counted = counts_of N.calls N.wear in
+        Observed machines nvms counted options out.now (map string_bytes words.now) before after result }
 {
     let command = match command_of(alloc, options, out, words) {
         Ok(command) => command,

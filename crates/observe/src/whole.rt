@@ -1,11 +1,11 @@
 //! The whole text that is put under OUT.
 ghost use Rattle.std.specs.Prelude.{IfSome, string_bytes};
-ghost use Rattle.observe.specs.CountText.{HasWhole};
+ghost use Rattle.observe.specs.CountText.{HasWhole, nvm_counts};
 
 use crate::beginning::Begun;
 use crate::counts::with_counts;
+use crate::head::{Asked, text_of};
 use crate::options::Options;
-use crate::out::{Asked, text_of};
 use crate::sections::with_sections;
 use crate::wear::with_wear;
 use std::alloc::Global;
@@ -22,10 +22,13 @@ pub fn whole_text<C: Counts>(
     watch: &Watch,
     nvm: &C,
 ) -> Option<String>
-    ensures { IfSome result (λ whole. HasWhole options begun watch.now (C.wear nvm.now) (string_bytes whole)) }
+    ensures { let events = answer.now.events.last in
+        let counted = nvm_counts (C.calls nvm.now) (C.wear nvm.now) in
+        IfSome result (λ whole. HasWhole asked events options begun watch.now counted (string_bytes whole)) }
 {
     let calls = nvm.calls();
-    let Ok(Some(head)) = text_of(alloc, asked, answer, &watch.tally, &calls) else {
+    let events = answer.events.last();
+    let Ok(head) = text_of(alloc, asked, &watch.tally, &calls, events) else {
         return None;
     };
     let text = with_sections(alloc, head, options, begun, &watch.changes)?;

@@ -1,4 +1,4 @@
-use Rattle.std.proofs.Common.{◌≡◌, List, ◌++◌, Option, OnOk, sym, subst, string_bytes}
+use Rattle.std.proofs.Common.{◌≡◌, ◌++◌, Option, OnOk, sym, subst, string_bytes}
 use Rattle.thy_isa.specs.declared.state.OtherHart.{OtherHart}
 use Rattle.observe.specs.StateText.{hart_text, other_text, reserved_text}
 use Rattle.observe.proofs.TextLemmas.{three-parts-if}

@@ -1,11 +1,12 @@
 use Rattle.std.proofs.Common.{◌≡◌, refl, sym, ◌∙◌, inl, inr, subst, string_bytes}
 use Rattle.std.specs.Prelude.{IfSome, map, option_map}
 use Rattle.thy_block.specs.Outside.{Stock}
-use Rattle.thy_arguments.specs.Settings.{order_of}
+use Rattle.thy_arguments.specs.Settings.{order_of, settings_of}
 use Rattle.thy_answer.specs.Saving.{IsPut}
 use Rattle.thy_answer.proofs.ShelfLemmas.{stock_same}
 use Rattle.observe.specs.Beginning.{IsBegunOf, IsUnreadOf}
-use Rattle.observe.proofs.PuttingLemmas.{Ends-sections, IsObserved-lacks, IsObserved-left, IsObserved-puts, Unread-asked, lent-in-range, lent-order}
+use Rattle.observe.proofs.HeadLemmas.{lent-asked}
+use Rattle.observe.proofs.PuttingLemmas.{IsObserved-lacks, IsObserved-left, IsObserved-puts, Unread-asked, lent-in-range, lent-order}
 use Rattle.observe.proofs.top.observe.Goals as goal
 
 pub returns-in-Err : goal.returns-in-Err
@@ -61,9 +62,12 @@ returns g c =
     subst (λ s. IfSome c.in-Ok-beginning.begun (IsBegunOf (option_map order_of c.in-Ok.command) s)) (sym same)
     (subst (λ o. IfSome c.in-Ok-beginning.begun (IsBegunOf o old)) (lent-order c.as_ref.result c.in-Ok.command c.as_ref.ensures.value)
     c.in-Ok-beginning.ensures.begins) in
+    let known =
+    lent-asked (settings_of (map string_bytes c.args.words.now)) c.as_ref-2.result c.in-Ok.command c.of-asked.result
+    (lent-order c.as_ref-2.result c.in-Ok.command c.as_ref-2.ensures.value) c.of-asked.ensures c.in-Ok.ensures.known in
     inr (inr (IsObserved-puts _ _ _ c.args.options c.args.out.now (map string_bytes c.args.words.now) old middle (g.H.Shelf.stock x.shelf)
     (g.H.Shelf.stock c.put_text-why.new.shelf) _ x.nvm _ (g.T.Sink.stream x.terminal) _ (g.R.Sink.stream x.report) _ c.observed-answer.result x.observer
-    c.in-Ok.command c.in-Ok-beginning.begun (string_bytes c.in-Some.text) c.put_text-why.result _ same c.in-Ok.ensures.free
-    (sym c.was_begun-ran.ensures ∙ c.if-not-ran.false) c.observed-answer.ensures c.in-Ok.ensures.asked begun c.in-Some.ensures
+    c.in-Ok.command c.of-asked.result c.in-Ok-beginning.begun (string_bytes c.in-Some.text) c.put_text-why.result _ same c.in-Ok.ensures.free
+    (sym c.was_begun-ran.ensures ∙ c.if-not-ran.false) c.observed-answer.ensures c.in-Ok.ensures.asked known begun c.in-Some.ensures
     (subst (λ text. IsPut c.args.out.now text (g.H.Shelf.stock x.shelf) (g.H.Shelf.stock c.put_text-why.new.shelf) c.put_text-why.result)
     c.as_str.ensures.value c.put_text-why.ensures) c.write_report.ensures))

@@ -1,4 +1,4 @@
-use Rattle.std.proofs.Common.{Bool, List, ℕ, ◌≡◌, ◌++◌, sym, subst, ◌∙◌, ap, append-nil, string_bytes}
+use Rattle.std.proofs.Common.{Bool, ◌++◌, sym, ◌∙◌, ap, append-nil, string_bytes}
 use Rattle.observe.specs.CountText.{wear_part}
 use Rattle.observe.proofs.wear.with_wear.Goals as goal
 
