@@ -1,4 +1,4 @@
-//! Picks that nobody asks for: those of cycles which are a hart's whatever they are. Of a schedule in turn they are passed at once.
+//! Picks that nobody asks for, since a row's cycles are a hart's whatever the picks are. A schedule in turn passes them at once.
 ghost use Rattle.std.specs.Prelude.{◌≡◌, ◌%◌, ◌<◌, ◌≤◌};
 ghost use Rattle.thy_block.specs.declared.mix.Mix.TheVariants.{InTurn};
 ghost use Rattle.thy_block.specs.Mix.{pick_of_four, pick_of_five};
@@ -6,7 +6,7 @@ ghost use Rattle.thy_run.specs.Picks.{after_picks, place_of_four, place_of_five}
 
 use thy_base::{Mix, Pick};
 
-/// Draws this many picks, those of a row.
+/// Draws the picks of a row.
 #[inline(always)]
 pub(crate) fn pass_picks(mix: &mut Mix, harts: u64, picks: u64)
     requires { picks ≤ 5 }
