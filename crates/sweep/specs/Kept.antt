@@ -1,5 +1,5 @@
 -- The rows of a sweep, and what is kept of them.
-use Rattle.std.specs.Prelude.{◌≡◌, ◌⊎◌, ℕ, false, ◌-◌, ◌^◌, min, nat_lt, Bool, ◌||◌, List, [], ◌∷◌, length, Option, Some, None, IfSome, option_map}
+use Rattle.std.specs.Prelude.{◌≡◌, ◌⊎◌, ℕ, true, false, ◌+◌, ◌-◌, ◌^◌, ◌≤◌, min, is_some, nat_lt, Bool, ◌||◌, List, [], ◌∷◌, length, Option, Some, None, IfSome, option_map}
 use Rattle.std.specs.List.{AllByRecursion}
 use Rattle.thy_block.specs.declared.mix.Mix.{Mix}
 use Rattle.thy_block.specs.Device.{Device}
@@ -16,6 +16,7 @@ use Rattle.sweep.specs.declared.asked.Asked.{Asked}
 use Rattle.sweep.specs.declared.row.Row.{Row}
 use Rattle.sweep.specs.declared.running.Swept.{Swept}
 use Rattle.sweep.specs.declared.running.Swept.TheVariants.{Stopped, Reached, Short}
+use Rattle.sweep.specs.Findings.{has}
 use Rattle.sweep.specs.Rows.{TriesAsked}
 use Rattle.sweep.specs.Still.{IsKept, IsLooked}
 
@@ -29,14 +30,17 @@ pub record IsRowAt {M : Type 0} (K : KindOf M) (plan : Plan) (n : Device) (mix :
   pub untried : before.tried ≡ 0
   pub tried : TriesAsked K plan n mix a before row
 
--- a row is one of a run: it says this after its first cycle, and after its last the device is as it was, but for its counts
+-- after each of these cycles of a run the device is this one, but for its counts
+abbrev pub StaysThrough : {M : Type 0} → KindOf M → Plan → (fitted n : Device) → (first last : ℕ) → Type 0
+StaysThrough {M = M} K plan fitted n first last =
+    (k : ℕ) → first ≤ k → k ≤ last → (w : World M) × Ran K (origin_of plan) (given_of plan fitted) k w × IsAsBefore n w.device
+
+-- a row is one of a run: it says this after its first cycle, and each of its cycles leaves the device as the first does
 pub record IsRowOf {M : Type 0} (K : KindOf M) (plan : Plan) (fitted : Device) (a : Asked) (row : Row) : Type 0 where
   pub world : World M
   pub ran : Ran K (origin_of plan) (given_of plan fitted) row.first world
   pub says : IsRowAt K plan world.device world.mix a row
-  pub last : World M
-  pub ran_last : Ran K (origin_of plan) (given_of plan fitted) row.last last
-  pub same : IsAsBefore world.device last.device
+  pub stays : StaysThrough K plan fitted world.device row.first row.last
 
 -- the sums of rows
 abbrev pub sums_of : List Row → Sums → Sums
@@ -66,17 +70,22 @@ differs_into (Some r) b = b || differs_in r
 abbrev pub extended : ℕ → ℕ → Row → Row
 extended cycle count row = record row { last = cycle; to_count = count }
 
--- the open row has one cycle more, because the device is as it was; or the row stays
-abbrev pub StaysRow : ℕ → Account → Account → Type 0
-StaysRow cycle old new =
-    (new.current ≡ old.current)
-    ⊎ ((count : ℕ) × (new.current ≡ option_map (extended cycle count) old.current) × (new.kept.changed ≡ false))
+-- the open row has one cycle more, because the device is as it was
+pub record ExtendsRow (cycle : ℕ) (old new : Account) : Type 0 where
+  pub count : ℕ
+  pub some : is_some old.current ≡ true
+  pub more : new.current ≡ option_map (extended cycle count) old.current
+  pub same : new.kept.changed ≡ false
+
+-- it has; or it stays, because the cycle is not asked for
+abbrev pub StaysRow : Asked → ℕ → Account → Account → Type 0
+StaysRow a cycle old new = ((new.current ≡ old.current) × (has a cycle ≡ false)) ⊎ ExtendsRow cycle old new
 
 -- no row was opened in this cycle, which left this device
-pub record KeepsRow (n : Device) (cycle : ℕ) (old new : Account) : Type 0 where
+pub record KeepsRow (a : Asked) (n : Device) (cycle : ℕ) (old new : Account) : Type 0 where
   pub sums : new.sums ≡ old.sums
   pub differs : new.differs ≡ old.differs
-  pub stays : StaysRow cycle old new
+  pub stays : StaysRow a cycle old new
   pub looked : IsLooked old.kept new.kept n
 
 -- a row of this cycle was opened
@@ -91,18 +100,33 @@ pub record OpensRow {M : Type 0} (K : KindOf M) (plan : Plan) (n : Device) (mix 
   pub differs : new.differs ≡ (old.differs || differs_in row)
 
 abbrev pub LooksTo : {M : Type 0} → KindOf M → Plan → Device → Mix → Asked → ℕ → Account → Account → Type 0
-LooksTo K plan n mix a cycle old new = KeepsRow n cycle old new ⊎ OpensRow K plan n mix a cycle old new
+LooksTo K plan n mix a cycle old new = KeepsRow a n cycle old new ⊎ OpensRow K plan n mix a cycle old new
 
--- Each row, also the open one, is one of the run, and the sums count the others. A state differs if one does in a row.
-pub record HasRows {M : Type 0} (K : KindOf M) (plan : Plan) (fitted : Device) (a : Asked) (account : Account) : Type 0 where
+-- a cycle is in a row
+abbrev pub IsIn : ℕ → Row → Type 0
+IsIn k row = (row.first ≤ k) × (k ≤ row.last)
+
+abbrev pub IsInOpen : ℕ → Option Row → Type 0
+IsInOpen k None = ⊥
+IsInOpen k (Some row) = IsIn k row
+
+abbrev pub IsInOne : ℕ → List Row → Type 0
+IsInOne k [] = ⊥
+IsInOne k (r ∷ rs) = IsIn k r ⊎ IsInOne k rs
+
+-- Each row, also the open one, is one of the run, and the sums count the others. Each of the cycles so far that are asked for is in
+-- one. A state differs if one does in a row.
+pub record HasRows {M : Type 0} (K : KindOf M) (plan : Plan) (fitted : Device) (a : Asked) (done : ℕ) (account : Account) : Type 0 where
   pub closed : List Row
   pub each : AllByRecursion (IsRowOf K plan fitted a) closed
   pub sums : account.sums ≡ sums_of closed no_rows
   pub current : IfSome account.current (IsRowOf K plan fitted a)
   pub differs : account.differs ≡ differs_into account.current (differs_of closed false)
+  pub covers : (k : ℕ) → 1 ≤ k → k ≤ done → has a k ≡ true → IsInOpen k account.current ⊎ IsInOne k closed
 
--- what is kept of a sweep; nothing is said if memory ran out
+-- What is kept of a sweep: rows of all its cycles, except that there is none of the cycle with which a run ends. Nothing is said if
+-- memory ran out.
 abbrev pub KeepsRows : {M : Type 0} → KindOf M → Plan → Device → Asked → Account → Swept → Type 0
 KeepsRows K plan fitted a account Short = Unit {0}
-KeepsRows K plan fitted a account (Stopped ending) = HasRows K plan fitted a account
-KeepsRows K plan fitted a account (Reached cycle) = HasRows K plan fitted a account
+KeepsRows K plan fitted a account (Stopped ending) = (done : ℕ) × (ending.cycles ≤ done + 1) × HasRows K plan fitted a done account
+KeepsRows K plan fitted a account (Reached cycle) = HasRows K plan fitted a cycle account

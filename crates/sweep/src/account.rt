@@ -1,5 +1,5 @@
 //! What a sweep comes to so far: its text, its open row, and its sums.
-ghost use Rattle.std.specs.Prelude.{◌≡◌, ◌||◌, true, false, List, ◌∷◌, None, Some, OnOk, option_map};
+ghost use Rattle.std.specs.Prelude.{◌≡◌, ◌||◌, true, false, List, ◌∷◌, None, Some, is_some, OnOk, option_map};
 ghost use Rattle.thy_sweep.specs.Sums.{no_rows};
 ghost use Rattle.sweep.specs.Concluding.{is_empty};
 ghost use Rattle.sweep.specs.Kept.{closed_into, differs_in, extended};
@@ -174,6 +174,7 @@ impl Account {
         ensures still { result ≡ true → self.new.kept.changed ≡ false }
         ensures kept { self.new.kept ≡ self.old.kept }
         ensures differs { self.new.differs ≡ self.old.differs }
+        ensures some { result ≡ true → is_some self.old.current ≡ true }
         ensures more { result ≡ true → self.new.current ≡ option_map (extended cycle count) self.old.current }
         ensures other { result ≡ false → self.new.current ≡ self.old.current }
         ensures sums { self.new.sums ≡ self.old.sums }

@@ -1,6 +1,6 @@
 use Rattle.std.proofs.Common.{◌≡◌, ◌||◌, sym, ◌∙◌, ap, subst, inl, inr}
 use Rattle.std.proofs.lemmas.Result.{on_ok_weaker}
-use Rattle.std.specs.Prelude.{Option, option_map}
+use Rattle.std.specs.Prelude.{Option, is_some, option_map}
 use Rattle.thy_block.specs.Device.{Device}
 use Rattle.sweep.specs.declared.account.Account.{Account}
 use Rattle.sweep.specs.declared.account.Kept.{Kept}
@@ -11,7 +11,7 @@ use Rattle.sweep.proofs.running.look.Goals as goal
 
 pub returns-then-not-has-clause-looks : goal.returns-then-not-has-clause-looks
 returns-then-not-has-clause-looks g c =
-    inl (record { sums = c.pass.ensures.sums; differs = c.pass.ensures.differs; stays = inl c.pass.ensures.current; looked = c.pass.ensures.looked })
+    inl (record { sums = c.pass.ensures.sums; differs = c.pass.ensures.differs; stays = inl (c.pass.ensures.current, sym c.has.ensures ∙ c.if-not-has.true); looked = c.pass.ensures.looked })
 
 pub returns-then-more-clause-looks : goal.returns-then-more-clause-looks
 returns-then-more-clause-looks g c =
@@ -21,11 +21,12 @@ returns-then-more-clause-looks g c =
     inl (record {
       sums = c.repeats-more.ensures.sums ∙ c.pass.ensures.sums;
       differs = c.repeats-more.ensures.differs ∙ c.pass.ensures.differs;
-      stays = inr (
-        count,
-        c.repeats-more.ensures.more c.if-more.true ∙ ap (option_map (extended c.args.cycle count)) c.pass.ensures.current,
-        c.repeats-more.ensures.still c.if-more.true,
-      );
+      stays = inr (record {
+        count = count;
+        some = ap is_some (sym c.pass.ensures.current) ∙ c.repeats-more.ensures.some c.if-more.true;
+        more = c.repeats-more.ensures.more c.if-more.true ∙ ap (option_map (extended c.args.cycle count)) c.pass.ensures.current;
+        same = c.repeats-more.ensures.still c.if-more.true;
+      });
       looked = subst (λ (k : Kept). IsLooked old k n) (sym c.repeats-more.ensures.kept) c.pass.ensures.looked;
     })
 

@@ -66,7 +66,7 @@ loop-done-preserved g c =
     (sinks (g.T.Sink.stream x.terminal) (g.R.Sink.stream x.report)) c.loop-done.room
     = record { turns = made.0; running = made.1; room = h.room } in
     record {
-      rows = IsKeeping-looked g.M.Computer.kind c.args.plan.now n c.args.asked.now c.loop-done.nvm.device x.nvm.device x.progress.mix (c.loop-done.done + 1)
+      rows = IsKeeping-looked g.M.Computer.kind c.args.plan.now n c.args.asked.now c.loop-done.nvm.device x.nvm.device x.progress.mix c.loop-done.done
           (world_at x.progress x.nvm.device (c.loop-done.done + 1) made.0) c.loop-done.watch.account c.look.new.watch.account made.1.goes.ran refl refl
           (acted_once g.M.Computer.kind c.args.plan.now c.loop-done.progress x.progress c.loop-done.nvm.device x.nvm.device c.loop-done.done h.turns made.0 c.in-Goes.stepped made.2)
           c.loop-done.invariant.rows c.in-Ok-look.ensures.looks;
@@ -83,15 +83,30 @@ loop-done-preserved g c =
 
 pub returns-in-Stops-clause-rows : goal.returns-in-Stops-clause-rows
 returns-in-Stops-clause-rows g c =
-    HasRows-kept g.M.Computer.kind c.args.plan.now c.args.nvm.now.device c.args.asked.now c.loop-done.watch.account c.loop-done.nvm.device c.loop-done.invariant.rows
+    let cycles = ap (λ (e : Ending). e.cycles) c.end.ensures in (
+      c.loop-done.done,
+      omega (arith, cycles),
+      HasRows-kept g.M.Computer.kind c.args.plan.now c.args.nvm.now.device c.args.asked.now c.loop-done.done c.loop-done.watch.account c.loop-done.nvm.device
+          c.loop-done.invariant.rows,
+    )
 
 pub returns-in-Breaks-clause-rows : goal.returns-in-Breaks-clause-rows
 returns-in-Breaks-clause-rows g c =
-    HasRows-kept g.M.Computer.kind c.args.plan.now c.args.nvm.now.device c.args.asked.now c.loop-done.watch.account c.loop-done.nvm.device c.loop-done.invariant.rows
+    let cycles = ap (λ (e : Ending). e.cycles) c.end-in-Breaks.ensures in (
+      c.loop-done.done,
+      omega (arith, cycles),
+      HasRows-kept g.M.Computer.kind c.args.plan.now c.args.nvm.now.device c.args.asked.now c.loop-done.done c.loop-done.watch.account c.loop-done.nvm.device
+          c.loop-done.invariant.rows,
+    )
 
 pub returns-clause-rows : goal.returns-clause-rows
 returns-clause-rows g c =
-    HasRows-kept g.M.Computer.kind c.args.plan.now c.args.nvm.now.device c.args.asked.now c.loop-done.watch.account c.loop-done.nvm.device c.loop-done.invariant.rows
+    let cycles = ap (λ (e : Ending). e.cycles) c.end-2.ensures in (
+      c.loop-done.done,
+      omega (arith, cycles, c.loop-done-test.false, c.loop-done.auto.done-end),
+      HasRows-kept g.M.Computer.kind c.args.plan.now c.args.nvm.now.device c.args.asked.now c.loop-done.done c.loop-done.watch.account c.loop-done.nvm.device
+          c.loop-done.invariant.rows,
+    )
 
 pub returns-then-ends_at-clause-rows : goal.returns-then-ends_at-clause-rows
 returns-then-ends_at-clause-rows g c =
@@ -99,8 +114,8 @@ returns-then-ends_at-clause-rows g c =
     let n : Device = c.args.nvm.now.device in
     let x = c.single.new in
     let made = c.in-Goes.ensures n h.turns (g.T.Sink.stream c.args.terminal.now) (g.R.Sink.stream c.args.report.now) h.running in
-    HasRows-kept g.M.Computer.kind c.args.plan.now n c.args.asked.now c.look.new.watch.account x.nvm.device
-    (IsKeeping-looked g.M.Computer.kind c.args.plan.now n c.args.asked.now c.loop-done.nvm.device x.nvm.device x.progress.mix (c.loop-done.done + 1)
+    HasRows-kept g.M.Computer.kind c.args.plan.now n c.args.asked.now (c.loop-done.done + 1) c.look.new.watch.account x.nvm.device
+    (IsKeeping-looked g.M.Computer.kind c.args.plan.now n c.args.asked.now c.loop-done.nvm.device x.nvm.device x.progress.mix c.loop-done.done
     (world_at x.progress x.nvm.device (c.loop-done.done + 1) made.0) c.loop-done.watch.account c.look.new.watch.account made.1.goes.ran refl refl
     (acted_once g.M.Computer.kind c.args.plan.now c.loop-done.progress x.progress c.loop-done.nvm.device x.nvm.device c.loop-done.done h.turns made.0 c.in-Goes.stepped made.2)
     c.loop-done.invariant.rows c.in-Ok-look.ensures.looks)

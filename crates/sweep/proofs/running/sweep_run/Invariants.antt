@@ -11,6 +11,6 @@ invariant-loop-done g l =
     let now = sinks (g.T.Sink.stream l.terminal) (g.R.Sink.stream l.report) in
     record {
       swept : IsSwept g.M.Computer.kind l.plan l.initial.nvm.device l.progress l.nvm.device l.done before now l.room;
-      rows : IsKeeping g.M.Computer.kind l.plan l.initial.nvm.device l.asked l.watch.account l.nvm.device;
+      rows : IsKeeping g.M.Computer.kind l.plan l.initial.nvm.device l.asked l.done l.watch.account l.nvm.device;
       compared : l.watch.beside.compared ≡ l.asked.compared;
     }
