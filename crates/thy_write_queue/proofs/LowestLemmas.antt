@@ -34,68 +34,66 @@ some-right ws vs y l =
     let both : queued_for (ws ++ vs) y ≡ queued_for ws y ++ queued_for vs y = queued_for-append ws vs y in
     grind (arith, common_steps, both)
 
--- the lowest place with one write more
-IsLowestOf-below : (ws : List Write) (w : Write) (from : ℕ) (lowest : Option ℕ) → w.at < from → IsLowestOf ws from lowest
-    → IsLowestOf (ws ++ w ∷ []) from lowest
-IsLowestOf-below ws w from None l none =
-    λ y h. none-append ws (w ∷ []) y (none y h) (queued-elsewhere w y (λ e. absurd (omega (arith, e, h, l))))
-IsLowestOf-below ws w from (Some x) l found = record {
-  not_below = found.not_below;
-  queued = some-left ws (w ∷ []) x found.queued;
-  others = λ y h k. none-append ws (w ∷ []) y (found.others y h k) (queued-elsewhere w y (λ e. absurd (omega (arith, e, h, l))));
-}
+module _ (ws : List Write) (w : Write) (from : ℕ) where
+  -- the lowest place with one write more
+  IsLowestOf-below : (lowest : Option ℕ) → w.at < from → IsLowestOf ws from lowest → IsLowestOf (ws ++ w ∷ []) from lowest
+  IsLowestOf-below None l none =
+      λ y h. none-append ws (w ∷ []) y (none y h) (queued-elsewhere w y (λ e. absurd (omega (arith, e, h, l))))
+  IsLowestOf-below (Some x) l found = record {
+    not_below = found.not_below;
+    queued = some-left ws (w ∷ []) x found.queued;
+    others = λ y h k. none-append ws (w ∷ []) y (found.others y h k) (queued-elsewhere w y (λ e. absurd (omega (arith, e, h, l))));
+  }
 
-IsLowestOf-higher : (ws : List Write) (w : Write) (from x : ℕ) → x ≤ w.at → IsLowest ws from x → IsLowest (ws ++ w ∷ []) from x
-IsLowestOf-higher ws w from x l found = record {
-  not_below = found.not_below;
-  queued = some-left ws (w ∷ []) x found.queued;
-  others = λ y h k. none-append ws (w ∷ []) y (found.others y h k) (queued-elsewhere w y (λ e. absurd (omega (arith, e, k, l))));
-}
+  IsLowestOf-higher : (x : ℕ) → x ≤ w.at → IsLowest ws from x → IsLowest (ws ++ w ∷ []) from x
+  IsLowestOf-higher x l found = record {
+    not_below = found.not_below;
+    queued = some-left ws (w ∷ []) x found.queued;
+    others = λ y h k. none-append ws (w ∷ []) y (found.others y h k) (queued-elsewhere w y (λ e. absurd (omega (arith, e, k, l))));
+  }
 
-IsLowestOf-first : (ws : List Write) (w : Write) (from : ℕ) → from ≤ w.at → ((y : ℕ) → from ≤ y → queued_for ws y ≡ [])
-    → IsLowest (ws ++ w ∷ []) from w.at
-IsLowestOf-first ws w from l none = record {
-  not_below = l;
-  queued = some-right ws (w ∷ []) w.at (queued-here w);
-  others = λ y h k. none-append ws (w ∷ []) y (none y h) (queued-elsewhere w y (λ e. absurd (omega (arith, e, k))));
-}
+  IsLowestOf-first : from ≤ w.at → ((y : ℕ) → from ≤ y → queued_for ws y ≡ []) → IsLowest (ws ++ w ∷ []) from w.at
+  IsLowestOf-first l none = record {
+    not_below = l;
+    queued = some-right ws (w ∷ []) w.at (queued-here w);
+    others = λ y h k. none-append ws (w ∷ []) y (none y h) (queued-elsewhere w y (λ e. absurd (omega (arith, e, k))));
+  }
 
-IsLowestOf-lower : (ws : List Write) (w : Write) (from x : ℕ) → from ≤ w.at → w.at < x → IsLowest ws from x → IsLowest (ws ++ w ∷ []) from w.at
-IsLowestOf-lower ws w from x l m found = record {
-  not_below = l;
-  queued = some-right ws (w ∷ []) w.at (queued-here w);
-  others = λ y h k. none-append ws (w ∷ []) y (found.others y h (omega (arith, k, m))) (queued-elsewhere w y (λ e. absurd (omega (arith, e, k))));
-}
+  IsLowestOf-lower : (x : ℕ) → from ≤ w.at → w.at < x → IsLowest ws from x → IsLowest (ws ++ w ∷ []) from w.at
+  IsLowestOf-lower x l m found = record {
+    not_below = l;
+    queued = some-right ws (w ∷ []) w.at (queued-here w);
+    others = λ y h k. none-append ws (w ∷ []) y (found.others y h (omega (arith, k, m))) (queued-elsewhere w y (λ e. absurd (omega (arith, e, k))));
+  }
 
-is_lower : (ws : List Write) (w : Write) (from : ℕ) (lowest : Option ℕ) → IsLowestOf ws from lowest
-    → IsLowestOf (ws ++ w ∷ []) from (lower from lowest w.at)
-is_lower ws w from None none = elim (cases_lt w.at from) as (λ _. IsLowestOf (ws ++ w ∷ []) from (lower from None w.at)) [
-  | inl low ↦
-      let below : nat_lt w.at from ≡ true = lt-ltb w.at from low in
-      subst (λ (t : Bool). IsLowestOf (ws ++ w ∷ []) from (if t then None else Some w.at)) (sym below) (IsLowestOf-below ws w from None low none)
-  | inr high ↦
-      let above : nat_lt w.at from ≡ false = le-ltb w.at from high in
-      subst (λ (t : Bool). IsLowestOf (ws ++ w ∷ []) from (if t then None else Some w.at)) (sym above) (IsLowestOf-first ws w from high none)
-]
-is_lower ws w from (Some x) found = elim (cases_lt w.at from) as (λ _. IsLowestOf (ws ++ w ∷ []) from (lower from (Some x) w.at)) [
-  | inl low ↦
-      let below : nat_lt w.at from ≡ true = lt-ltb w.at from low in
-      subst (λ (t : Bool). IsLowestOf (ws ++ w ∷ []) from (if t then Some x else if nat_lt w.at x then Some w.at else Some x)) (sym below)
-      (IsLowestOf-below ws w from (Some x) low found)
-  | inr high ↦
-      let above : nat_lt w.at from ≡ false = le-ltb w.at from high in
-      subst (λ (t : Bool). IsLowestOf (ws ++ w ∷ []) from (if t then Some x else if nat_lt w.at x then Some w.at else Some x)) (sym above)
-      (elim (cases_lt w.at x) as (λ _. IsLowestOf (ws ++ w ∷ []) from (if nat_lt w.at x then Some w.at else Some x)) [
-        | inl first ↦
-            let before : nat_lt w.at x ≡ true = lt-ltb w.at x first in
-            subst (λ (t : Bool). IsLowestOf (ws ++ w ∷ []) from (if t then Some w.at else Some x)) (sym before)
-            (IsLowestOf-lower ws w from x high first found)
-        | inr later ↦
-            let behind : nat_lt w.at x ≡ false = le-ltb w.at x later in
-            subst (λ (t : Bool). IsLowestOf (ws ++ w ∷ []) from (if t then Some w.at else Some x)) (sym behind)
-            (IsLowestOf-higher ws w from x later found)
-      ])
-]
+  is_lower : (lowest : Option ℕ) → IsLowestOf ws from lowest → IsLowestOf (ws ++ w ∷ []) from (lower from lowest w.at)
+  is_lower None none = elim (cases_lt w.at from) as (λ _. IsLowestOf (ws ++ w ∷ []) from (lower from None w.at)) [
+    | inl low ↦
+        let below : nat_lt w.at from ≡ true = lt-ltb w.at from low in
+        subst (λ (t : Bool). IsLowestOf (ws ++ w ∷ []) from (if t then None else Some w.at)) (sym below) (IsLowestOf-below None low none)
+    | inr high ↦
+        let above : nat_lt w.at from ≡ false = le-ltb w.at from high in
+        subst (λ (t : Bool). IsLowestOf (ws ++ w ∷ []) from (if t then None else Some w.at)) (sym above) (IsLowestOf-first high none)
+  ]
+  is_lower (Some x) found = elim (cases_lt w.at from) as (λ _. IsLowestOf (ws ++ w ∷ []) from (lower from (Some x) w.at)) [
+    | inl low ↦
+        let below : nat_lt w.at from ≡ true = lt-ltb w.at from low in
+        subst (λ (t : Bool). IsLowestOf (ws ++ w ∷ []) from (if t then Some x else if nat_lt w.at x then Some w.at else Some x)) (sym below)
+        (IsLowestOf-below (Some x) low found)
+    | inr high ↦
+        let above : nat_lt w.at from ≡ false = le-ltb w.at from high in
+        subst (λ (t : Bool). IsLowestOf (ws ++ w ∷ []) from (if t then Some x else if nat_lt w.at x then Some w.at else Some x)) (sym above)
+        (elim (cases_lt w.at x) as (λ _. IsLowestOf (ws ++ w ∷ []) from (if nat_lt w.at x then Some w.at else Some x)) [
+          | inl first ↦
+              let before : nat_lt w.at x ≡ true = lt-ltb w.at x first in
+              subst (λ (t : Bool). IsLowestOf (ws ++ w ∷ []) from (if t then Some w.at else Some x)) (sym before)
+              (IsLowestOf-lower x high first found)
+          | inr later ↦
+              let behind : nat_lt w.at x ≡ false = le-ltb w.at x later in
+              subst (λ (t : Bool). IsLowestOf (ws ++ w ∷ []) from (if t then Some w.at else Some x)) (sym behind)
+              (IsLowestOf-higher x later found)
+        ])
+  ]
 
 -- what is found among writes is the lowest
 lowest_over-is : (before ws : List Write) (from : ℕ) (lowest : Option ℕ) → IsLowestOf before from lowest
@@ -119,7 +117,8 @@ queued_inside (w ∷ ws) n x placed some = elim (cases_eq w.at x) as (λ _. x < 
       queued_inside ws n x (All-rest (λ (v : Write). v.at < n) w ws (w ∷ ws) refl placed) (subst (λ (q : List Block). 0 < length q) rest some)
 ]
 
-pub IsLowestOf-inside : (queue : List Write) (n from : ℕ) (next : Option ℕ) → All (λ (w : Write). w.at < n) queue → IsLowestOf queue from next
+pub IsLowestOf-inside : (queue : List Write) (n from : ℕ) (next : Option ℕ) → All (λ (w : Write). w.at < n) queue
+    → IsLowestOf queue from next
     → IfSome next (λ x. x < n)
 IsLowestOf-inside queue n from None placed none = tt
 IsLowestOf-inside queue n from (Some x) placed found = queued_inside queue n x placed found.queued

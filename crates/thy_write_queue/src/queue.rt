@@ -9,14 +9,18 @@ ghost use Rattle.thy_write_queue.specs.Lowest.{lower, lowest_over};
 use circular_buffer::HeapCircularBuffer;
 use thy_block::{Block, Write};
 
-/// The newest block queued for a place, else the image's block there.
-pub(crate) fn newest_queued(queue: &HeapCircularBuffer<Write>, at: u64, standing: Block) -> Block
-    ensures { result ≡ newest_over standing queue.now.items at }
+/// The newest block queued for a place, else the image's block there, where it stands.
+pub(crate) fn newest_queued<'a>(
+    queue: &'a HeapCircularBuffer<Write>,
+    at: u64,
+    standing: &'a Block,
+) -> &'a Block
+    ensures { result.now ≡ newest_over standing.now queue.now.items at }
 {
     let mut newest = standing;
     for write in queue.iter() {
         if write.at == at {
-            newest = write.block;
+            newest = &write.block;
         }
     }
     newest

@@ -109,7 +109,7 @@ impl Ring {
         requires { at < length self.now.image }
         ensures { result ≡ newest (device_of self.now) at }
     {
-        newest_in(&self.queue, at, self.image[at as usize])
+        *newest_in(&self.queue, at, &self.image[at as usize])
     }
 
     /// Of the image's block at a place and the blocks queued for it, oldest first, the one at an index.

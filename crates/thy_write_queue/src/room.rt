@@ -54,13 +54,13 @@ pub(crate) fn waiting_in(queue: &Option<HeapCircularBuffer<Write>>, i: usize) ->
     }
 }
 
-/// The newest block queued for a place, else the image's block there.
-pub(crate) fn newest_in(
-    queue: &Option<HeapCircularBuffer<Write>>,
+/// The newest block queued for a place, else the image's block there, where it stands.
+pub(crate) fn newest_in<'a>(
+    queue: &'a Option<HeapCircularBuffer<Write>>,
     at: u64,
-    standing: Block,
-) -> Block
-    ensures { result ≡ newest_over standing (queued_in queue.now) at }
+    standing: &'a Block,
+) -> &'a Block
+    ensures { result.now ≡ newest_over standing.now (queued_in queue.now) at }
 {
     match queue {
         None => standing,

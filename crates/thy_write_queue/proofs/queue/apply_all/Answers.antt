@@ -8,8 +8,10 @@ use Rattle.thy_write_queue.proofs.queue.apply_all.Goals as goal
 pub loop-write-preserved : goal.loop-write-preserved
 loop-write-preserved c =
     let rest : All (λ (w : Write). w.at < length c.loop-write.image) c.next.new.self
-    = All-rest (λ (w : Write). w.at < length c.loop-write.image) c.in-Some.write.now c.next.new.self c.loop-write.write-iterator c.in-Some.ensures.steps c.loop-write.invariant.placed in
+    = All-rest (λ (w : Write). w.at < length c.loop-write.image) c.in-Some.write.now c.next.new.self c.loop-write.write-iterator
+    c.in-Some.ensures.steps c.loop-write.invariant.placed in
     record {
-      same = ap (λ i. applied i c.next.new.self) c.apply.ensures ∙ sym (ap (applied c.loop-write.image) c.in-Some.ensures.steps) ∙ c.loop-write.invariant.same;
+      same = ap (λ i. applied i c.next.new.self) c.apply.ensures ∙ sym (ap (applied c.loop-write.image) c.in-Some.ensures.steps)
+          ∙ c.loop-write.invariant.same;
       placed = λ k d l. omega (arith, rest k d l, ap length c.apply.ensures, length-set c.loop-write.image c.in-Some.write.now.at c.in-Some.write.now.block);
     }

@@ -4,6 +4,7 @@ use Rattle.thy_write_queue.proofs.queue.choice.Given as goal
 
 abbrev pub invariant-loop-write : goal.invariant-loop-write
 invariant-loop-write l = record {
-  same : slice_index_or (l.chosen ∷ queued_for l.write-iterator l.at) l.left l.fn.standing ≡ slice_index_or (l.fn.standing ∷ queued_for l.queue.items l.at) l.initial.left l.fn.standing;
+  same : slice_index_or (l.chosen ∷ queued_for l.write-iterator l.at) l.left l.fn.standing
+      ≡ slice_index_or (l.fn.standing ∷ queued_for l.queue.items l.at) l.initial.left l.fn.standing;
   enough : l.left ≤ length (queued_for l.write-iterator l.at);
 }

@@ -7,4 +7,5 @@ use Rattle.thy_write_queue.proofs.ring.Ring.next_queued.Goals as goal
 pub returns-clause-place : goal.returns-clause-place
 returns-clause-place c =
     subst (λ (h : Held). IfSome c.lowest_in.result (λ x. x < length h.image)) c.self.view_is
-    (IsLowestOf-inside (queued_in c.self.inside.queue) (length c.self.inside.image.items) c.args.from c.lowest_in.result c.self.invariant.placed c.lowest_in.ensures)
+    (IsLowestOf-inside (queued_in c.self.inside.queue)
+    (length c.self.inside.image.items) c.args.from c.lowest_in.result c.self.invariant.placed c.lowest_in.ensures)
