@@ -37,7 +37,8 @@ module _ {E : Type 0} (key : E → ℕ) (new : ℕ → E) (t : Listing E) (once 
     (inside : i < length t.entries) (free : entry_at t i ≡ None) (unlisted : index_of key (key e) t ≡ None) (room : key e < t.numbers) where
   entry_for-put_same : entry_for key new (key e) (with_entry i (Some e) t) ≡ e
   entry_for-put_same =
-      entry_for-some key new (with_entry i (Some e) t) (key e) i e (index_of-put key t once i e inside unlisted room) (entry_at-with_same t i (Some e) inside)
+      entry_for-some key new (with_entry i (Some e) t) (key e) i e (index_of-put key t once i e inside unlisted room)
+      (entry_at-with_same t i (Some e) inside)
 
   entry_for-put_other : (n : ℕ) → n ≢ key e → entry_for key new n (with_entry i (Some e) t) ≡ entry_for key new n t
   entry_for-put_other n other =
@@ -49,7 +50,8 @@ module _ {E : Type 0} (key : E → ℕ) (new : ℕ → E) (t : Listing E) (once 
 maps_alike : {X Y : Type 0} (f g : X → Option Y) (xs : List (Option X)) → ((k : ℕ) (x : X) → get_or xs k None ≡ Some x → f x ≡ g x)
     → map (option_and_then f) xs ≡ map (option_and_then g) xs
 maps_alike f g xs same =
-    ext_get_or None (map (option_and_then f) xs) (map (option_and_then g) xs) (length-map xs (option_and_then f) ∙ sym (length-map xs (option_and_then g)))
+    ext_get_or None (map (option_and_then f) xs) (map (option_and_then g) xs)
+    (length-map xs (option_and_then f) ∙ sym (length-map xs (option_and_then g)))
     (λ k l. get_or-map (option_and_then f) xs k None ∙ at (get_or xs k None) k refl ∙ sym (get_or-map (option_and_then g) xs k None))
   where
     at : (o : Option _) (k : ℕ) → get_or xs k None ≡ o → option_and_then f (get_or xs k None) ≡ option_and_then g (get_or xs k None)
@@ -102,16 +104,22 @@ module _ (i b : ℕ) (s : State) (t : AreSoundTables s) (boot : IsBooting s) (ma
   pub once-block : IsListing block_key u.btt
   once-block = IsListing-put block_key s.btt t.btt_once i (listed_entry b) inside may.unlisted room
 
-  cell-block_same : cell_of u b ≡ record { i = i; entry = listed_entry b; j = index_for page_key no_page (page_of b) s.ptt; page = no_page (page_of b) }
+  cell-block_same : cell_of u b
+      ≡ record { i = i; entry = listed_entry b; j = index_for page_key no_page (page_of b) s.ptt; page = no_page (page_of b) }
   cell-block_same =
-      ap (λ (o : Option ℕ). record (cell_of u b) { i = unwrap_or o 0 }) (index_of-put block_key s.btt t.btt_once i (listed_entry b) inside may.unlisted room)
-      ∙ ap (λ (e : BttEntry). record (cell_of s b) { i = i; entry = e }) (entry_for-put_same block_key new_entry s.btt t.btt_once i (listed_entry b) inside may.free may.unlisted room)
-      ∙ ap (λ (e : PttEntry). record (cell_of s b) { i = i; entry = listed_entry b; page = e }) (entry_for-none page_key no_page s.ptt (page_of b) may.bare)
+      ap (λ (o : Option ℕ). record (cell_of u b) { i = unwrap_or o 0 })
+      (index_of-put block_key s.btt t.btt_once i (listed_entry b) inside may.unlisted room)
+      ∙ ap (λ (e : BttEntry). record (cell_of s b) { i = i; entry = e })
+      (entry_for-put_same block_key new_entry s.btt t.btt_once i (listed_entry b) inside may.free may.unlisted room)
+      ∙ ap (λ (e : PttEntry). record (cell_of s b) { i = i; entry = listed_entry b; page = e })
+      (entry_for-none page_key no_page s.ptt (page_of b) may.bare)
 
   cell-block_other : (k : ℕ) → k ≢ b → cell_of u k ≡ cell_of s k
   cell-block_other k other =
-      ap (λ (o : Option ℕ). record (cell_of u k) { i = unwrap_or o 0 }) (index_of-put_other block_key s.btt t.btt_once i (listed_entry b) k inside may.free may.unlisted room other)
-      ∙ ap (λ (e : BttEntry). record (cell_of s k) { entry = e }) (entry_for-put_other block_key new_entry s.btt t.btt_once i (listed_entry b) inside may.free may.unlisted room k other)
+      ap (λ (o : Option ℕ). record (cell_of u k) { i = unwrap_or o 0 })
+      (index_of-put_other block_key s.btt t.btt_once i (listed_entry b) k inside may.free may.unlisted room other)
+      ∙ ap (λ (e : BttEntry). record (cell_of s k) { entry = e })
+      (entry_for-put_other block_key new_entry s.btt t.btt_once i (listed_entry b) inside may.free may.unlisted room k other)
 
   sound-block : ListedCellsAreSound → (k : ℕ) → k < memory_blocks s.p → IsSoundCell s.under_way (cell_of u k)
   sound-block law k l = elim (cases_eq k b) as (λ _. IsSoundCell s.under_way (cell_of u k)) [
@@ -142,7 +150,8 @@ module _ (i b : ℕ) (s : State) (t : AreSoundTables s) (boot : IsBooting s) (ma
 
   pub HaveTables-block : HaveTables u (with_block i b (tables0 s))
   HaveTables-block =
-      let new : tables0 u ≡ with_block i b (tables0 s) = ap (λ (x : List (Option ℕ)). record (tables0 s) { btt = x }) (map-set (option_and_then lists0) s.btt.entries i (Some (listed_entry b))) in
+      let new : tables0 u ≡ with_block i b (tables0 s) = ap (λ (x : List (Option ℕ)). record (tables0 s) { btt = x })
+      (map-set (option_and_then lists0) s.btt.entries i (Some (listed_entry b))) in
       record { tables0_is = new; tables1_is = (HaveTables-boot u IsBooting-block).tables1_is ∙ new }
 
 -- ---- a page is listed
@@ -160,17 +169,23 @@ module _ (j n : ℕ) (s : State) (t : AreSoundTables s) (boot : IsBooting s) (ma
   pub once-page : IsListing page_key v.ptt
   once-page = IsListing-put page_key s.ptt t.ptt_once j (listed_page n) inside_page may.unlisted room_page
 
-  cell-page_same : (b : ℕ) → page_of b ≡ n → cell_of v b ≡ record { i = index_for block_key new_entry b s.btt; entry = new_entry b; j = j; page = listed_page n }
+  cell-page_same : (b : ℕ) → page_of b ≡ n
+      → cell_of v b ≡ record { i = index_for block_key new_entry b s.btt; entry = new_entry b; j = j; page = listed_page n }
   cell-page_same b q =
       ap (λ (k : ℕ). record (cell_of s b) { j = index_for page_key no_page k v.ptt; page = entry_for page_key no_page k v.ptt }) q
-      ∙ ap (λ (o : Option ℕ). record (cell_of s b) { j = unwrap_or o 0; page = entry_for page_key no_page n v.ptt }) (index_of-put page_key s.ptt t.ptt_once j (listed_page n) inside_page may.unlisted room_page)
-      ∙ ap (λ (e : PttEntry). record (cell_of s b) { j = j; page = e }) (entry_for-put_same page_key no_page s.ptt t.ptt_once j (listed_page n) inside_page may.free may.unlisted room_page)
-      ∙ ap (λ (e : BttEntry). record { i = index_for block_key new_entry b s.btt; entry = e; j = j; page = listed_page n }) (entry_for-none block_key new_entry s.btt b (may.bare b q))
+      ∙ ap (λ (o : Option ℕ). record (cell_of s b) { j = unwrap_or o 0; page = entry_for page_key no_page n v.ptt })
+      (index_of-put page_key s.ptt t.ptt_once j (listed_page n) inside_page may.unlisted room_page)
+      ∙ ap (λ (e : PttEntry). record (cell_of s b) { j = j; page = e })
+      (entry_for-put_same page_key no_page s.ptt t.ptt_once j (listed_page n) inside_page may.free may.unlisted room_page)
+      ∙ ap (λ (e : BttEntry). record { i = index_for block_key new_entry b s.btt; entry = e; j = j; page = listed_page n })
+      (entry_for-none block_key new_entry s.btt b (may.bare b q))
 
   cell-page_other : (b : ℕ) → page_of b ≢ n → cell_of v b ≡ cell_of s b
   cell-page_other b other =
-      ap (λ (o : Option ℕ). record (cell_of v b) { j = unwrap_or o 0 }) (index_of-put_other page_key s.ptt t.ptt_once j (listed_page n) (page_of b) inside_page may.free may.unlisted room_page other)
-      ∙ ap (λ (e : PttEntry). record (cell_of s b) { page = e }) (entry_for-put_other page_key no_page s.ptt t.ptt_once j (listed_page n) inside_page may.free may.unlisted room_page (page_of b) other)
+      ap (λ (o : Option ℕ). record (cell_of v b) { j = unwrap_or o 0 })
+      (index_of-put_other page_key s.ptt t.ptt_once j (listed_page n) (page_of b) inside_page may.free may.unlisted room_page other)
+      ∙ ap (λ (e : PttEntry). record (cell_of s b) { page = e }) (entry_for-put_other page_key no_page s.ptt t.ptt_once j
+      (listed_page n) inside_page may.free may.unlisted room_page (page_of b) other)
 
   sound-page : ListedCellsAreSound → (b : ℕ) → b < memory_blocks s.p → IsSoundCell s.under_way (cell_of v b)
   sound-page law b l = elim (cases_eq (page_of b) n) as (λ _. IsSoundCell s.under_way (cell_of v b)) [
@@ -200,7 +215,8 @@ module _ (j n : ℕ) (s : State) (t : AreSoundTables s) (boot : IsBooting s) (ma
 
   pub HaveTables-page : HaveTables v (with_page j n (tables0 s))
   HaveTables-page =
-      let new : tables0 v ≡ with_page j n (tables0 s) = ap (λ (x : List (Option ℕ)). record (tables0 s) { ptt = x }) (map-set (option_and_then pages0) s.ptt.entries j (Some (listed_page n))) in
+      let new : tables0 v ≡ with_page j n (tables0 s) = ap (λ (x : List (Option ℕ)). record (tables0 s) { ptt = x })
+      (map-set (option_and_then pages0) s.ptt.entries j (Some (listed_page n))) in
       record { tables0_is = new; tables1_is = (HaveTables-boot v IsBooting-page).tables1_is ∙ new }
 
 -- ---- a page's count is listed
@@ -219,7 +235,8 @@ module _ (n count : ℕ) (s : State) where
 -- ---- what the tables say of a listing
 
 -- a table whose live entries list their numbers
-module _ {E : Type 0} (key : E → ℕ) (listed : E → Option ℕ) (t : Listing E) (all : (k : ℕ) (e : E) → entry_at t k ≡ Some e → listed e ≡ Some (key e)) where
+module _ {E : Type 0} (key : E → ℕ) (listed : E → Option ℕ) (t : Listing E)
+    (all : (k : ℕ) (e : E) → entry_at t k ≡ Some e → listed e ≡ Some (key e)) where
   abbrev all_listed : List (Option ℕ)
   all_listed = map (option_and_then listed) t.entries
 
@@ -262,7 +279,8 @@ pub MayListBlock-by : (i b : ℕ) (s : State) → AreSoundTables s → IsBooting
     → IsTables s.p (with_block i b (tables0 s)) → MayListBlock i b s
 MayListBlock-by i b s t boot inside free tables =
     let xs : List (Option ℕ) = (tables0 s).btt in
-    let here : Lists (slice_set xs i (Some b)) i b = lists-here xs i b (omega (arith, inside, t.btt_size, length-map s.btt.entries (option_and_then lists0))) in
+    let here : Lists (slice_set xs i (Some b)) i b =
+    lists-here xs i b (omega (arith, inside, t.btt_size, length-map s.btt.entries (option_and_then lists0))) in
     record {
       inside = inside;
       free = free-listed block_key lists0 s.btt (block_live s boot) i free;
@@ -276,7 +294,8 @@ pub MayListPage-by : (j n : ℕ) (s : State) → AreSoundTables s → IsBooting 
     → IsTables s.p (with_page j n (tables0 s)) → MayListPage j n s
 MayListPage-by j n s t boot inside free tables =
     let xs : List (Option ℕ) = (tables0 s).ptt in
-    let here : Lists (slice_set xs j (Some n)) j n = lists-here xs j n (omega (arith, inside, t.ptt_size, length-map s.ptt.entries (option_and_then pages0))) in
+    let here : Lists (slice_set xs j (Some n)) j n =
+    lists-here xs j n (omega (arith, inside, t.ptt_size, length-map s.ptt.entries (option_and_then pages0))) in
     record {
       inside = inside;
       free = free-listed page_key pages0 s.ptt (page_live s boot) j free;

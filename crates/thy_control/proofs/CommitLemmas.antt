@@ -43,25 +43,30 @@ module _ {E : Type 0} (key : E → ℕ) (new : ℕ → E) (rule : E → Option E
   pub index_for-mapped : (t : Listing E) → IsListing key t → (n : ℕ)
       → index_for key new n (mapped rule t) ≡ kept_index (index_for key new n t) (rule (entry_for key new n t))
   index_for-mapped t listing n = by_place (index_of key n t) refl where
-    by_rule : (i : ℕ) (e : E) → entry_at t i ≡ Some e → key e ≡ n → (o : Option E) → rule e ≡ o → index_for key new n (mapped rule t) ≡ kept_index i o
+    by_rule : (i : ℕ) (e : E) → entry_at t i ≡ Some e → key e ≡ n → (o : Option E) → rule e ≡ o
+        → index_for key new n (mapped rule t) ≡ kept_index i o
     by_rule i e was of_n (Some f) r = ap (λ o. unwrap_or o 0) (stays t listing n i e was of_n f r)
     by_rule i e was of_n None r = ap (λ o. unwrap_or o 0) (goes t listing n i e was of_n r)
 
-    by_place : (o : Option ℕ) → index_of key n t ≡ o → index_for key new n (mapped rule t) ≡ kept_index (index_for key new n t) (rule (entry_for key new n t))
+    by_place : (o : Option ℕ) → index_of key n t ≡ o
+        → index_for key new n (mapped rule t) ≡ kept_index (index_for key new n t) (rule (entry_for key new n t))
     by_place None h =
         ap (λ o. unwrap_or o 0) (index_of-mapped_none key t listing rule keeps n h)
         ∙ sym (ap (λ o. kept_index (unwrap_or o 0) (rule (entry_for key new n t))) h ∙ kept_zero (rule (entry_for key new n t)))
     by_place (Some i) h =
         let f = found_entry key new t n i h in
         by_rule i f.0 f.1 f.2 (rule f.0) refl
-        ∙ sym (ap (λ o. kept_index (unwrap_or o 0) (rule (entry_for key new n t))) h ∙ ap (λ e. kept_index i (rule e)) (entry_for-some key new t n i f.0 h f.1))
+        ∙ sym (ap (λ o. kept_index (unwrap_or o 0) (rule (entry_for key new n t))) h
+        ∙ ap (λ e. kept_index i (rule e)) (entry_for-some key new t n i f.0 h f.1))
 
   -- if the rule makes nothing of the default for a number without an entry
   pub entry_for-mapped : (t : Listing E) → IsListing key t → (n : ℕ) → unwrap_or (rule (new n)) (new n) ≡ new n
       → entry_for key new n (mapped rule t) ≡ unwrap_or (rule (entry_for key new n t)) (new n)
   entry_for-mapped t listing n idle = by_place (index_of key n t) refl where
-    by_rule : (i : ℕ) (e : E) → entry_at t i ≡ Some e → key e ≡ n → (o : Option E) → rule e ≡ o → entry_for key new n (mapped rule t) ≡ unwrap_or o (new n)
-    by_rule i e was of_n (Some f) r = entry_for-some key new (mapped rule t) n i f (stays t listing n i e was of_n f r) (now_there t listing n i e was of_n ∙ r)
+    by_rule : (i : ℕ) (e : E) → entry_at t i ≡ Some e → key e ≡ n → (o : Option E) → rule e ≡ o
+        → entry_for key new n (mapped rule t) ≡ unwrap_or o (new n)
+    by_rule i e was of_n (Some f) r =
+        entry_for-some key new (mapped rule t) n i f (stays t listing n i e was of_n f r) (now_there t listing n i e was of_n ∙ r)
     by_rule i e was of_n None r = entry_for-none key new (mapped rule t) n (goes t listing n i e was of_n r)
 
     by_place : (o : Option ℕ) → index_of key n t ≡ o → entry_for key new n (mapped rule t) ≡ unwrap_or (rule (entry_for key new n t)) (new n)
@@ -110,7 +115,8 @@ live-mapped rule keeps t live j f h = by_entry (entry_at t j) refl (sym (entry_a
   by_entry None was g = cc
   by_entry (Some e) was g = keeps e f g (live j e was)
 
-committed_by-live : (leaving : Bool) (e f : PttEntry) → page_committed_by leaving e ≡ Some f → (is_framed e ≡ false → e.fresh ≡ true) → is_framed f ≡ false → f.fresh ≡ true
+committed_by-live : (leaving : Bool) (e f : PttEntry) → page_committed_by leaving e ≡ Some f → (is_framed e ≡ false → e.fresh ≡ true)
+    → is_framed f ≡ false → f.fresh ≡ true
 committed_by-live true e f h live = cc
 committed_by-live false e f h live =
     let same : record e { place = e.target; issued = 0 } ≡ f = cc in
@@ -141,7 +147,8 @@ module _ (s : State) (t : AreSoundTables s) (way : s.under_way ≡ true) (copied
   pub Commits-committed : CommitMoves → (n : Device) → HoldAll s n → Commits s (committed_state s) n
   unfolding committed_state
   Commits-committed law n holds =
-      let moves : (b : ℕ) → b < memory_blocks s.p → Moves (reads s n) (cell_of s b) (committed (cell_of s b)) (reads s n (last (cell_of s b))) (reads s n (last (cell_of s b)))
+      let moves : (b : ℕ) → b < memory_blocks s.p
+      → Moves (reads s n) (cell_of s b) (committed (cell_of s b)) (reads s n (last (cell_of s b))) (reads s n (last (cell_of s b)))
       = λ b l. law (cell_of s b) (reads s n) (sound b l) (copied b l) (holds b l) in
       let cell : (b : ℕ) → cell_of (committed_state s) b ≡ committed (cell_of s b) = cell-committed s t.btt_once t.ptt_once in
       record {

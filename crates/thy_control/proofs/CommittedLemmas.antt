@@ -15,22 +15,26 @@ use Rattle.thy_control.proofs.SealStateLemmas.{tables0-sealed, CommitsTables-com
 use Rattle.thy_control.proofs.TablesLemmas.{AreTablesOf-committed, AreTablesOf-under_way}
 
 -- equal tables have each block at one place
-same_place : (s t : State) (x y : Tables) (f g : Cell → Place) → AreTablesOf s x f → AreTablesOf t y g → y ≡ x → (b : ℕ) → b < memory_blocks s.p → b < memory_blocks t.p
+same_place : (s t : State) (x y : Tables) (f g : Cell → Place) → AreTablesOf s x f → AreTablesOf t y g → y ≡ x → (b : ℕ)
+    → b < memory_blocks s.p → b < memory_blocks t.p
     → g (cell_of t b) ≡ f (cell_of s b)
 same_place s t x y f g of_s of_t same b l k = sym (of_t.same_place b k) ∙ ap (λ (z : Tables). place_of z b) same ∙ of_s.same_place b l
 
-pub KeepsCommitted-sealed : (s : State) → AreSoundTables s → AreSoundTables (sealed_state s) → (n : Device) → KeepsCommitted s n (sealed_state s) n
-unfolding sealed_state
-KeepsCommitted-sealed s t u n = record {
-  penult_same = λ b l. ap (reads s n)
-      (same_place s (sealed_state s) (tables0 s) (tables0 (sealed_state s)) penult penult (AreTablesOf-committed s t) (AreTablesOf-committed (sealed_state s) u)
-      (tables0-sealed s t) b l l);
-}
+module _ (s : State) (t : AreSoundTables s) where
+  pub KeepsCommitted-sealed : AreSoundTables (sealed_state s) → (n : Device) → KeepsCommitted s n (sealed_state s) n
+  unfolding sealed_state
+  KeepsCommitted-sealed u n = record {
+    penult_same = λ b l. ap (reads s n)
+        (same_place s (sealed_state s) (tables0 s) (tables0 (sealed_state s)) penult penult (AreTablesOf-committed s t)
+        (AreTablesOf-committed (sealed_state s) u)
+        (tables0-sealed s t) b l l);
+  }
 
-pub CommitsTargets-committed : (s : State) → AreSoundTables s → AreSoundTables (committed_state s) → (n : Device) → CommitsTargets s (committed_state s) n
-unfolding committed_state
-CommitsTargets-committed s t u n = record {
-  penult_is = λ b l. ap (reads s n)
-      (same_place s (committed_state s) (tables1 s) (tables0 (committed_state s)) target penult (AreTablesOf-under_way s t) (AreTablesOf-committed (committed_state s) u)
-      (CommitsTables-committed s t).tables0_next b l l);
-}
+  pub CommitsTargets-committed : AreSoundTables (committed_state s) → (n : Device) → CommitsTargets s (committed_state s) n
+  unfolding committed_state
+  CommitsTargets-committed u n = record {
+    penult_is = λ b l. ap (reads s n)
+        (same_place s (committed_state s) (tables1 s) (tables0 (committed_state s)) target penult (AreTablesOf-under_way s t)
+        (AreTablesOf-committed (committed_state s) u)
+        (CommitsTables-committed s t).tables0_next b l l);
+  }

@@ -70,7 +70,8 @@ module _ (b : ℕ) (s : State) (pending : (cell_of s b).entry.pend ≢ Settled) 
     cell-copied_other k other = cell-set_block_other s b (after_copy (cell_of s b)).entry (block-cell_of s b) listed-pending k other
 
     -- every block is as it was, but for what was copied
-    pub cell-copied : (P : Cell → Cell → Type 0) (k : ℕ) → P (cell_of s b) (after_copy (cell_of s b)) → (k ≢ b → P (cell_of s k) (cell_of s k))
+    pub cell-copied : (P : Cell → Cell → Type 0) (k : ℕ) → P (cell_of s b) (after_copy (cell_of s b))
+        → (k ≢ b → P (cell_of s k) (cell_of s k))
         → P (cell_of s k) (cell_of (copied b s m) k)
     cell-copied P k here others = by_number (λ j. P (cell_of s j) (cell_of (copied b s m) j)) b k
         (subst (P (cell_of s b)) (sym cell-copied_same) here)
@@ -87,7 +88,8 @@ module _ (b : ℕ) (s : State) (pending : (cell_of s b).entry.pend ≢ Settled) 
       pub AreSoundTables-copied : IsListing block_key (copied b s m).btt → AreSoundTables (copied b s m)
       unfolding copied devices_copied
       AreSoundTables-copied once =
-          let sizes = AreSized-written_at s.p (devices_of m s.dram) (target (cell_of s b)) (reads s m (last (cell_of s b))) (record { nvm = sized.nvm; dram = t.dram_size }) in
+          let sizes = AreSized-written_at s.p (devices_of m s.dram) (target (cell_of s b)) (reads s m (last (cell_of s b)))
+          (record { nvm = sized.nvm; dram = t.dram_size }) in
           search (
             rules,
             length-set s.btt.entries (cell_of s b).i (Some (after_copy (cell_of s b)).entry)
@@ -148,7 +150,8 @@ IsNext-entry s t i h = by_entry (entry_at s.btt i) refl (first_from-first (passe
 
 -- if none is next, none is left
 pub none_left : (s : State) → next_copy s ≡ None → copies_left s ≡ 0
-none_left s h = none-passes (passes needs_copy) s.btt.entries None (λ k l. none-first_from (passes needs_copy) None s.btt.entries 0 h k (omega arith) l)
+none_left s h = none-passes (passes needs_copy) s.btt.entries None
+    (λ k l. none-first_from (passes needs_copy) None s.btt.entries 0 h k (omega arith) l)
 
 -- after the next copy, or none, every block is kept
 pub KeepsEach-next : CopyKeeps → (s : State) (m : Device) → AreSoundTables s → IsSized s m → (o : Option ℕ) → next_copy s ≡ o
@@ -171,11 +174,13 @@ KeepsAll-next law s m t sized =
     (KeepsEach-next law s m t sized (next_copy s) refl)
 
 -- one copy less is left
-pub copies_left-next : (s : State) (m : Device) → AreSoundTables s → (o : Option ℕ) → next_copy s ≡ o → IsOneLess (is_some o) (copies_left s) (copies_left (after_next_copy o s m))
+pub copies_left-next : (s : State) (m : Device) → AreSoundTables s → (o : Option ℕ) → next_copy s ≡ o
+    → IsOneLess (is_some o) (copies_left s) (copies_left (after_next_copy o s m))
 copies_left-next s m t None h = (none_left s h, none_left s h)
 copies_left-next s m t (Some i) h = copies_left-copied (block_listed i s) s m (IsNext-entry s t i h).pending
 
-pub left_after : (s : State) (m : Device) (t : State) → AreSoundTables s → (r : Result Bool NvmError) → OnOk r (t ≡ after_next_copy (next_copy s) s m) → IfOk r (λ more. more ≡ is_some (next_copy s))
+pub left_after : (s : State) (m : Device) (t : State) → AreSoundTables s → (r : Result Bool NvmError)
+    → OnOk r (t ≡ after_next_copy (next_copy s) s m) → IfOk r (λ more. more ≡ is_some (next_copy s))
     → IfOk r (λ more. IsOneLess more (copies_left s) (copies_left t))
 left_after s m t tables r e f = search (rules, copies_left-next s m tables (next_copy s) refl)
 
@@ -220,16 +225,20 @@ module _ (b : ℕ) (s : State) (m : Device) (pending : (cell_of s b).entry.pend 
     guarded_by n outcome =
         let c : Cell = cell_of s b in
         let sound = t.cells b l in
-        LeavesGuarded-step s (target c) (reads s m (last c)) m n b t (IsPlace-target s.p c (IsWithin-cell_of s b t l)) (owned-target s b c (Owns-cell_of s b))
-        (versions_apart c.entry.v0 c.entry.v1 c.page.place c.page.target (seat_of c) (sound.pending_moves pending) (sound.pending_still pending) (sound.pending_home pending))
+        LeavesGuarded-step s (target c) (reads s m (last c)) m n b t (IsPlace-target s.p c (IsWithin-cell_of s b t l))
+        (owned-target s b c (Owns-cell_of s b))
+        (versions_apart c.entry.v0 c.entry.v1 c.page.place c.page.target (seat_of c) (sound.pending_moves pending)
+        (sound.pending_still pending) (sound.pending_home pending))
         (λ placed same. pending placed.copied) outcome
 
-    pub Stays-copied : CopyKeeps → m.down ≡ false → IsFramed m (devices_copied b s m).nvm → Stays s m (copied b s m) (devices_copied b s m).nvm
+    pub Stays-copied : CopyKeeps → m.down ≡ false → IsFramed m (devices_copied b s m).nvm
+        → Stays s m (copied b s m) (devices_copied b s m).nvm
     unfolding devices_copied
     Stays-copied law up framed =
         let c : Cell = cell_of s b in
         let each : KeepsEach s m (copied b s m) (devices_copied b s m).nvm = KeepsEach-copied b s pending m t sized l law in
-        Stays-step s (target c) (reads s m (last c)) m (copied b s m) (IsPlace-target s.p c (IsWithin-cell_of s b t l)) sized stays_tables (λ d. let no : true ≡ false = sym d ∙ up in cc) framed
+        Stays-step s (target c) (reads s m (last c)) m (copied b s m) (IsPlace-target s.p c (IsWithin-cell_of s b t l)) sized stays_tables
+        (λ d. let no : true ≡ false = sym d ∙ up in cc) framed
         (guarded_by (devices_copied b s m).nvm (inl refl))
         (λ k h. (each k h).reads.penult_same)
         (λ hold. record {
@@ -250,7 +259,8 @@ Stays-next law s m t sized up (Some i) h framed =
     let next = IsNext-entry s t i h in
     Stays-copied (block_listed i s) s m next.pending t sized next.inside law up framed
 
-pub stays_by : CopyKeeps → (s : State) (m : Device) (t : State) (n : Device) (r : Result Bool NvmError) → AreSoundTables s → IsSized s m → m.down ≡ false
+pub stays_by : CopyKeeps → (s : State) (m : Device) (t : State) (n : Device) (r : Result Bool NvmError) → AreSoundTables s → IsSized s m
+    → m.down ≡ false
     → OnOk r (t ≡ after_next_copy (next_copy s) s m) → OnOk r (n ≡ devices_after_copy (next_copy s) s m)
     → OnErr r (t ≡ s) → OnErr r (FailsNextCopy s m n) → IsFramed m n → Stays s m t n
 stays_by law s m t n (Ok more) tables sized up e f k g framed =
@@ -258,4 +268,5 @@ stays_by law s m t n (Ok more) tables sized up e f k g framed =
     (Stays-next law s m tables sized up (next_copy s) refl (subst (λ (y : Device). IsFramed m y) f framed)))
 stays_by law s m t n (Err x) tables sized up e f k g framed =
     let next = IsNext-entry s tables g.entry g.next in
-    subst (λ (y : State). Stays s m y n) (sym k) (Stays-not_copied (block_listed g.entry s) s m next.pending tables sized next.inside n g.fails framed)
+    subst (λ (y : State). Stays s m y n) (sym k)
+    (Stays-not_copied (block_listed g.entry s) s m next.pending tables sized next.inside n g.fails framed)

@@ -66,14 +66,16 @@ module _ (t : State) (b : ℕ) (e : BttEntry) (listed : index_of block_key b t.b
       (Some e) None there.1
       (same ∙ sym (ap (passes (λ (e : BttEntry). waits e.pend)) there.0))
 
-  waiting-set_less : e.pend ≡ Settled → (cell_of t b).entry.pend ≡ FromBuffer → waiting (with_entry (cell_of t b).i (Some e) t.btt) + 1 ≡ waiting t.btt
+  waiting-set_less : e.pend ≡ Settled → (cell_of t b).entry.pend ≡ FromBuffer
+      → waiting (with_entry (cell_of t b).i (Some e) t.btt) + 1 ≡ waiting t.btt
   waiting-set_less now was =
       count-set_less (passes (λ (e : BttEntry). waits e.pend)) t.btt.entries (cell_of t b).i
       (Some e) None there.1
       (ap waits now) (ap (passes (λ (e : BttEntry). waits e.pend)) there.0 ∙ ap waits was)
 
 -- another entry of a page that has one
-pub promoted-set : (t : State) (b : ℕ) (e : PttEntry) → index_of page_key (page_of b) t.ptt ≡ Some (cell_of t b).j → is_promoted e ≡ is_promoted (cell_of t b).page
+pub promoted-set : (t : State) (b : ℕ) (e : PttEntry) → index_of page_key (page_of b) t.ptt ≡ Some (cell_of t b).j
+    → is_promoted e ≡ is_promoted (cell_of t b).page
     → promoted (with_entry (cell_of t b).j (Some e) t.ptt) ≡ promoted t.ptt
 promoted-set t b e listed same =
     let there = stands_at page_key no_page t.ptt (page_of b) (cell_of t b).j listed in
@@ -81,11 +83,13 @@ promoted-set t b e listed same =
     (same ∙ sym (ap (passes is_promoted) there.0))
 
 -- the entries of a block as a rule leaves them
-pub free-cell : (r : StoreRule) (b : ℕ) (t : State) → IsListed r b t → free_count (btt_after r (after_store r (cell_of t b)) t.btt) ≡ free_count t.btt
+pub free-cell : (r : StoreRule) (b : ℕ) (t : State) → IsListed r b t
+    → free_count (btt_after r (after_store r (cell_of t b)) t.btt) ≡ free_count t.btt
 free-cell ToFrame b t l = refl
 free-cell r b t l = free-set t b (after_store r (cell_of t b)).entry (l.block (λ e. cc))
 
-pub waiting-cell : (r : StoreRule) (b : ℕ) (t : State) → IsListed r b t → r ≢ PendingFirst → waiting (btt_after r (after_store r (cell_of t b)) t.btt) ≡ waiting t.btt
+pub waiting-cell : (r : StoreRule) (b : ℕ) (t : State) → IsListed r b t → r ≢ PendingFirst
+    → waiting (btt_after r (after_store r (cell_of t b)) t.btt) ≡ waiting t.btt
 waiting-cell ToFrame b t l other = refl
 waiting-cell PendingFirst b t l other = absurd (other refl)
 waiting-cell r b t l other =
@@ -95,13 +99,16 @@ pub waiting-copied : (b : ℕ) (t : State) → IsListed PendingFirst b t → (ce
     → waiting (btt_after PendingFirst (after_store PendingFirst (cell_of t b)) t.btt) + 1 ≡ waiting t.btt
 waiting-copied b t l was = waiting-set_less t b (after_store PendingFirst (cell_of t b)).entry (l.block (λ e. cc)) refl was
 
-pub promoted-cell : (r : StoreRule) (b : ℕ) (t : State) → IsListed r b t → promoted (ptt_after r (after_store r (cell_of t b)) t.ptt) ≡ promoted t.ptt
+pub promoted-cell : (r : StoreRule) (b : ℕ) (t : State) → IsListed r b t
+    → promoted (ptt_after r (after_store r (cell_of t b)) t.ptt) ≡ promoted t.ptt
 promoted-cell ToFrame b t l = promoted-set t b (record (cell_of t b).page { dirty = true }) (l.page refl) refl
 promoted-cell r b t l = refl
 
 -- if no entry passes a test, none does at any place
-pub none-counted : {X : Type 0} (test : X → Bool) (xs : List X) (i : ℕ) (d : X) → count_by test xs ≡ 0 → i < length xs → test (get_or xs i d) ≡ false
-none-counted test xs i d none inside = by_test (test (get_or xs i d)) (omega (arith, none, get_or-le-sum_by (λ x. one_if (test x)) xs i d inside)) where
-  by_test : (t : Bool) → one_if t ≤ 0 → t ≡ false
-  by_test false l = refl
-  by_test true l = absurd (omega (arith, l))
+pub none-counted : {X : Type 0} (test : X → Bool) (xs : List X) (i : ℕ) (d : X) → count_by test xs ≡ 0 → i < length xs
+    → test (get_or xs i d) ≡ false
+none-counted test xs i d none inside =
+    by_test (test (get_or xs i d)) (omega (arith, none, get_or-le-sum_by (λ x. one_if (test x)) xs i d inside)) where
+      by_test : (t : Bool) → one_if t ≤ 0 → t ≡ false
+      by_test false l = refl
+      by_test true l = absurd (omega (arith, l))

@@ -47,7 +47,8 @@ use Rattle.thy_table.specs.BetweenCheckpoints.{MergeKeeps, DirtyKeeps}
 use Rattle.thy_control.proofs.PageLemmas.{count-same}
 
 -- an entry that is listed has no work over a frame
-pub none_over : (pages : Listing PttEntry) (s : State) → IsBooting s → (i : ℕ) (o : Option BttEntry) → entry_at s.btt i ≡ o → passes (is_overlaid pages) o ≡ true → ⊥
+pub none_over : (pages : Listing PttEntry) (s : State) → IsBooting s → (i : ℕ) (o : Option BttEntry) → entry_at s.btt i ≡ o
+    → passes (is_overlaid pages) o ≡ true → ⊥
 none_over pages s boot i None e over = cc
 none_over pages s boot i (Some x) e over =
     let idle : x.work ≡ NoWork = ap (λ (y : BttEntry). y.work) (boot.blocks i x e) in
@@ -63,13 +64,16 @@ none_overlaid pages s boot = elim (cases_lt 0 (overlaid pages s.btt)) as (λ _. 
   | inr none ↦ omega (arith, none)
 ]
 
-pub AreWorkCounts-block : (i b : ℕ) (s : State) (k : WorkCounts) → i < length s.btt.entries → entry_at s.btt i ≡ None → AreWorkCounts s.ptt s.btt k
+pub AreWorkCounts-block : (i b : ℕ) (s : State) (k : WorkCounts) → i < length s.btt.entries → entry_at s.btt i ≡ None
+    → AreWorkCounts s.ptt s.btt k
     → AreWorkCounts s.ptt (with_listed_block i b s).btt k
 AreWorkCounts-block i b s k l free marks =
-    let same = count-set_same (passes (is_overlaid s.ptt)) s.btt.entries i (Some (listed_entry b)) None l (sym (ap (passes (is_overlaid s.ptt)) free)) in
+    let same = count-set_same (passes (is_overlaid s.ptt)) s.btt.entries i (Some (listed_entry b)) None l
+    (sym (ap (passes (is_overlaid s.ptt)) free)) in
     record { overlaid_is = marks.overlaid_is ∙ sym same; promoted_is = marks.promoted_is }
 
-pub AreWorkCounts-page : (j n : ℕ) (s : State) (k : WorkCounts) → IsBooting s → j < length s.ptt.entries → entry_at s.ptt j ≡ None → AreWorkCounts s.ptt s.btt k
+pub AreWorkCounts-page : (j n : ℕ) (s : State) (k : WorkCounts) → IsBooting s → j < length s.ptt.entries → entry_at s.ptt j ≡ None
+    → AreWorkCounts s.ptt s.btt k
     → AreWorkCounts (with_listed_page j n s).ptt s.btt k
 AreWorkCounts-page j n s k boot l free marks =
     let same = count-set_same (passes is_promoted) s.ptt.entries j (Some (listed_page n)) None l (sym (ap (passes is_promoted) free)) in
@@ -102,7 +106,8 @@ module _ {E : Type 0} (test : E → Bool) (t : Listing E) (place : ℕ) (below :
 
 -- Another entry that does not pass anew
 module _ {E : Type 0} (test : E → Bool) (t : Listing E) (i : ℕ) (x : Option E) (inside : i < length t.entries) where
-  pub NoneBelow-set : (old new : ℕ) → new ≤ old → NoneBelow test old t → (i < new → passes test (entry_at t i) ≡ false → passes test x ≡ false)
+  pub NoneBelow-set : (old new : ℕ) → new ≤ old → NoneBelow test old t
+      → (i < new → passes test (entry_at t i) ≡ false → passes test x ≡ false)
       → NoneBelow test new (with_entry i x t)
   NoneBelow-set old new less below at k l = elim (cases_eq k i) as (λ _. passes test (entry_at (with_entry i x t) k) ≡ false) [
     | inl e ↦
@@ -125,10 +130,12 @@ overlaid_as now old same (Some e) = ap (λ (f : Bool). is_buffered e.work && f) 
 
 -- the entries of a block
 module _ (s : State) (b : ℕ) where
-  block_there : index_of block_key b s.btt ≡ Some (cell_of s b).i → (entry_at s.btt (cell_of s b).i ≡ Some (cell_of s b).entry) × ((cell_of s b).i < length s.btt.entries)
+  block_there : index_of block_key b s.btt ≡ Some (cell_of s b).i
+      → (entry_at s.btt (cell_of s b).i ≡ Some (cell_of s b).entry) × ((cell_of s b).i < length s.btt.entries)
   block_there listed = stands_at block_key new_entry s.btt b (cell_of s b).i listed
 
-  page_there : index_of page_key (page_of b) s.ptt ≡ Some (cell_of s b).j → (entry_at s.ptt (cell_of s b).j ≡ Some (cell_of s b).page) × ((cell_of s b).j < length s.ptt.entries)
+  page_there : index_of page_key (page_of b) s.ptt ≡ Some (cell_of s b).j
+      → (entry_at s.ptt (cell_of s b).j ≡ Some (cell_of s b).page) × ((cell_of s b).j < length s.ptt.entries)
   page_there listed = stands_at page_key no_page s.ptt (page_of b) (cell_of s b).j listed
 
   -- another entry of the block, which has to be copied only if that one had to
@@ -154,7 +161,8 @@ module _ (s : State) (b : ℕ) where
       }
 
   -- another entry of its page that passes as the one there did
-  page_as : (test : PttEntry → Bool) (e : PttEntry) (place : ℕ) → index_of page_key (page_of b) s.ptt ≡ Some (cell_of s b).j → (test (cell_of s b).page ≡ false → test e ≡ false)
+  page_as : (test : PttEntry → Bool) (e : PttEntry) (place : ℕ) → index_of page_key (page_of b) s.ptt ≡ Some (cell_of s b).j
+      → (test (cell_of s b).page ≡ false → test e ≡ false)
       → NoneBelow test place s.ptt → NoneBelow test place (with_entry (cell_of s b).j (Some e) s.ptt)
   page_as test e place listed keeps below =
       let there = page_there listed in
@@ -162,7 +170,8 @@ module _ (s : State) (b : ℕ) where
       (λ l was. keeps (sym (ap (passes test) there.0) ∙ was))
 
 -- A store first gives its block an entry, which passes no test
-none-with : (r : StoreRule) (test : BttEntry → Bool) (t : Listing BttEntry) (b place : ℕ) → test (new_entry b) ≡ false → NoneBelow test place t → NoneBelow test place (btt_with r b t)
+none-with : (r : StoreRule) (test : BttEntry → Bool) (t : Listing BttEntry) (b place : ℕ) → test (new_entry b) ≡ false
+    → NoneBelow test place t → NoneBelow test place (btt_with r b t)
 none-with r test t b place fails below = btt_with-by (NoneBelow test place) r b t below
     (λ i h f. NoneBelow-set test t i (Some (new_entry b)) (free_at t i f).1 place place
     (omega arith) below (λ l was. fails))
@@ -176,9 +185,11 @@ AreCursors-with r b s k h = record {
 }
 
 -- a store into a listed block leaves the cursors where they may be
-AreCursors-cell : (r : StoreRule) (b : ℕ) (t : State) (k : Cursors) → IsListed r b t → AreCursors t.ptt t.btt k → (merges : ℕ) → merges ≤ k.merges
+AreCursors-cell : (r : StoreRule) (b : ℕ) (t : State) (k : Cursors) → IsListed r b t → AreCursors t.ptt t.btt k → (merges : ℕ)
+    → merges ≤ k.merges
     → (r ≡ ToBuffer → is_framed (cell_of t b).page ≡ true → merges ≤ (cell_of t b).i)
-    → AreCursors (ptt_after r (after_store r (cell_of t b)) t.ptt) (btt_after r (after_store r (cell_of t b)) t.btt) (record k { merges = merges })
+    → AreCursors (ptt_after r (after_store r (cell_of t b)) t.ptt) (btt_after r (after_store r (cell_of t b)) t.btt)
+    (record k { merges = merges })
 AreCursors-cell ToFrame b t k l h merges less at =
     let now : Listing PttEntry = ptt_after ToFrame (after_store ToFrame (cell_of t b)) t.ptt in
     record {
@@ -192,7 +203,8 @@ AreCursors-cell ToBuffer b t k l h merges less at =
     less (λ was. was)
     (λ before was. bare (is_framed (cell_of t b).page) refl before) h
   where
-    bare : (f : Bool) → is_framed (cell_of t b).page ≡ f → (cell_of t b).i < merges → is_overlaid t.ptt (after_store ToBuffer (cell_of t b)).entry ≡ false
+    bare : (f : Bool) → is_framed (cell_of t b).page ≡ f → (cell_of t b).i < merges
+        → is_overlaid t.ptt (after_store ToBuffer (cell_of t b)).entry ≡ false
     bare true is before = absurd (omega (arith, before, at refl is))
     bare false is before = ap (block_is_framed t.ptt) (block-cell_of t b) ∙ is
 AreCursors-cell ToNvm b t k l h merges less at =
@@ -202,10 +214,12 @@ AreCursors-cell PendingFirst b t k l h merges less at =
     AreCursors-entry t b (after_store PendingFirst (cell_of t b)).entry k merges (l.block (λ e. cc))
     less (λ was. refl) (λ before was. was) h
 
-same_cursors : (k now : Cursors) → now.copies ≡ k.copies → now.writes ≡ k.writes → now.promotions ≡ k.promotions → record k { merges = now.merges } ≡ now
+same_cursors : (k now : Cursors) → now.copies ≡ k.copies → now.writes ≡ k.writes → now.promotions ≡ k.promotions
+    → record k { merges = now.merges } ≡ now
 same_cursors k now copies writes promotions = grind arith
 
-pub AreCursors-after : (b : ℕ) (block : Block) (s : State) (n : Device) (k now : Cursors) → AreCursors s.ptt s.btt k → (free_index s.btt ≡ None → ⊥)
+pub AreCursors-after : (b : ℕ) (block : Block) (s : State) (n : Device) (k now : Cursors) → AreCursors s.ptt s.btt k
+    → (free_index s.btt ≡ None → ⊥)
     → AreLowered (rule_for b s) (cell_before b s) k now → AreCursors (state_after b block s n).ptt (state_after b block s n).btt now
 unfolding state_after cell_before
 AreCursors-after b block s n k now h some low =
@@ -228,7 +242,8 @@ AreCursors-copied b s m k pending h =
 write_due : (busy : Bool) (done : ℕ) → busy ≡ true → done < page_blocks → (busy && nat_lt done page_blocks) ≡ true
 write_due busy done b l = ap (λ (x : Bool). x && nat_lt done page_blocks) b ∙ lt-ltb done page_blocks l
 
-pub AreCursors-issued : (b : ℕ) (s : State) (m : Device) (k : Cursors) → (cell_of s b).page.busy ≡ true → (cell_of s b).page.issued < 64 → AreCursors s.ptt s.btt k
+pub AreCursors-issued : (b : ℕ) (s : State) (m : Device) (k : Cursors) → (cell_of s b).page.busy ≡ true → (cell_of s b).page.issued < 64
+    → AreCursors s.ptt s.btt k
     → AreCursors (issued b s m).ptt (issued b s m).btt k
 unfolding issued
 AreCursors-issued b s m k busy less h =
@@ -263,7 +278,8 @@ AreCursors-merged b s k is_page over framed h =
     }
 
 -- A page of which one more block was copied was in promotion
-pub AreCursors-filled : (b : ℕ) (s : State) (m : Device) (k : Cursors) → (cell_of s b).page.fresh ≡ true → is_framed (cell_of s b).page ≡ false → AreSoundTables s
+pub AreCursors-filled : (b : ℕ) (s : State) (m : Device) (k : Cursors) → (cell_of s b).page.fresh ≡ true
+    → is_framed (cell_of s b).page ≡ false → AreSoundTables s
     → AreCursors s.ptt s.btt k → AreCursors (block_filled b s m).ptt (block_filled b s m).btt k
 unfolding block_filled
 AreCursors-filled b s m k fresh bare t h =
@@ -277,7 +293,8 @@ AreCursors-filled b s m k fresh bare t h =
     }
 
 -- What a boot lists has no work, and is whole
-pub AreCursors-block : (i b : ℕ) (s : State) (k : Cursors) → i < length s.btt.entries → AreCursors s.ptt s.btt k → AreCursors s.ptt (with_listed_block i b s).btt k
+pub AreCursors-block : (i b : ℕ) (s : State) (k : Cursors) → i < length s.btt.entries → AreCursors s.ptt s.btt k
+    → AreCursors s.ptt (with_listed_block i b s).btt k
 AreCursors-block i b s k inside h = record {
   copies = NoneBelow-set needs_copy s.btt i (Some (listed_entry b)) inside k.copies k.copies (omega arith) h.copies (λ l was. refl);
   writes = h.writes;
@@ -285,34 +302,39 @@ AreCursors-block i b s k inside h = record {
   promotions = h.promotions;
 }
 
-pub AreCursors-page : (j n : ℕ) (s : State) (k : Cursors) → IsBooting s → j < length s.ptt.entries → AreCursors s.ptt s.btt k → AreCursors (with_listed_page j n s).ptt s.btt k
+pub AreCursors-page : (j n : ℕ) (s : State) (k : Cursors) → IsBooting s → j < length s.ptt.entries → AreCursors s.ptt s.btt k
+    → AreCursors (with_listed_page j n s).ptt s.btt k
 AreCursors-page j n s k boot inside h =
     let now : Listing PttEntry = (with_listed_page j n s).ptt in
     record {
       copies = h.copies;
       writes = NoneBelow-set needs_write s.ptt j (Some (listed_page n)) inside k.writes k.writes (omega arith) h.writes (λ l was. refl);
       merges = λ m l. false_from_ne_true (passes (is_overlaid now) (entry_at s.btt m)) (none_over now s boot m (entry_at s.btt m) refl);
-      promotions = NoneBelow-set is_promoted s.ptt j (Some (listed_page n)) inside k.promotions k.promotions (omega arith) h.promotions (λ l was. refl);
+      promotions = NoneBelow-set is_promoted s.ptt j (Some (listed_page n)) inside k.promotions k.promotions
+          (omega arith) h.promotions (λ l was. refl);
     }
 
 -- ---- the numbers that the controller keeps, after the steps between two checkpoints
 
 -- if each page is framed as it was, each entry lies over a frame as it did
-pub overlaid-framed : (now old : Listing PttEntry) (t : Listing BttEntry) → ((b : ℕ) → block_is_framed now b ≡ block_is_framed old b) → overlaid now t ≡ overlaid old t
+pub overlaid-framed : (now old : Listing PttEntry) (t : Listing BttEntry) → ((b : ℕ) → block_is_framed now b ≡ block_is_framed old b)
+    → overlaid now t ≡ overlaid old t
 overlaid-framed now old t same = count-same (passes (is_overlaid now)) (passes (is_overlaid old)) by_entry t.entries where
   by_entry : (o : Option BttEntry) → passes (is_overlaid now) o ≡ passes (is_overlaid old) o
   by_entry None = refl
   by_entry (Some e) = ap (λ (f : Bool). is_buffered e.work && f) (same e.block)
 
 -- a copy changes no count of work
-pub AreWorkCounts-copied : (b : ℕ) (s : State) (m : Device) (k : WorkCounts) → (cell_of s b).entry.pend ≢ Settled → AreWorkCounts s.ptt s.btt k
+pub AreWorkCounts-copied : (b : ℕ) (s : State) (m : Device) (k : WorkCounts) → (cell_of s b).entry.pend ≢ Settled
+    → AreWorkCounts s.ptt s.btt k
     → AreWorkCounts (copied b s m).ptt (copied b s m).btt k
 unfolding copied
 AreWorkCounts-copied b s m k pending marks =
     let c : Cell = cell_of s b in
     let there = found_entry block_key new_entry s.btt b c.i (listed-pending b s pending) in
     let is : c.entry ≡ there.0 = entry_for-some block_key new_entry s.btt b c.i there.0 (listed-pending b s pending) there.1 in
-    let same = count-set_same (passes (is_overlaid s.ptt)) s.btt.entries c.i (Some (after_copy c).entry) None there.3 (ap (is_overlaid s.ptt) is ∙ sym (ap (passes (is_overlaid s.ptt)) there.1)) in
+    let same = count-set_same (passes (is_overlaid s.ptt)) s.btt.entries c.i (Some (after_copy c).entry) None there.3
+    (ap (is_overlaid s.ptt) is ∙ sym (ap (passes (is_overlaid s.ptt)) there.1)) in
     record { overlaid_is = marks.overlaid_is ∙ sym same; promoted_is = marks.promoted_is }
 
 -- the write of a page changes no count of work
@@ -330,17 +352,20 @@ AreWorkCounts-issued b s m k busy marks =
 -- a merge leaves one entry less over a frame
 module _ (b : ℕ) (s : State) (framed : is_framed (cell_of s b).page ≡ true) (over : (cell_of s b).entry.work ≡ InBuffer) where
   -- before a merge there was an entry over a frame
-  pub overlaid-some : (k : WorkCounts) → AreSoundTables s → b < memory_blocks s.p → s.under_way ≡ false → MergeKeeps → DirtyKeeps → AreWorkCounts s.ptt s.btt k → 0 < k.overlaid
+  pub overlaid-some : (k : WorkCounts) → AreSoundTables s → b < memory_blocks s.p → s.under_way ≡ false → MergeKeeps → DirtyKeeps
+      → AreWorkCounts s.ptt s.btt k → 0 < k.overlaid
   overlaid-some k t l idle merge others marks =
       let fewer : overlays (merged_block b s) + 1 ≡ overlays s = overlays-merged b s framed over t l idle merge others in
       omega (arith, fewer, marks.overlaid_is)
 
-  pub AreWorkCounts-merged : (k now : WorkCounts) → (t : AreSoundTables s) → b < memory_blocks s.p → s.under_way ≡ false → MergeKeeps → DirtyKeeps → AreWorkCounts s.ptt s.btt k
+  pub AreWorkCounts-merged : (k now : WorkCounts) → (t : AreSoundTables s) → b < memory_blocks s.p → s.under_way ≡ false → MergeKeeps
+      → DirtyKeeps → AreWorkCounts s.ptt s.btt k
       → now.overlaid + 1 ≡ k.overlaid → now.promoted ≡ k.promoted → AreWorkCounts (merged_block b s).ptt (merged_block b s).btt now
   unfolding merged_block
   AreWorkCounts-merged k now t l idle merge others marks less same =
       let fewer : overlays (merged_block b s) + 1 ≡ overlays s = overlays-merged b s framed over t l idle merge others in
       record {
         overlaid_is = omega (arith, fewer, less, marks.overlaid_is);
-        promoted_is = same ∙ marks.promoted_is ∙ sym (promoted-set s b (record (cell_of s b).page { dirty = true }) (listed_page-merge b s framed over) refl);
+        promoted_is = same ∙ marks.promoted_is
+            ∙ sym (promoted-set s b (record (cell_of s b).page { dirty = true }) (listed_page-merge b s framed over) refl);
       }

@@ -22,7 +22,8 @@ module _ (s : State) (m n : Device) (t : AreSoundTables s) (sized : IsSized s m)
   holds_still hold b l =
       let c = cell_of s b in
       let w = IsWithin-cell_of s b t l in
-      let frame : reads s n (frame_at (seat_of c)) ≡ reads s m (frame_at (seat_of c)) = alike.same (frame_at (seat_of c)) (IsPlace-frame_of s b t l) in
+      let frame : reads s n (frame_at (seat_of c)) ≡ reads s m (frame_at (seat_of c)) =
+      alike.same (frame_at (seat_of c)) (IsPlace-frame_of s b t l) in
       hold_same (reads s m) (reads s n) c
       (alike.same (target c) (IsPlace-target s.p c w)) (alike.same (last c) (IsPlace-last s.p c w)) (alike.same (work c) (IsPlace-work s.p c w))
       (λ f. frame) (λ f. frame) (λ f. frame) (hold b l)

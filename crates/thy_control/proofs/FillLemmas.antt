@@ -72,12 +72,14 @@ module _ (b : ℕ) (s : State) (fresh : (cell_of s b).page.fresh ≡ true) where
         (not-next b s (λ e. e.filled) due k q ne) (next-few b s (λ e. e.filled) due k q) (omega arith) same hold;
   }
 
-module _ (b : ℕ) (s : State) (fresh : (cell_of s b).page.fresh ≡ true) (m : Device) (t : AreSoundTables s) (sized : IsSized s m) (l : b < memory_blocks s.p)
+module _ (b : ℕ) (s : State) (fresh : (cell_of s b).page.fresh ≡ true) (m : Device) (t : AreSoundTables s) (sized : IsSized s m)
+    (l : b < memory_blocks s.p)
     (due : (cell_of s b).page.filled ≡ b % 64) (law : PromotionKeeps) (other : PromotionKeepsOthers) where
   pub AreSoundTables-filled : IsListing page_key (block_filled b s m).ptt → AreSoundTables (block_filled b s m)
   unfolding block_filled devices_filled
   AreSoundTables-filled once =
-      let sizes = AreSized-written_at s.p (devices_of m s.dram) (frame_at (seat_of (cell_of s b))) (reads s m (work (cell_of s b))) (record { nvm = sized.nvm; dram = t.dram_size }) in
+      let sizes = AreSized-written_at s.p (devices_of m s.dram) (frame_at (seat_of (cell_of s b))) (reads s m (work (cell_of s b)))
+      (record { nvm = sized.nvm; dram = t.dram_size }) in
       AreSoundTables-walked (walk b s fresh t l due law other) t (devices_filled b s m).dram sizes.dram (λ bare. fresh) once
 
 module _ (law : PromotionKeeps) (other : PromotionKeepsOthers) (b : ℕ) (s : State) (fresh : (cell_of s b).page.fresh ≡ true) (m : Device)
@@ -97,8 +99,10 @@ module _ (law : PromotionKeeps) (other : PromotionKeepsOthers) (b : ℕ) (s : St
   checkpoints-filled =
       let here = (here_now this t m sized).reads in
       record {
-        penult_same = λ k h. reads-walked this t m sized penult here.penult_same (λ j i q. refl) (λ j i ne. (left_as this t m sized j i ne).penult_same) (devices_filled b s m).dram k h;
-        last_same = λ k h. reads-walked this t m sized last here.last_same (λ j i q. refl) (λ j i ne. (left_as this t m sized j i ne).last_same) (devices_filled b s m).dram k h;
+        penult_same = λ k h. reads-walked this t m sized penult here.penult_same (λ j i q. refl)
+            (λ j i ne. (left_as this t m sized j i ne).penult_same) (devices_filled b s m).dram k h;
+        last_same = λ k h. reads-walked this t m sized last here.last_same (λ j i q. refl)
+            (λ j i ne. (left_as this t m sized j i ne).last_same) (devices_filled b s m).dram k h;
       }
 
   pub held-filled : HoldAll s m → HoldsWork s m (block_filled b s m) m
@@ -109,7 +113,8 @@ module _ (law : PromotionKeeps) (other : PromotionKeepsOthers) (b : ℕ) (s : St
   }
 
 -- one block less is left
-fill_one : (fresh : Bool) (i : ℕ) → fresh ≡ true → i < 64 → (if not (i + 1 == page_blocks) && fresh then page_blocks - (i + 1) else 0) + 1 ≡ page_blocks - i
+fill_one : (fresh : Bool) (i : ℕ) → fresh ≡ true → i < 64
+    → (if not (i + 1 == page_blocks) && fresh then page_blocks - (i + 1) else 0) + 1 ≡ page_blocks - i
 fill_one false i f l = cc
 fill_one true i f l = by_test (i + 1 == page_blocks) refl where
   by_test : (x : Bool) → (i + 1 == page_blocks) ≡ x → (if not x && true then page_blocks - (i + 1) else 0) + 1 ≡ page_blocks - i
@@ -167,7 +172,8 @@ module _ (b : ℕ) (s : State) (fresh : (cell_of s b).page.fresh ≡ true) (bare
         )
 
 -- lists whose elements pass alike count alike
-count-same_at : {X : Type 0} (p q : X → Bool) (d : X) (xs : List X) → ((k : ℕ) → k < length xs → p (get_or xs k d) ≡ q (get_or xs k d)) → count_by p xs ≡ count_by q xs
+count-same_at : {X : Type 0} (p q : X → Bool) (d : X) (xs : List X) → ((k : ℕ) → k < length xs → p (get_or xs k d) ≡ q (get_or xs k d))
+    → count_by p xs ≡ count_by q xs
 count-same_at p q d [] h = refl
 count-same_at p q d (x ∷ xs) h =
     omega (
@@ -184,7 +190,8 @@ module _ (b : ℕ) (s : State) (fresh : (cell_of s b).page.fresh ≡ true) (m : 
   unfolding block_filled
   framed_other k o = ap (λ (c : Cell). is_framed c.page) (cell-page_other page_filled (λ e. refl) s b (listed-fresh b s fresh) k o)
 
-  pub overlaid-filled_at : (i : ℕ) → passes (is_overlaid (block_filled b s m).ptt) (entry_at s.btt i) ≡ passes (is_overlaid s.ptt) (entry_at s.btt i)
+  pub overlaid-filled_at : (i : ℕ)
+      → passes (is_overlaid (block_filled b s m).ptt) (entry_at s.btt i) ≡ passes (is_overlaid s.ptt) (entry_at s.btt i)
   overlaid-filled_at i = by_entry (entry_at s.btt i) refl where
     by_entry : (o : Option BttEntry) → entry_at s.btt i ≡ o → passes (is_overlaid (block_filled b s m).ptt) o ≡ passes (is_overlaid s.ptt) o
     by_entry None e = refl
@@ -200,12 +207,15 @@ module _ (b : ℕ) (s : State) (fresh : (cell_of s b).page.fresh ≡ true) (m : 
     ]
 
   pub overlaid-filled : overlaid (block_filled b s m).ptt s.btt ≡ overlaid s.ptt s.btt
-  overlaid-filled = count-same_at (passes (is_overlaid (block_filled b s m).ptt)) (passes (is_overlaid s.ptt)) None s.btt.entries (λ i l. overlaid-filled_at i)
+  overlaid-filled = count-same_at (passes (is_overlaid (block_filled b s m).ptt)) (passes (is_overlaid s.ptt)) None s.btt.entries
+      (λ i l. overlaid-filled_at i)
 
 -- the numbers that the controller keeps are right after the copy
-pub marks-filled : (b : ℕ) (s : State) (fresh : (cell_of s b).page.fresh ≡ true) (m : Device) (t : AreSoundTables s) (k now : WorkCounts) → is_framed (cell_of s b).page ≡ false
+pub marks-filled : (b : ℕ) (s : State) (fresh : (cell_of s b).page.fresh ≡ true) (m : Device) (t : AreSoundTables s) (k now : WorkCounts)
+    → is_framed (cell_of s b).page ≡ false
     → (cell_of s b).page.filled < 64 → AreWorkCounts s.ptt s.btt k → now.overlaid ≡ k.overlaid
-    → now.promoted + (if is_framed (with_filled (cell_of s b)).page then 1 else 0) ≡ k.promoted → AreWorkCounts (block_filled b s m).ptt (block_filled b s m).btt now
+    → now.promoted + (if is_framed (with_filled (cell_of s b)).page then 1 else 0) ≡ k.promoted
+    → AreWorkCounts (block_filled b s m).ptt (block_filled b s m).btt now
 unfolding block_filled
 marks-filled b s fresh m t k now bare less marks same_overlaid fewer = record {
   overlaid_is = same_overlaid ∙ marks.overlaid_is ∙ sym (overlaid-filled b s fresh m t);
@@ -227,7 +237,8 @@ IsFill-entry s t j h = by_entry (entry_at s.ptt j) refl (first_from-first (passe
       let both = and_parts (not (is_framed x)) x.fresh p in
       let bare : is_framed x ≡ false = not-true (is_framed x) both.0 in
       let first = IsBlockOf-entry s t j x e 0 (omega arith) in
-      let most : x.filled ≤ 64 = subst (λ (y : PttEntry). y.filled ≤ 64) first.page (t.cells (page_blocks * x.page + 0) first.inside).of_page.filled in
+      let most : x.filled ≤ 64 = subst (λ (y : PttEntry). y.filled ≤ 64) first.page
+      (t.cells (page_blocks * x.page + 0) first.inside).of_page.filled in
       let not_full : x.filled ≢ 64 = λ q. both_ways _ bare (ap (λ (n : ℕ). n == page_blocks) q) in
       let of = IsBlockOf-entry s t j x e x.filled (omega (arith, most, not_full)) in
       subst (λ (k : ℕ). IsFill s k) (sym (ap (block_after (λ e. e.filled)) e)) (record {
@@ -239,13 +250,15 @@ IsFill-entry s t j h = by_entry (entry_at s.ptt j) refl (first_from-first (passe
 
 -- a page in promotion moves no place of a checkpoint
 module _ (b : ℕ) (s : State) (fresh : (cell_of s b).page.fresh ≡ true) (m : Device) where
-  stays_tables : (t : AreSoundTables s) → b < memory_blocks s.p → (cell_of s b).page.filled ≡ b % 64 → PromotionKeeps → PromotionKeepsOthers → StaysTables s (block_filled b s m)
+  stays_tables : (t : AreSoundTables s) → b < memory_blocks s.p → (cell_of s b).page.filled ≡ b % 64 → PromotionKeeps → PromotionKeepsOthers
+      → StaysTables s (block_filled b s m)
   unfolding block_filled
   stays_tables t l due law other = StaysTables-walked (walk b s fresh t l due law other) refl refl
       (λ k q. record { penult_same = refl; target_same = refl; settled = λ h. h; busy_before = λ h. h; issued = omega arith })
       (devices_filled b s m).dram
 
-  pub Stays-filled : (t : AreSoundTables s) → IsSized s m → b < memory_blocks s.p → (cell_of s b).page.filled ≡ b % 64 → PromotionKeeps → PromotionKeepsOthers
+  pub Stays-filled : (t : AreSoundTables s) → IsSized s m → b < memory_blocks s.p → (cell_of s b).page.filled ≡ b % 64 → PromotionKeeps
+      → PromotionKeepsOthers
       → Stays s m (block_filled b s m) m
   Stays-filled t sized l due law other =
       let y : Place = frame_at (seat_of (cell_of s b)) in
@@ -264,32 +277,34 @@ pub record KeepsNext (s : State) (m : Device) (t : State) (n : Device) : Type 0 
   pub held : HoldAll s m → HoldsWork s m t n
   pub stays : Stays s m t n
 
-pub KeepsNext-promotion : PromotionKeeps → PromotionKeepsOthers → (s : State) (m : Device) → AreSoundTables s → IsSized s m → 0 < promoted s.ptt
-    → KeepsNext s m (after_promotion (next_promotion s) s m) m
-KeepsNext-promotion law other s m t sized some = by_next (next_promotion s) refl where
-  by_next : (o : Option ℕ) → next_promotion s ≡ o → KeepsNext s m (after_promotion o s m) m
-  by_next None h =
-      let none : promoted s.ptt ≡ 0 = none-passes (passes is_promoted) s.ptt.entries None (λ k l. none-first_from (passes is_promoted) None s.ptt.entries 0 h k (omega arith) l) in
-      absurd (omega (arith, some, none))
-  by_next (Some j) h =
-      let b : ℕ = block_to_fill j s in
-      let f = IsFill-entry s t j h in
-      record {
-        left = unfilled-filled b s f.fresh f.bare m (omega (arith, f.due));
-        checkpoints = checkpoints-filled law other b s f.fresh m t sized f.inside f.due;
-        held = held-filled law other b s f.fresh m t sized f.inside f.due;
-        stays = Stays-filled b s f.fresh m t sized f.inside f.due law other;
-      }
+module _ (law : PromotionKeeps) (other : PromotionKeepsOthers) (s : State) (m : Device) where
+  pub KeepsNext-promotion : AreSoundTables s → IsSized s m → 0 < promoted s.ptt → KeepsNext s m (after_promotion (next_promotion s) s m) m
+  KeepsNext-promotion t sized some = by_next (next_promotion s) refl where
+    by_next : (o : Option ℕ) → next_promotion s ≡ o → KeepsNext s m (after_promotion o s m) m
+    by_next None h =
+        let none : promoted s.ptt ≡ 0 = none-passes (passes is_promoted) s.ptt.entries None
+        (λ k l. none-first_from (passes is_promoted) None s.ptt.entries 0 h k (omega arith) l) in
+        absurd (omega (arith, some, none))
+    by_next (Some j) h =
+        let b : ℕ = block_to_fill j s in
+        let f = IsFill-entry s t j h in
+        record {
+          left = unfilled-filled b s f.fresh f.bare m (omega (arith, f.due));
+          checkpoints = checkpoints-filled law other b s f.fresh m t sized f.inside f.due;
+          held = held-filled law other b s f.fresh m t sized f.inside f.due;
+          stays = Stays-filled b s f.fresh m t sized f.inside f.due law other;
+        }
 
--- whichever way a call ended
-pub stays_by : PromotionKeeps → PromotionKeepsOthers → (s : State) (m : Device) (t : State) (n : Device) (r : Result (Unit {0}) NvmError) → AreSoundTables s → IsSized s m → 0 < promoted s.ptt
-    → OnOk r (t ≡ after_promotion (next_promotion s) s m) → OnOk r (n ≡ m) → OnErr r (t ≡ s) → OnErr r (HasFailed m n) → IsFramed m n → Stays s m t n
-stays_by law other s m t n (Ok x) tables sized some e f k g framed =
-    subst (λ (y : State). Stays s m y n) (sym e) (subst (λ (y : Device). Stays s m (after_promotion (next_promotion s) s m) y) (sym f)
-    (KeepsNext-promotion law other s m tables sized some).stays)
-stays_by law other s m t n (Err x) tables sized some e f k g framed =
-    subst (λ (y : State). Stays s m y n) (sym k)
-    (Stays-failed_step s m n framed g.down (LeavesGuarded-failed s m n g))
+  -- whichever way a call ended
+  pub stays_by : (t : State) (n : Device) (r : Result (Unit {0}) NvmError) → AreSoundTables s → IsSized s m → 0 < promoted s.ptt
+      → OnOk r (t ≡ after_promotion (next_promotion s) s m) → OnOk r (n ≡ m) → OnErr r (t ≡ s) → OnErr r (HasFailed m n) → IsFramed m n
+      → Stays s m t n
+  stays_by t n (Ok x) tables sized some e f k g framed =
+      subst (λ (y : State). Stays s m y n) (sym e) (subst (λ (y : Device). Stays s m (after_promotion (next_promotion s) s m) y) (sym f)
+      (KeepsNext-promotion tables sized some).stays)
+  stays_by t n (Err x) tables sized some e f k g framed =
+      subst (λ (y : State). Stays s m y n) (sym k)
+      (Stays-failed_step s m n framed g.down (LeavesGuarded-failed s m n g))
 
 -- the parts of the code's way: the state as its fields have it
 module _ {s w : State} (view : w ≡ s) (b : ℕ) (m : Device) {cell : Cell}

@@ -140,7 +140,8 @@ module _ {E : Type 0} (key : E → ℕ) (new : ℕ → E) where
         other (sym of_n ∙ ap key one))) ∙ was_x)
 
   -- after a new entry was put in a free place
-  module _ (new_key : (n : ℕ) → key (new n) ≡ n) (t : Listing E) (b i : ℕ) (unlisted : index_of key b t ≡ None) (lowest : free_index t ≡ Some i) where
+  module _ (new_key : (n : ℕ) → key (new n) ≡ n) (t : Listing E) (b i : ℕ) (unlisted : index_of key b t ≡ None)
+      (lowest : free_index t ≡ Some i) where
     free_there : (entry_at t i ≡ None) × (i < length t.entries)
     free_there = free_at t i lowest
 
@@ -163,7 +164,8 @@ module _ {E : Type 0} (key : E → ℕ) (new : ℕ → E) where
         (λ k. elim (cases_eq k i) as (λ _. lists key n (entry_at (with_entry i (Some (new b)) t) k) ≡ lists key n (entry_at t k)) [
           | inl s ↦
               ap (λ j. lists key n (entry_at (with_entry i (Some (new b)) t) j)) s ∙ ap (lists key n) now_there
-              ∙ ap (λ m. m == n) (new_key b) ∙ ne_eqb b n (λ e. other (sym e)) ∙ sym (ap (lists key n) free_there.0) ∙ sym (ap (λ j. lists key n (entry_at t j)) s)
+              ∙ ap (λ m. m == n) (new_key b) ∙ ne_eqb b n (λ e. other (sym e)) ∙ sym (ap (lists key n) free_there.0)
+              ∙ sym (ap (λ j. lists key n (entry_at t j)) s)
           | inr o ↦ ap (lists key n) (get_or-set_other t.entries i k (Some (new b)) None o)
         ])
 
@@ -196,7 +198,8 @@ module _ {E : Type 0} (key : E → ℕ) (new : ℕ → E) where
   pub index_of-with_same : ((n : ℕ) → key (new n) ≡ n) → (t : Listing E) (b : ℕ) → (free_index t ≡ None → ⊥)
       → (i : ℕ) × (index_of key b (with_entry_for key new b t) ≡ Some i)
   index_of-with_same new_key t b some = by_place (index_of key b t) refl where
-    by_free : index_of key b t ≡ None → (o : Option ℕ) → free_index t ≡ o → (i : ℕ) × (index_of key b (record t { entries = added_at o (new b) t.entries }) ≡ Some i)
+    by_free : index_of key b t ≡ None → (o : Option ℕ) → free_index t ≡ o
+        → (i : ℕ) × (index_of key b (record t { entries = added_at o (new b) t.entries }) ≡ Some i)
     by_free h None f = absurd (some f)
     by_free h (Some i) f = (i, index_of-new_same new_key t b i h f)
 

@@ -90,7 +90,8 @@ module _ (j k : ℕ) (s : State) (t : AreSoundTables s) (boot : IsBooting s) (ma
     by_place None h = ap (λ (e : BttEntry). e.work) (entry_for-none block_key new_entry s.btt b h)
     by_place (Some i) h =
         let f = found_entry block_key new_entry s.btt b i h in
-        ap (λ (e : BttEntry). e.work) (entry_for-some block_key new_entry s.btt b i f.0 h f.1) ∙ ap (λ (e : BttEntry). e.work) (boot.blocks i f.0 f.1)
+        ap (λ (e : BttEntry). e.work) (entry_for-some block_key new_entry s.btt b i f.0 h f.1)
+        ∙ ap (λ (e : BttEntry). e.work) (boot.blocks i f.0 f.1)
 
   sound_c : IsSoundCell false c
   sound_c = subst (λ (w : Bool). IsSoundCell w c) boot.idle (t.cells b in_memory)
@@ -146,7 +147,8 @@ module _ (j k : ℕ) (s : State) (t : AreSoundTables s) (boot : IsBooting s) (ma
           (puts s m b y (old (penult c)) t sized frame_there owns)
 
       others : (x : ℕ) → x < memory_blocks s.p → x ≢ b → Keeps s.under_way old (reads w m) (cell_of s x) (cell_of w x)
-      others x l ne = Keeps-untouched s.under_way old (reads w m) x (cell_of s x) (t.cells x l) (untouched s m b y (old (penult c)) t sized frame_there owns x l ne)
+      others x l ne = Keeps-untouched s.under_way old (reads w m) x (cell_of s x) (t.cells x l)
+          (untouched s m b y (old (penult c)) t sized frame_there owns x l ne)
 
       hold_others : (x : ℕ) → x < memory_blocks s.p → Holds old (cell_of s x) → Holds (reads w m) (cell_of w x)
       hold_others x l =
@@ -201,6 +203,7 @@ pub frame_put_is : (j k : ℕ) {s w : State} → w ≡ s → (m : Device) {x : �
 unfolding with_frame
 frame_put_is j k view m x_is v_is d_is = cc
 
-pub IsBooting-after : {T E : Type 0} (j k : ℕ) (s t : State) (n : Device) (r : Result T E) → IsBooting s → OnOk r (t ≡ with_frame j k s n) → OnErr r (t ≡ s) → IsBooting t
+pub IsBooting-after : {T E : Type 0} (j k : ℕ) (s t : State) (n : Device) (r : Result T E) → IsBooting s → OnOk r (t ≡ with_frame j k s n)
+    → OnErr r (t ≡ s) → IsBooting t
 IsBooting-after j k s t n (Ok x) boot e f = subst IsBooting (sym e) (IsBooting-frame j k s n boot)
 IsBooting-after j k s t n (Err x) boot e f = subst (λ (u : State). IsBooting u) (sym f) boot

@@ -23,7 +23,8 @@ clears_all rule t each =
     let all : (mapped rule t).entries ≡ replicate (length t.entries) None
     = ext_get_or None (mapped rule t).entries (replicate (length t.entries) None)
     (length-map t.entries (option_and_then rule) ∙ sym (length-replicate (length t.entries) None))
-    (λ i l. entry_at-mapped rule t i ∙ by_entry i (entry_at t i) refl ∙ sym (get_or-replicate (length t.entries) i None None (omega (arith, l, length-map t.entries (option_and_then rule))))) in
+    (λ i l. entry_at-mapped rule t i ∙ by_entry i (entry_at t i) refl
+    ∙ sym (get_or-replicate (length t.entries) i None None (omega (arith, l, length-map t.entries (option_and_then rule))))) in
     ap (count_by is_none) all ∙ all_free (length t.entries) t.numbers
   where
     by_entry : (i : ℕ) (o : Option BttEntry) → entry_at t i ≡ o → option_and_then rule o ≡ None
@@ -46,7 +47,8 @@ module _ (s t : State) (sound : AreSoundTables s) (idle : HasNoWork s) (settles 
 
   goes : is_few s ≡ true → (i : ℕ) (f : BttEntry) → entry_at t.btt i ≡ Some f → committed_entry f ≡ None
   goes few i f now = by_entry (entry_at s.btt i) refl (sym (became i) ∙ now) where
-    by_entry : (o : Option BttEntry) → entry_at s.btt i ≡ o → option_and_then settled (option_and_then (sealed_in (is_few s) s.ptt) o) ≡ Some f → committed_entry f ≡ None
+    by_entry : (o : Option BttEntry) → entry_at s.btt i ≡ o
+        → option_and_then settled (option_and_then (sealed_in (is_few s) s.ptt) o) ≡ Some f → committed_entry f ≡ None
     by_entry None was h = cc
     by_entry (Some e) was h =
         let framed : Bool = block_is_framed s.ptt e.block in

@@ -25,22 +25,24 @@ block_if true f size b l =
     (refl, inside, get_or-map-range_with_len f 0 size b b zero_block inside at)
 block_if false f size b l = absurd (omega arith)
 
-pub AreWorks-holding : (s : State) (n : Device) (b : ℕ) → b < length (holding_of s n).blocks → AreWorks s n b
-AreWorks-holding s n b l =
-    let e = block_if (length n.image == image_blocks s.p && not n.down) (work_of s n) (memory_blocks s.p) b l in
-    let both = and_parts (length n.image == image_blocks s.p) (not n.down) e.0 in
-    record {
-      sized = record { nvm = eqb-true (length n.image) (image_blocks s.p) both.0 };
-      up = not-true n.down both.1;
-      inside = e.1;
-      block = e.2;
-    }
+module _ (s : State) (n : Device) where
+  pub AreWorks-holding : (b : ℕ) → b < length (holding_of s n).blocks → AreWorks s n b
+  AreWorks-holding b l =
+      let e = block_if (length n.image == image_blocks s.p && not n.down) (work_of s n) (memory_blocks s.p) b l in
+      let both = and_parts (length n.image == image_blocks s.p) (not n.down) e.0 in
+      record {
+        sized = record { nvm = eqb-true (length n.image) (image_blocks s.p) both.0 };
+        up = not-true n.down both.1;
+        inside = e.1;
+        block = e.2;
+      }
 
-pub works-sized : (s : State) (n : Device) → IsSized s n → n.down ≡ false → works s n ≡ map (work_of s n) (range_with_len 0 (memory_blocks s.p))
-works-sized s n sized up = ap (λ (t : Bool). if t then map (work_of s n) (range_with_len 0 (memory_blocks s.p)) else []) (and_from (length n.image == image_blocks s.p) (not n.down) (eq-eqb (length n.image) (image_blocks s.p) sized.nvm) (not_from_false n.down up))
+  pub works-sized : IsSized s n → n.down ≡ false → works s n ≡ map (work_of s n) (range_with_len 0 (memory_blocks s.p))
+  works-sized sized up = ap (λ (t : Bool). if t then map (work_of s n) (range_with_len 0 (memory_blocks s.p)) else []) (and_from
+      (length n.image == image_blocks s.p) (not n.down) (eq-eqb (length n.image) (image_blocks s.p) sized.nvm) (not_from_false n.down up))
 
-pub length-works : (s : State) (n : Device) → IsSized s n → n.down ≡ false → length (works s n) ≡ memory_blocks s.p
-length-works s n sized up = ap length (works-sized s n sized up) ∙ length-map-range_with_len (work_of s n) 0 (memory_blocks s.p)
+  pub length-works : IsSized s n → n.down ≡ false → length (works s n) ≡ memory_blocks s.p
+  length-works sized up = ap length (works-sized sized up) ∙ length-map-range_with_len (work_of s n) 0 (memory_blocks s.p)
 
 -- a table of free entries
 pub all_free : (size numbers : ℕ) → free_count (empty_table {E = BttEntry} size numbers) ≡ size

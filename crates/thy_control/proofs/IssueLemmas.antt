@@ -50,7 +50,8 @@ busy-under_way : (u : Bool) (page : PttEntry) → IsSoundPage u page → page.bu
 busy-under_way u page s busy = grind arith
 
 -- a framed page's block has its work at the same place, whatever its last version is
-worked-framed : (w : Working) (f : Bool) (x y : Place) (v : Version) (seat : Seat) → f ≡ true → worked_at w f x v seat ≡ worked_at w f y v seat
+worked-framed : (w : Working) (f : Bool) (x y : Place) (v : Version) (seat : Seat) → f ≡ true
+    → worked_at w f x v seat ≡ worked_at w f y v seat
 worked-framed w f x y v seat e = grind arith
 
 module _ (b : ℕ) (s : State) (busy : (cell_of s b).page.busy ≡ true) where
@@ -69,7 +70,8 @@ module _ (b : ℕ) (s : State) (busy : (cell_of s b).page.busy ≡ true) where
   unfolding issued
   cell-issued m P k here others = cell-page page_issued (λ e. refl) s b listed-busy P k here others
 
-  module _ (t : AreSoundTables s) (l : b < memory_blocks s.p) (due : (cell_of s b).page.issued ≡ b % 64) (law : PageWriteKeeps) (other : PageWriteKeepsOthers) where
+  module _ (t : AreSoundTables s) (l : b < memory_blocks s.p) (due : (cell_of s b).page.issued ≡ b % 64) (law : PageWriteKeeps)
+      (other : PageWriteKeepsOthers) where
     moving : s.under_way ≡ true
     moving = busy-under_way s.under_way (cell_of s b).page (t.cells b l).of_page busy
 
@@ -90,12 +92,14 @@ module _ (b : ℕ) (s : State) (busy : (cell_of s b).page.busy ≡ true) where
           (not-next b s (λ e. e.issued) due k q ne) (next-few b s (λ e. e.issued) due k q) (omega arith) same hold;
     }
 
-module _ (b : ℕ) (s : State) (busy : (cell_of s b).page.busy ≡ true) (m : Device) (t : AreSoundTables s) (sized : IsSized s m) (l : b < memory_blocks s.p)
+module _ (b : ℕ) (s : State) (busy : (cell_of s b).page.busy ≡ true) (m : Device) (t : AreSoundTables s) (sized : IsSized s m)
+    (l : b < memory_blocks s.p)
     (due : (cell_of s b).page.issued ≡ b % 64) (law : PageWriteKeeps) (other : PageWriteKeepsOthers) where
   pub AreSoundTables-issued : IsListing page_key (issued b s m).ptt → AreSoundTables (issued b s m)
   unfolding issued devices_issued
   AreSoundTables-issued once =
-      let sizes = AreSized-written_at s.p (devices_of m s.dram) (target (cell_of s b)) (reads s m (frame_at (seat_of (cell_of s b)))) (record { nvm = sized.nvm; dram = t.dram_size }) in
+      let sizes = AreSized-written_at s.p (devices_of m s.dram) (target (cell_of s b)) (reads s m (frame_at (seat_of (cell_of s b))))
+      (record { nvm = sized.nvm; dram = t.dram_size }) in
       AreSoundTables-walked (walk b s busy t l due law other) t (devices_issued b s m).dram sizes.dram
       (λ bare. absurd (both_ways _ bare (busy-framed s.under_way (cell_of s b).page (t.cells b l).of_page busy))) once
 
@@ -122,7 +126,8 @@ module _ (law : PageWriteKeeps) (other : PageWriteKeepsOthers) (b : ℕ) (s : St
   work-issued k h = reads-walked this t m sized work (here_now this t m sized).reads.work_gives
       (λ j i q.
       let c : Cell = cell_of s j in
-      worked-framed c.entry.work (is_framed c.page) (last (with_issued c)) (last c) c.entry.v0 (seat_of c) (busy-framed s.under_way c.page (t.cells j i).of_page (busy-same b s busy j q)))
+      worked-framed c.entry.work (is_framed c.page) (last (with_issued c)) (last c) c.entry.v0 (seat_of c)
+      (busy-framed s.under_way c.page (t.cells j i).of_page (busy-same b s busy j q)))
       (λ j i ne. (left_as this t m sized j i ne).work_same) (devices_issued b s m).dram k h
 
   pub held-issued : HoldAll s m → StaysHeld s m (issued b s m) (devices_issued b s m).nvm
@@ -133,7 +138,8 @@ module _ (law : PageWriteKeeps) (other : PageWriteKeepsOthers) (b : ℕ) (s : St
   }
 
 -- one block less is left
-left_one : (leaving : Bool) (i : ℕ) → i < 64 → (if leaving || not (i + 1 == page_blocks) then page_blocks - (i + 1) else 0) + 1 ≡ page_blocks - i
+left_one : (leaving : Bool) (i : ℕ) → i < 64
+    → (if leaving || not (i + 1 == page_blocks) then page_blocks - (i + 1) else 0) + 1 ≡ page_blocks - i
 left_one true i l = omega arith
 left_one false i l = by_test (i + 1 == page_blocks) refl where
   by_test : (x : Bool) → (i + 1 == page_blocks) ≡ x → (if not x then page_blocks - (i + 1) else 0) + 1 ≡ page_blocks - i
@@ -204,15 +210,18 @@ module _ (b : ℕ) (s : State) (busy : (cell_of s b).page.busy ≡ true) (m : De
         let sound = t.cells b l in
         let framed : is_framed c.page ≡ true = busy-framed s.under_way c.page sound.of_page busy in
         let out : c.entry.v1 ≡ Out = sound.framed_out framed (busy-old s.under_way c.page sound.of_page busy) in
-        LeavesGuarded-step s (target c) (reads s m (frame_at (seat_of c))) m n b t (IsPlace-target s.p c (IsWithin-cell_of s b t l)) (owned-target s b c (Owns-cell_of s b))
+        LeavesGuarded-step s (target c) (reads s m (frame_at (seat_of c))) m n b t (IsPlace-target s.p c (IsWithin-cell_of s b t l))
+        (owned-target s b c (Owns-cell_of s b))
         (sites_apart c.entry.v0 c.entry.v1 c.page.place c.page.target (seat_of c) out (sound.of_page.busy_moves busy))
         (λ placed same. absurd (omega (arith, due, placed.issued busy))) outcome
 
-    pub Stays-issued : PageWriteKeeps → PageWriteKeepsOthers → m.down ≡ false → IsFramed m (devices_issued b s m).nvm → Stays s m (issued b s m) (devices_issued b s m).nvm
+    pub Stays-issued : PageWriteKeeps → PageWriteKeepsOthers → m.down ≡ false → IsFramed m (devices_issued b s m).nvm
+        → Stays s m (issued b s m) (devices_issued b s m).nvm
     unfolding devices_issued
     Stays-issued law other up framed =
         let c : Cell = cell_of s b in
-        Stays-step s (target c) (reads s m (frame_at (seat_of c))) m (issued b s m) (IsPlace-target s.p c (IsWithin-cell_of s b t l)) sized (stays_tables law other) (λ d. let no : true ≡ false = sym d ∙ up in cc) framed
+        Stays-step s (target c) (reads s m (frame_at (seat_of c))) m (issued b s m) (IsPlace-target s.p c (IsWithin-cell_of s b t l)) sized
+        (stays_tables law other) (λ d. let no : true ≡ false = sym d ∙ up in cc) framed
         (guarded_by (devices_issued b s m).nvm (inl refl))
         (penult-issued law other b s busy m t sized l due) (held-issued law other b s busy m t sized l due)
 
@@ -227,7 +236,8 @@ pub record KeepsNext (s : State) (m : Device) (t : State) (n : Device) : Type 0 
   pub held : HoldAll s m → StaysHeld s m t n
   pub work : KeepsWork s m t n
 
-KeepsNext-by : PageWriteKeeps → PageWriteKeepsOthers → (s : State) (m : Device) → AreSoundTables s → IsSized s m → (o : Option ℕ) → next_page s ≡ o
+KeepsNext-by : PageWriteKeeps → PageWriteKeepsOthers → (s : State) (m : Device) → AreSoundTables s → IsSized s m → (o : Option ℕ)
+    → next_page s ≡ o
     → KeepsNext s m (after_next_write o s m) (devices_after_write o s m)
 KeepsNext-by law other s m t sized None h = record {
   committed = record { penult_same = λ b l. refl };
@@ -252,7 +262,8 @@ none_left : (s : State) → next_page s ≡ None → writes_left s ≡ 0
 none_left s h =
     let each : All (λ o. issues_left o ≤ 0) s.ptt.entries = λ k d l.
     let is : get_or s.ptt.entries k d ≡ get_or s.ptt.entries k None = get_or_default s.ptt.entries k d None l in
-    let none : passes needs_write (get_or s.ptt.entries k None) ≡ false = none-first_from (passes needs_write) None s.ptt.entries 0 h k (omega arith) l in
+    let none : passes needs_write (get_or s.ptt.entries k None) ≡ false =
+    none-first_from (passes needs_write) None s.ptt.entries 0 h k (omega arith) l in
     omega (arith, ap issues_left is, by_entry (get_or s.ptt.entries k None) none) in
     omega (arith, sum_by-le issues_left 0 s.ptt.entries each)
   where
@@ -265,24 +276,28 @@ none_left s h =
     by_entry (Some e) h = by_busy e.busy e.issued h
 
 -- one block less is left to write
-pub writes_left-next : (s : State) (m : Device) → AreSoundTables s → (o : Option ℕ) → next_page s ≡ o → IsOneLess (is_some o) (writes_left s) (writes_left (after_next_write o s m))
+pub writes_left-next : (s : State) (m : Device) → AreSoundTables s → (o : Option ℕ) → next_page s ≡ o
+    → IsOneLess (is_some o) (writes_left s) (writes_left (after_next_write o s m))
 writes_left-next s m t None h = (none_left s h, none_left s h)
 writes_left-next s m t (Some j) h =
     let d = IsDue-entry s t j h in
     writes_left-issued (block_to_write j s) s m d.busy (omega (arith, d.due))
 
-pub left_after : (s : State) (m : Device) (t : State) → AreSoundTables s → (r : Result Bool NvmError) → OnOk r (t ≡ after_next_write (next_page s) s m) → IfOk r (λ more. more ≡ is_some (next_page s))
+pub left_after : (s : State) (m : Device) (t : State) → AreSoundTables s → (r : Result Bool NvmError)
+    → OnOk r (t ≡ after_next_write (next_page s) s m) → IfOk r (λ more. more ≡ is_some (next_page s))
     → IfOk r (λ more. IsOneLess more (writes_left s) (writes_left t))
 left_after s m t tables r e f = search (rules, writes_left-next s m tables (next_page s) refl)
 
-Stays-next : PageWriteKeeps → PageWriteKeepsOthers → (s : State) (m : Device) → AreSoundTables s → IsSized s m → m.down ≡ false → (o : Option ℕ) → next_page s ≡ o
+Stays-next : PageWriteKeeps → PageWriteKeepsOthers → (s : State) (m : Device) → AreSoundTables s → IsSized s m → m.down ≡ false
+    → (o : Option ℕ) → next_page s ≡ o
     → IsFramed m (devices_after_write o s m) → Stays s m (after_next_write o s m) (devices_after_write o s m)
 Stays-next law other s m t sized up None h framed = stays_same s m
 Stays-next law other s m t sized up (Some j) h framed =
     let d = IsDue-entry s t j h in
     Stays-issued (block_to_write j s) s d.busy m t sized d.inside d.due law other up framed
 
-pub stays_by : PageWriteKeeps → PageWriteKeepsOthers → (s : State) (m : Device) (t : State) (n : Device) (r : Result Bool NvmError) → AreSoundTables s → IsSized s m → m.down ≡ false
+pub stays_by : PageWriteKeeps → PageWriteKeepsOthers → (s : State) (m : Device) (t : State) (n : Device) (r : Result Bool NvmError)
+    → AreSoundTables s → IsSized s m → m.down ≡ false
     → OnOk r (t ≡ after_next_write (next_page s) s m) → OnOk r (n ≡ devices_after_write (next_page s) s m)
     → OnErr r (t ≡ s) → OnErr r (FailsNextWrite s m n) → IsFramed m n → Stays s m t n
 stays_by law other s m t n (Ok more) tables sized up e f k g framed =
@@ -290,7 +305,8 @@ stays_by law other s m t n (Ok more) tables sized up e f k g framed =
     (Stays-next law other s m tables sized up (next_page s) refl (subst (λ (y : Device). IsFramed m y) f framed)))
 stays_by law other s m t n (Err x) tables sized up e f k g framed =
     let d = IsDue-entry s tables g.entry g.next in
-    subst (λ (y : State). Stays s m y n) (sym k) (Stays-not_issued (block_to_write g.entry s) s d.busy m tables sized d.inside d.due n g.fails framed)
+    subst (λ (y : State). Stays s m y n) (sym k)
+    (Stays-not_issued (block_to_write g.entry s) s d.busy m tables sized d.inside d.due n g.fails framed)
 
 -- the parts of the code's way: the state as its fields have it
 module _ {s w : State} (view : w ≡ s) (b : ℕ) (m : Device) {found : Cell}

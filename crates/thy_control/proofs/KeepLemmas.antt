@@ -49,17 +49,20 @@ use Rattle.thy_table.specs.declared.block_entry.Pending.TheVariants.{Settled}
 use Rattle.thy_control.specs.Guarded.{IsPlaced, LeavesGuarded}
 
 -- a block that is out of its entry is at the place of its page
-placed-out : (s : Site) (j block i k : ℕ) → placed Out s (record { i = i; j = j; block = block }) ≡ placed Out s (record { i = k; j = j; block = block })
+placed-out : (s : Site) (j block i k : ℕ)
+    → placed Out s (record { i = i; j = j; block = block }) ≡ placed Out s (record { i = k; j = j; block = block })
 placed-out AtHome j block i k = refl
 placed-out AtAlternate j block i k = refl
 
 -- a cell with a new entry has its versions whatever place that entry gets
 module _ (c : Cell) (k b : ℕ) (is_new : c.entry ≡ new_entry b) where
   pub penult-new : penult (record c { i = k }) ≡ penult c
-  penult-new = subst (λ (e : BttEntry). penult (record c { entry = e; i = k }) ≡ penult (record c { entry = e })) (sym is_new) (placed-out c.page.place c.j b k c.i)
+  penult-new = subst (λ (e : BttEntry). penult (record c { entry = e; i = k }) ≡ penult (record c { entry = e })) (sym is_new)
+      (placed-out c.page.place c.j b k c.i)
 
   pub target-new : target (record c { i = k }) ≡ target c
-  target-new = subst (λ (e : BttEntry). target (record c { entry = e; i = k }) ≡ target (record c { entry = e })) (sym is_new) (placed-out c.page.target c.j b k c.i)
+  target-new = subst (λ (e : BttEntry). target (record c { entry = e; i = k }) ≡ target (record c { entry = e })) (sym is_new)
+      (placed-out c.page.target c.j b k c.i)
 
   pub last-new : last (record c { i = k }) ≡ last c
   last-new = subst (λ (e : BttEntry). last (record c { entry = e; i = k }) ≡ last (record c { entry = e })) (sym is_new)
@@ -67,7 +70,8 @@ module _ (c : Cell) (k b : ℕ) (is_new : c.entry ≡ new_entry b) where
 
   pub work-new : work (record c { i = k }) ≡ work c
   work-new = subst (λ (e : BttEntry). work (record c { entry = e; i = k }) ≡ work (record c { entry = e })) (sym is_new)
-      (ap (λ (x : Place). if is_framed c.page then Frame c.j (b % 64) else (if c.page.busy then Frame c.j (b % 64) else x)) (placed-out c.page.target c.j b k c.i))
+      (ap (λ (x : Place). if is_framed c.page then Frame c.j (b % 64) else (if c.page.busy then Frame c.j (b % 64) else x))
+      (placed-out c.page.target c.j b k c.i))
 
 btt_with-listed : (r : StoreRule) (b i : ℕ) (t : Listing BttEntry) → index_of block_key b t ≡ Some i → btt_with r b t ≡ t
 btt_with-listed ToFrame b i t h = refl
@@ -82,9 +86,11 @@ same_start f r b s free = ap f (cell-with_block_same r b s) ∙ by_place (index_
   by_place : (o : Option ℕ) → index_of block_key b s.btt ≡ o
       → f (record (cell_of s b) { i = index_for block_key new_entry b (btt_with r b s.btt) }) ≡ f (cell_of s b)
   by_place None h = free (index_for block_key new_entry b (btt_with r b s.btt)) (entry_for-none block_key new_entry s.btt b h)
-  by_place (Some i) h = ap (λ (t : Listing BttEntry). f (record (cell_of s b) { i = index_for block_key new_entry b t })) (btt_with-listed r b i s.btt h)
+  by_place (Some i) h = ap (λ (t : Listing BttEntry). f (record (cell_of s b) { i = index_for block_key new_entry b t }))
+      (btt_with-listed r b i s.btt h)
 
-given-answer : (r : StoreRule) (block : Block) (old : Place → Block) (c : Cell) → given_by r block old c ≡ work_given (answer_of r) block (old (work c))
+given-answer : (r : StoreRule) (block : Block) (old : Place → Block) (c : Cell)
+    → given_by r block old c ≡ work_given (answer_of r) block (old (work c))
 given-answer ToFrame block old c = refl
 given-answer r block old c = refl
 
@@ -97,7 +103,8 @@ pub record Kept (b : ℕ) (block : Block) (s : State) (m : Device) (t : State) (
   pub checkpoints : KeepsCheckpoints s m t n
   pub work_put : PutsWork answer b block s m t n
 
-pub Kept-after : StoreReads → (b : ℕ) (block : Block) (s : State) (n : Device) → AreSoundTables s → IsSized s n → IsWholeState s → b < memory_blocks s.p → 0 < free_count s.btt
+pub Kept-after : StoreReads → (b : ℕ) (block : Block) (s : State) (n : Device) → AreSoundTables s → IsSized s n → IsWholeState s
+    → b < memory_blocks s.p → 0 < free_count s.btt
     → Kept b block s n (state_after b block s n) (devices_after b block s n).nvm (answer_of (rule_for b s))
 unfolding state_after devices_after cell_before
 Kept-after laws b block s n t sized whole inside room =
@@ -119,13 +126,16 @@ Kept-after laws b block s n t sized whole inside room =
     } in
     let same_rule : store_rule c ≡ r = rule-with_block r b s in
     let law : LoadGives old new c (after_store r c) (given_by r block old c)
-    = subst (λ (q : StoreRule). Puts s.p (store_place q c) (put_by q block old c) old new → LoadGives old new c (after_store q c) (given_by q block old c)) same_rule
+    = subst (λ (q : StoreRule). Puts s.p (store_place q c) (put_by q block old c) old new
+    → LoadGives old new c (after_store q c) (given_by q block old c)) same_rule
     (laws s.p s.under_way c block old new within (sound-with_block r b s b (t.cells b inside)) (whole.whole b inside)) puts in
     let now : cell_of after b ≡ after_store r c = cell-with_cell_same r b u listed in
     let owns : owner u place ≡ Some b = owned-store r u b listed in
-    let other = λ (f : Cell → Place) (dirty : (x : Cell) → f (with_dirty x) ≡ f x) (m : ℕ) (ne : m ≢ b) (owned : owner u (f (cell_of u m)) ≡ Some m) (is : IsPlace s.p (f (cell_of s m))).
+    let other = λ (f : Cell → Place) (dirty : (x : Cell) → f (with_dirty x) ≡ f x) (m : ℕ) (ne : m ≢ b)
+    (owned : owner u (f (cell_of u m)) ≡ Some m) (is : IsPlace s.p (f (cell_of s m))).
     (let start : cell_of u m ≡ cell_of s m = cell-with_block_other r b s m ne in
-    let moved : f (cell_of after m) ≡ f (cell_of u m) = or_dirty f dirty r (cell_of u m) (cell_of after m) (cell-with_cell_other r b u m listed ne) in
+    let moved : f (cell_of after m) ≡ f (cell_of u m) =
+    or_dirty f dirty r (cell_of u m) (cell_of after m) (cell-with_cell_other r b u m listed ne) in
     let apart : f (cell_of s m) ≢ place = λ e. owned-apart u m b (f (cell_of u m)) place ne owned owns (ap f start ∙ e) in
     let e : new (f (cell_of after m)) ≡ old (f (cell_of s m)) = ap new (moved ∙ ap f start) ∙ puts.others (f (cell_of s m)) is apart in
     e) in
@@ -147,7 +157,8 @@ Kept-after laws b block s n t sized whole inside room =
       work_put = record {
         work_here = ap (λ (x : Cell). new (work x)) now ∙ law.work_gives ∙ given-answer r block old c
             ∙ ap (λ (x : Place). work_given (answer_of r) block (old x)) (same_start work r b s (λ k h. work-new (cell_of s b) k b h));
-        work_others = λ m l ne. other work (λ x. refl) m ne (owned-work u m (cell_of u m) (Owns-cell_of u m)) (IsPlace-work s.p (cell_of s m) (IsWithin-cell_of s m t l));
+        work_others = λ m l ne. other work (λ x. refl) m ne (owned-work u m (cell_of u m) (Owns-cell_of u m))
+            (IsPlace-work s.p (cell_of s m) (IsWithin-cell_of s m t l));
       };
     }
 
@@ -171,7 +182,8 @@ work_by b block s m t n r h = search rules
 -- ---- after a store the places of every block hold what they have to
 
 -- a block whose places read as before, if they matter
-pub hold_same : (old new : Place → Block) (c : Cell) → new (target c) ≡ old (target c) → new (last c) ≡ old (last c) → new (work c) ≡ old (work c)
+pub hold_same : (old new : Place → Block) (c : Cell) → new (target c) ≡ old (target c) → new (last c) ≡ old (last c)
+    → new (work c) ≡ old (work c)
     → (is_framed c.page ≡ true → new (frame_at (seat_of c)) ≡ old (frame_at (seat_of c)))
     → (c.page.fresh ≡ true → new (frame_at (seat_of c)) ≡ old (frame_at (seat_of c)))
     → (c.page.busy ≡ true → new (frame_at (seat_of c)) ≡ old (frame_at (seat_of c)))
@@ -198,18 +210,24 @@ pub IsPlace-frame_of : (s : State) (b : ℕ) → AreSoundTables s → b < memory
 IsPlace-frame_of s b t l = let w = IsWithin-cell_of s b t l in (w.page, omega arith)
 
 -- a cell with another place of its entry holds the same
-hold_start : (reads : Place → Block) (c d : Cell) → d.entry ≡ c.entry → d.page ≡ c.page → d.j ≡ c.j → target d ≡ target c → last d ≡ last c → work d ≡ work c
+hold_start : (reads : Place → Block) (c d : Cell) → d.entry ≡ c.entry → d.page ≡ c.page → d.j ≡ c.j → target d ≡ target c → last d ≡ last c
+    → work d ≡ work c
     → Holds reads c → Holds reads d
 hold_start reads c d e p j t l w h =
-    let frame : frame_at (seat_of d) ≡ frame_at (seat_of c) = ap (λ (k : ℕ). frame_at (record { i = 0; j = k; block = d.entry.block })) j ∙ ap (λ (x : BttEntry). frame_at (record { i = 0; j = c.j; block = x.block })) e in
+    let frame : frame_at (seat_of d) ≡ frame_at (seat_of c) = ap (λ (k : ℕ). frame_at (record { i = 0; j = k; block = d.entry.block })) j
+    ∙ ap (λ (x : BttEntry). frame_at (record { i = 0; j = c.j; block = x.block })) e in
     let block : d.entry.block ≡ c.entry.block = ap (λ (x : BttEntry). x.block) e in
     record {
-      clean = λ f a b. ap reads frame ∙ h.clean (ap is_framed (sym p) ∙ f) (ap (λ (x : PttEntry). x.dirty) (sym p) ∙ a) (ap (λ (x : PttEntry). x.fresh) (sym p) ∙ b) ∙ ap reads (sym l);
-      copied = λ k f. ap reads frame ∙ h.copied (omega (arith, k, ap (λ n. n % 64) block, ap (λ (x : PttEntry). x.filled) p)) (ap (λ (x : PttEntry). x.fresh) (sym p) ∙ f) ∙ ap reads (sym w);
-      issued = λ b k. ap reads t ∙ h.issued (ap (λ (x : PttEntry). x.busy) (sym p) ∙ b) (omega (arith, k, ap (λ n. n % 64) block, ap (λ (x : PttEntry). x.issued) p)) ∙ ap reads (sym frame);
+      clean = λ f a b. ap reads frame ∙ h.clean (ap is_framed (sym p) ∙ f) (ap (λ (x : PttEntry). x.dirty) (sym p) ∙ a)
+          (ap (λ (x : PttEntry). x.fresh) (sym p) ∙ b) ∙ ap reads (sym l);
+      copied = λ k f. ap reads frame ∙ h.copied (omega (arith, k, ap (λ n. n % 64) block, ap (λ (x : PttEntry). x.filled) p))
+          (ap (λ (x : PttEntry). x.fresh) (sym p) ∙ f) ∙ ap reads (sym w);
+      issued = λ b k. ap reads t ∙ h.issued (ap (λ (x : PttEntry). x.busy) (sym p) ∙ b)
+          (omega (arith, k, ap (λ n. n % 64) block, ap (λ (x : PttEntry). x.issued) p)) ∙ ap reads (sym frame);
     }
 
-pub HoldAll-after : StoreHolds → (b : ℕ) (block : Block) (s : State) (n : Device) → AreSoundTables s → IsSized s n → IsWholeState s → b < memory_blocks s.p → 0 < free_count s.btt
+pub HoldAll-after : StoreHolds → (b : ℕ) (block : Block) (s : State) (n : Device) → AreSoundTables s → IsSized s n → IsWholeState s
+    → b < memory_blocks s.p → 0 < free_count s.btt
     → HoldAll s n → HoldAll (state_after b block s n) (devices_after b block s n).nvm
 unfolding state_after devices_after cell_before
 HoldAll-after laws b block s n t sized whole inside room hold m l =
@@ -231,27 +249,34 @@ HoldAll-after laws b block s n t sized whole inside room hold m l =
     } in
     let same_rule : store_rule c ≡ r = rule-with_block r b s in
     let start : Holds old c = hold_start old (cell_of s b) c (entry-with_block r b s b) refl refl
-    (same_start target r b s (λ k h. target-new (cell_of s b) k b h)) (same_start last r b s (λ k h. last-new (cell_of s b) k b h)) (same_start work r b s (λ k h. work-new (cell_of s b) k b h)) (hold b inside) in
+    (same_start target r b s (λ k h. target-new (cell_of s b) k b h)) (same_start last r b s (λ k h. last-new (cell_of s b) k b h))
+    (same_start work r b s (λ k h. work-new (cell_of s b) k b h)) (hold b inside) in
     let law : Holds new (after_store r c)
     = subst (λ (q : StoreRule). Puts s.p (store_place q c) (put_by q block old c) old new → Holds new (after_store q c)) same_rule
-    (λ (p : Puts s.p (store_place (store_rule c) c) (put_by (store_rule c) block old c) old new). laws s.p s.under_way c block old new within (sound-with_block r b s b (t.cells b inside)) (whole.whole b inside) p start) puts in
+    (λ (p : Puts s.p (store_place (store_rule c) c) (put_by (store_rule c) block old c) old new). laws s.p s.under_way c block old new
+    within (sound-with_block r b s b (t.cells b inside)) (whole.whole b inside) p start) puts in
     let owns : owner u place ≡ Some b = owned-store r u b listed in
     elim (cases_eq m b) as (λ _. Holds new (cell_of after m)) [
-      | inl e ↦ subst (λ (k : ℕ). Holds new (cell_of after k)) (sym e) (subst (λ (x : Cell). Holds new x) (sym (cell-with_cell_same r b u listed)) law)
+      | inl e ↦ subst (λ (k : ℕ). Holds new (cell_of after k)) (sym e)
+          (subst (λ (x : Cell). Holds new x) (sym (cell-with_cell_same r b u listed)) law)
       | inr ne ↦
           let same : cell_of u m ≡ cell_of s m = cell-with_block_other r b s m ne in
           let d : Cell = cell_of s m in
           let o : Owns u m d = subst (λ (x : Cell). Owns u m x) same (Owns-cell_of u m) in
           let w = IsWithin-cell_of s m t l in
-          let at = λ (x : Place) (is : IsPlace s.p x) (own : owner u x ≡ Some m). (let e : new x ≡ old x = puts.others x is (owned-apart u m b x place ne own owns) in e) in
-          let frame = λ (listed_page : d.page ≢ no_page (page_of m)). (let e : new (frame_at (seat_of d)) ≡ old (frame_at (seat_of d)) = at (frame_at (seat_of d)) (IsPlace-frame_of s m t l) (o.of_page listed_page) in e) in
+          let at = λ (x : Place) (is : IsPlace s.p x)
+          (own : owner u x ≡ Some m). (let e : new x ≡ old x = puts.others x is (owned-apart u m b x place ne own owns) in e) in
+          let frame = λ (listed_page : d.page ≢ no_page (page_of m)). (let e : new (frame_at (seat_of d)) ≡ old (frame_at (seat_of d)) =
+          at (frame_at (seat_of d)) (IsPlace-frame_of s m t l) (o.of_page listed_page) in e) in
           let kept : Holds new d = hold_same old new d
-          (at (target d) (IsPlace-target s.p d w) (owned-target u m d o)) (at (last d) (IsPlace-last s.p d w) (owned-last u m d o)) (at (work d) (IsPlace-work s.p d w) (owned-work u m d o))
+          (at (target d) (IsPlace-target s.p d w) (owned-target u m d o)) (at (last d) (IsPlace-last s.p d w) (owned-last u m d o))
+          (at (work d) (IsPlace-work s.p d w) (owned-work u m d o))
           (λ f. frame (λ e. let no : is_framed d.page ≡ false = ap is_framed e in cc))
           (λ f. frame (λ e. let no : d.page.fresh ≡ false = ap (λ (x : PttEntry). x.fresh) e in cc))
           (λ f. frame (λ e. let no : d.page.busy ≡ false = ap (λ (x : PttEntry). x.busy) e in cc))
           (hold m l) in
-          hold_or_dirty new r (cell_of u m) (cell_of after m) (cell-with_cell_other r b u m listed ne) (subst (λ (x : Cell). Holds new x) (sym same) kept)
+          hold_or_dirty new r (cell_of u m) (cell_of after m) (cell-with_cell_other r b u m listed ne)
+          (subst (λ (x : Cell). Holds new x) (sym same) kept)
     ]
 
 -- if a call's state and device are known
@@ -344,7 +369,8 @@ unfolding devices_after
 step_of b block s m n (inl e) = inl e
 step_of b block s m n (inr f) = inr (inr (f.in_nvm, f.failed))
 
-module _ (elsewhere : StoreGoesElsewhere) (leaves : StoreLeavesTarget) (b : ℕ) (s : State) (t : AreSoundTables s) (whole : IsWholeState s) (inside : b < memory_blocks s.p) (room : 0 < free_count s.btt) where
+module _ (elsewhere : StoreGoesElsewhere) (leaves : StoreLeavesTarget) (b : ℕ) (s : State) (t : AreSoundTables s) (whole : IsWholeState s)
+    (inside : b < memory_blocks s.p) (room : 0 < free_count s.btt) where
   elsewhere_of : IsElsewhere s (store_place (rule_for b s) (cell_before b s))
   unfolding cell_before
   elsewhere_of =
@@ -405,7 +431,8 @@ module _ (elsewhere : StoreGoesElsewhere) (leaves : StoreLeavesTarget) (b : ℕ)
         inside = (between_slots s.p place there side).0;
         before = (between_slots s.p place there side).1;
         old = λ k l. numbers_apart s.p place (penult (cell_of s k)) there (penult_is k l) (side ∙ sym (penult_in k)) (elsewhere_of.not_penult k);
-        next = λ k l placed. numbers_apart s.p place (target (cell_of s k)) there (target_is k l) (side ∙ sym (target_in k)) (elsewhere_of.not_target k placed);
+        next = λ k l placed. numbers_apart s.p place (target (cell_of s k)) there (target_is k l) (side ∙ sym (target_in k))
+            (elsewhere_of.not_target k placed);
       }
 
   pub LeavesGuarded-after : (block : Block) (m n : Device) → Outcome b block s m n → LeavesGuarded s m n
@@ -416,6 +443,7 @@ module _ (elsewhere : StoreGoesElsewhere) (leaves : StoreLeavesTarget) (b : ℕ)
 
 -- whichever way a call ended
 pub guarded_by : (b : ℕ) (block : Block) (s : State) (m n : Device) (r : Result Stored NvmError)
-    → OnOk r (n ≡ (devices_after b block s m).nvm) → OnErr r (FailsStore b block s m n) → (Outcome b block s m n → LeavesGuarded s m n) → LeavesGuarded s m n
+    → OnOk r (n ≡ (devices_after b block s m).nvm) → OnErr r (FailsStore b block s m n) → (Outcome b block s m n → LeavesGuarded s m n)
+    → LeavesGuarded s m n
 guarded_by b block s m n (Ok x) e f h = h (inl e)
 guarded_by b block s m n (Err x) e f h = h (inr f)

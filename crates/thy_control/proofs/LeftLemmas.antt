@@ -39,7 +39,8 @@ not_to_write false issued h e = cc
 pub AreCopied-none : NoneLeftIsCopied
 AreCopied-none s none b l = record {
   copied = not_pending (cell_of s b).entry.pend (none-entry_for block_key new_entry needs_copy s.btt none.copies (λ n. refl) b);
-  written = not_to_write (cell_of s b).page.busy (cell_of s b).page.issued (none-entry_for page_key no_page needs_write s.ptt none.pages (λ n. refl) (page_of b));
+  written = not_to_write (cell_of s b).page.busy (cell_of s b).page.issued
+      (none-entry_for page_key no_page needs_write s.ptt none.pages (λ n. refl) (page_of b));
 }
 
 pub HasNoneLeft-copied : CopiedHasNoneLeft

@@ -62,7 +62,8 @@ lists_on t u v a b = record {
   each n (inr x) (inr y) = let both : Some x.at ≡ None = sym x.place ∙ y.unlisted in cc
 
 -- one page is put in the lowest free place
-module _ (t : Listing PttEntry) (m i : ℕ) (unlisted : index_of page_key m t ≡ None) (lowest : free_index t ≡ Some i) (room : m < t.numbers) where
+module _ (t : Listing PttEntry) (m i : ℕ) (unlisted : index_of page_key m t ≡ None) (lowest : free_index t ≡ Some i)
+    (room : m < t.numbers) where
   free_there : (entry_at t i ≡ None) × (i < length t.entries)
   free_there = free_at t i lowest
 
@@ -76,7 +77,8 @@ module _ (t : Listing PttEntry) (m i : ℕ) (unlisted : index_of page_key m t �
         unlisted = unlisted;
         at = i;
         place = place;
-        entry = entry_for-some page_key no_page u m i (promoted_page m) place (get_or-set_same t.entries i (Some (promoted_page m)) None free_there.1);
+        entry = entry_for-some page_key no_page u m i (promoted_page m) place
+            (get_or-set_same t.entries i (Some (promoted_page m)) None free_there.1);
       }
 
   same_there : (n : ℕ) → n ≢ m → Same t u n
@@ -136,12 +138,14 @@ pub with_pages-append : (xs ys : List ℕ) (t : Listing PttEntry) → with_pages
 with_pages-append [] ys t = refl
 with_pages-append (x ∷ xs) ys t = with_pages-append xs ys (with_entry_for page_key promoted_page x t)
 
-pub with_pages-more : (c : Tally) (n : ℕ) (t : Listing PttEntry) → with_dense c n (with_pages (dense_below c n) t) ≡ with_pages (dense_below c (n + 1)) t
+pub with_pages-more : (c : Tally) (n : ℕ) (t : Listing PttEntry)
+    → with_dense c n (with_pages (dense_below c n) t) ≡ with_pages (dense_below c (n + 1)) t
 with_pages-more c n t =
     one (is_dense c n) (with_pages (dense_below c n) t) ∙ sym (with_pages-append (dense_below c n) (cond (is_dense c n) (n ∷ []) []) t)
     ∙ sym (ap (λ ns. with_pages ns t) (dense_below-more c n))
   where
-    one : (d : Bool) (u : Listing PttEntry) → (if d then with_entry_for page_key promoted_page n u else u) ≡ with_pages (cond d (n ∷ []) []) u
+    one : (d : Bool) (u : Listing PttEntry)
+        → (if d then with_entry_for page_key promoted_page n u else u) ≡ with_pages (cond d (n ∷ []) []) u
     one true u = refl
     one false u = refl
 
@@ -153,7 +157,8 @@ with_dense-numbers c n t l = one (is_dense c n) where
 
 -- the dense pages below a number are also the dense pages below a higher one, if no page from the first number on is
 -- dense
-pub dense_below-none : (c : Tally) (first k : ℕ) → ((n : ℕ) → first ≤ n → n < first + k → is_dense c n ≡ false) → dense_below c (first + k) ≡ dense_below c first
+pub dense_below-none : (c : Tally) (first k : ℕ) → ((n : ℕ) → first ≤ n → n < first + k → is_dense c n ≡ false)
+    → dense_below c (first + k) ≡ dense_below c first
 dense_below-none c first zero none = ap (dense_below c) (omega arith)
 dense_below-none c first (suc k) none =
     ap (dense_below c) (let e : first + suc k ≡ first + k + 1 = omega arith in e)
@@ -172,18 +177,20 @@ greatest-all m [] k d l = absurd (omega (arith, l))
 greatest-all m (n ∷ ns) zero d l = omega (arith, greatest-least (max m n) ns)
 greatest-all m (n ∷ ns) (suc k) d l = greatest-all (max m n) ns k d (omega (arith, l))
 
--- sparse pages are not dense
-pub sparse-none : (c : Tally) (first end : ℕ) → end ≤ length c.counts → are_sparse c first end ≡ true → (n : ℕ) → first ≤ n → n < end → is_dense c n ≡ false
-sparse-none c first end inside sparse n low high =
-    let piece : List ℕ = take (end - first) (drop first c.counts) in
-    let many : n - first < length piece = omega (arith, inside, low, high, length-take (end - first) (drop first c.counts), length-drop first c.counts) in
-    let same : get_or piece (n - first) 0 ≡ get_or c.counts n 0 =
-    get_or-take (end - first) (drop first c.counts) (n - first) 0 (omega (arith, low, high)) ∙ get_or-drop first c.counts (n - first) 0
-    ∙ ap (λ i. get_or c.counts i 0) (let e : first + (n - first) ≡ n = omega (arith, low) in e) in
-    let most : greatest_of 0 piece ≤ c.high = leb-true (greatest_of 0 piece) c.high sparse in
-    le-ltb c.high (get_or c.counts n 0) (omega (arith, most, greatest-all 0 piece (n - first) 0 many, same))
+module _ (c : Tally) (first end : ℕ) where
+  -- sparse pages are not dense
+  pub sparse-none : end ≤ length c.counts → are_sparse c first end ≡ true → (n : ℕ) → first ≤ n → n < end → is_dense c n ≡ false
+  sparse-none inside sparse n low high =
+      let piece : List ℕ = take (end - first) (drop first c.counts) in
+      let many : n - first < length piece =
+      omega (arith, inside, low, high, length-take (end - first) (drop first c.counts), length-drop first c.counts) in
+      let same : get_or piece (n - first) 0 ≡ get_or c.counts n 0 =
+      get_or-take (end - first) (drop first c.counts) (n - first) 0 (omega (arith, low, high)) ∙ get_or-drop first c.counts (n - first) 0
+      ∙ ap (λ i. get_or c.counts i 0) (let e : first + (n - first) ≡ n = omega (arith, low) in e) in
+      let most : greatest_of 0 piece ≤ c.high = leb-true (greatest_of 0 piece) c.high sparse in
+      le-ltb c.high (get_or c.counts n 0) (omega (arith, most, greatest-all 0 piece (n - first) 0 many, same))
 
-pub dense_below-sparse : (c : Tally) (first end : ℕ) → first ≤ end → end ≤ length c.counts → are_sparse c first end ≡ true → dense_below c end ≡ dense_below c first
-dense_below-sparse c first end order inside sparse =
-    ap (dense_below c) (let e : end ≡ first + (end - first) = omega (arith, order) in e)
-    ∙ dense_below-none c first (end - first) (λ n low high. sparse-none c first end inside sparse n low (omega (arith, order, high)))
+  pub dense_below-sparse : first ≤ end → end ≤ length c.counts → are_sparse c first end ≡ true → dense_below c end ≡ dense_below c first
+  dense_below-sparse order inside sparse =
+      ap (dense_below c) (let e : end ≡ first + (end - first) = omega (arith, order) in e)
+      ∙ dense_below-none c first (end - first) (λ n low high. sparse-none inside sparse n low (omega (arith, order, high)))

@@ -79,7 +79,8 @@ others-found t b all j e =
 
 -- a store, whose rule copies first only what is pending
 pub used-stored : (r : StoreRule) (c : Cell) (b : ℕ) (t : Listing BttEntry) → AreUsed t → c.i ≡ index_for block_key new_entry b (btt_with r b t)
-    → c.i < length (btt_with r b t).entries → (r ≡ PendingFirst → c.entry.v0 ≢ c.entry.v1) → AreUsed (btt_after r (after_store r c) (btt_with r b t))
+    → c.i < length (btt_with r b t).entries → (r ≡ PendingFirst → c.entry.v0 ≢ c.entry.v1)
+    → AreUsed (btt_after r (after_store r c) (btt_with r b t))
 used-stored ToFrame c b t all at inside moves = all
 used-stored PendingFirst c b t all at inside moves =
     used-set t c.i (after_store PendingFirst c).entry inside (λ v0 v1. absurd (moves refl (v0 ∙ sym v1))) all

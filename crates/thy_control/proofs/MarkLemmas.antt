@@ -36,7 +36,8 @@ use Rattle.thy_control.proofs.StoreLemmas.{whole_page}
 use Rattle.thy_control.proofs.PageLemmas.{count-same}
 
 -- if some element passes, there is one
-pub counted-some : {X : Type 0} (test : X → Bool) (d : X) (xs : List X) → 0 < count_by test xs → (i : ℕ) × (i < length xs) × (test (get_or xs i d) ≡ true)
+pub counted-some : {X : Type 0} (test : X → Bool) (d : X) (xs : List X) → 0 < count_by test xs
+    → (i : ℕ) × (i < length xs) × (test (get_or xs i d) ≡ true)
 counted-some test d [] l = absurd (omega (arith, l))
 counted-some {X} test d (x ∷ xs) l = elim (cases_Bool (test x)) as (λ _. (i : ℕ) × (i < length (x ∷ xs)) × (test (get_or (x ∷ xs) i d) ≡ true)) [
   | inl t ↦ (0, omega arith, t)
@@ -46,7 +47,8 @@ counted-some {X} test d (x ∷ xs) l = elim (cases_Bool (test x)) as (λ _. (i :
 ]
 
 -- an entry more has no work
-pub overlaid-with : (r : StoreRule) (b : ℕ) (pages : Listing PttEntry) (t : Listing BttEntry) → overlaid pages (btt_with r b t) ≡ overlaid pages t
+pub overlaid-with : (r : StoreRule) (b : ℕ) (pages : Listing PttEntry) (t : Listing BttEntry)
+    → overlaid pages (btt_with r b t) ≡ overlaid pages t
 overlaid-with r b pages t =
     btt_with-by (λ u. overlaid pages u ≡ overlaid pages t) r b t refl (λ i h f.
     let free = free_at t i f in
@@ -63,7 +65,8 @@ module _ (t : State) (b : ℕ) (e : BttEntry) (of_block : e.block ≡ b) (listed
   test_of : (x : BttEntry) → x.block ≡ b → passes (is_overlaid t.ptt) (Some x) ≡ (is_buffered x.work && is_framed (cell_of t b).page)
   test_of x same = ap (λ (n : ℕ). is_buffered x.work && block_is_framed t.ptt n) same
 
-  overlaid-set : overlaid t.ptt (with_entry (cell_of t b).i (Some e) t.btt) + one_if (is_buffered (cell_of t b).entry.work && is_framed (cell_of t b).page)
+  overlaid-set : overlaid t.ptt (with_entry (cell_of t b).i (Some e) t.btt)
+      + one_if (is_buffered (cell_of t b).entry.work && is_framed (cell_of t b).page)
       ≡ overlaid t.ptt t.btt + one_if (is_buffered e.work && is_framed (cell_of t b).page)
   overlaid-set = omega (
     arith,
@@ -75,17 +78,20 @@ module _ (t : State) (b : ℕ) (e : BttEntry) (of_block : e.block ≡ b) (listed
   )
 
 -- a frame that was stored to is a frame still
-pub framed-cell : (b : ℕ) (t : State) (m : ℕ) → IsListed ToFrame b t → block_is_framed (ptt_after ToFrame (after_store ToFrame (cell_of t b)) t.ptt) m ≡ block_is_framed t.ptt m
-framed-cell b t m l = elim (cases_eq m b) as (λ _. block_is_framed (ptt_after ToFrame (after_store ToFrame (cell_of t b)) t.ptt) m ≡ block_is_framed t.ptt m) [
-  | inl e ↦
-      ap (λ (k : ℕ). block_is_framed (ptt_after ToFrame (after_store ToFrame (cell_of t b)) t.ptt) k) e
-      ∙ ap (λ (c : Cell). is_framed c.page) (cell-with_cell_same ToFrame b t l)
-      ∙ sym (ap (λ (k : ℕ). block_is_framed t.ptt k) e)
-  | inr o ↦ elim (cell-with_cell_other ToFrame b t m l o) as (λ _. block_is_framed (ptt_after ToFrame (after_store ToFrame (cell_of t b)) t.ptt) m ≡ block_is_framed t.ptt m) [
-    | inl same ↦ ap (λ (c : Cell). is_framed c.page) same
-    | inr dirty ↦ ap (λ (c : Cell). is_framed c.page) dirty.1
-  ]
-]
+pub framed-cell : (b : ℕ) (t : State) (m : ℕ) → IsListed ToFrame b t
+    → block_is_framed (ptt_after ToFrame (after_store ToFrame (cell_of t b)) t.ptt) m ≡ block_is_framed t.ptt m
+framed-cell b t m l = elim (cases_eq m b)
+    as (λ _. block_is_framed (ptt_after ToFrame (after_store ToFrame (cell_of t b)) t.ptt) m ≡ block_is_framed t.ptt m) [
+      | inl e ↦
+          ap (λ (k : ℕ). block_is_framed (ptt_after ToFrame (after_store ToFrame (cell_of t b)) t.ptt) k) e
+          ∙ ap (λ (c : Cell). is_framed c.page) (cell-with_cell_same ToFrame b t l)
+          ∙ sym (ap (λ (k : ℕ). block_is_framed t.ptt k) e)
+      | inr o ↦ elim (cell-with_cell_other ToFrame b t m l o)
+          as (λ _. block_is_framed (ptt_after ToFrame (after_store ToFrame (cell_of t b)) t.ptt) m ≡ block_is_framed t.ptt m) [
+            | inl same ↦ ap (λ (c : Cell). is_framed c.page) same
+            | inr dirty ↦ ap (λ (c : Cell). is_framed c.page) dirty.1
+          ]
+    ]
 
 -- by the rule: only a store into a buffer over a frame adds one
 one_more : (work : Working) (framed : Bool) (new old : ℕ) → new + one_if (is_buffered work && framed) ≡ old + one_if framed
@@ -95,7 +101,8 @@ one_more InBuffer false new old h = omega (arith, h)
 one_more work true new old h = omega (arith, h)
 one_more work false new old h = omega (arith, h)
 
-no_more : (work : Working) (framed : Bool) (new old : ℕ) → framed ≡ false → new + one_if (is_buffered work && framed) ≡ old + 0 → new ≡ old + 0
+no_more : (work : Working) (framed : Bool) (new old : ℕ) → framed ≡ false → new + one_if (is_buffered work && framed) ≡ old + 0
+    → new ≡ old + 0
 no_more InBuffer true new old f h = cc
 no_more work framed new old f h = omega (arith, h)
 
@@ -103,26 +110,31 @@ nvm_is_bare : (c : Cell) → store_rule c ≡ ToNvm → is_framed c.page ≡ fal
 nvm_is_bare c e = grind arith
 
 pub overlaid-cell : (r : StoreRule) (b : ℕ) (t : State) → store_rule (cell_of t b) ≡ r → IsListed r b t
-    → overlaid (ptt_after r (after_store r (cell_of t b)) t.ptt) (btt_after r (after_store r (cell_of t b)) t.btt) ≡ overlaid t.ptt t.btt + covers r (cell_of t b)
+    → overlaid (ptt_after r (after_store r (cell_of t b)) t.ptt) (btt_after r (after_store r (cell_of t b)) t.btt)
+    ≡ overlaid t.ptt t.btt + covers r (cell_of t b)
 overlaid-cell ToFrame b t is l =
     let now : Listing PttEntry = ptt_after ToFrame (after_store ToFrame (cell_of t b)) t.ptt in
     let same : overlaid now t.btt ≡ overlaid t.ptt t.btt
     = count-same (passes (is_overlaid now)) (passes (is_overlaid t.ptt)) (by_entry now (λ m. framed-cell b t m l)) t.btt.entries in
     omega (arith, same)
   where
-    by_entry : (now : Listing PttEntry) → ((m : ℕ) → block_is_framed now m ≡ block_is_framed t.ptt m) → (o : Option BttEntry) → passes (is_overlaid now) o ≡ passes (is_overlaid t.ptt) o
+    by_entry : (now : Listing PttEntry) → ((m : ℕ) → block_is_framed now m ≡ block_is_framed t.ptt m) → (o : Option BttEntry)
+        → passes (is_overlaid now) o ≡ passes (is_overlaid t.ptt) o
     by_entry now h None = refl
     by_entry now h (Some e) = ap (λ (f : Bool). is_buffered e.work && f) (h e.block)
 overlaid-cell ToBuffer b t is l =
-    one_more (cell_of t b).entry.work (is_framed (cell_of t b).page) _ _ (overlaid-set t b (after_store ToBuffer (cell_of t b)).entry (block-cell_of t b) (l.block (λ e. cc)))
+    one_more (cell_of t b).entry.work (is_framed (cell_of t b).page) _ _
+    (overlaid-set t b (after_store ToBuffer (cell_of t b)).entry (block-cell_of t b) (l.block (λ e. cc)))
 overlaid-cell ToNvm b t is l =
-    no_more (cell_of t b).entry.work (is_framed (cell_of t b).page) _ _ (nvm_is_bare (cell_of t b) is) (overlaid-set t b (after_store ToNvm (cell_of t b)).entry (block-cell_of t b) (l.block (λ e. cc)))
+    no_more (cell_of t b).entry.work (is_framed (cell_of t b).page) _ _ (nvm_is_bare (cell_of t b) is)
+    (overlaid-set t b (after_store ToNvm (cell_of t b)).entry (block-cell_of t b) (l.block (λ e. cc)))
 overlaid-cell PendingFirst b t is l =
     let set = overlaid-set t b (after_store PendingFirst (cell_of t b)).entry (block-cell_of t b) (l.block (λ e. cc)) in
     omega (arith, set)
 
 -- the counts of work are right after a store
-pub AreWorkCounts-after : (b : ℕ) (block : Block) (s : State) (n : Device) (m now : WorkCounts) → AreWorkCounts s.ptt s.btt m → (free_index s.btt ≡ None → ⊥)
+pub AreWorkCounts-after : (b : ℕ) (block : Block) (s : State) (n : Device) (m now : WorkCounts) → AreWorkCounts s.ptt s.btt m
+    → (free_index s.btt ≡ None → ⊥)
     → now.overlaid ≡ m.overlaid + covers (rule_for b s) (cell_before b s) → now.promoted ≡ m.promoted
     → AreWorkCounts (state_after b block s n).ptt (state_after b block s n).btt now
 unfolding state_after cell_before
@@ -138,18 +150,21 @@ AreWorkCounts-after b block s n m now h some over promoting =
 
 -- if none is counted, no block has work over its frame
 pub IsBareState-none : (s : State) → overlaid s.ptt s.btt ≡ 0 → IsBareState s
-IsBareState-none s none = record { bare = λ b l. record { no_overlay = λ framed work. by_place b framed work (index_of block_key b s.btt) refl } } where
-  by_place : (b : ℕ) → is_framed (cell_of s b).page ≡ true → (cell_of s b).entry.work ≡ InBuffer → (o : Option ℕ) → index_of block_key b s.btt ≡ o → ⊥
-  by_place b framed work None h =
-      let idle : NoWork ≡ InBuffer = sym (ap (λ (e : BttEntry). e.work) (entry_for-none block_key new_entry s.btt b h)) ∙ work in cc
-  by_place b framed work (Some i) h =
-      let f = found_entry block_key new_entry s.btt b i h in
-      let is : (cell_of s b).entry ≡ f.0 = entry_for-some block_key new_entry s.btt b i f.0 h f.1 in
-      let counted : passes (is_overlaid s.ptt) (Some f.0) ≡ false = sym (ap (passes (is_overlaid s.ptt)) f.1) ∙ none-counted (passes (is_overlaid s.ptt)) s.btt.entries i None none f.3 in
-      let lies : passes (is_overlaid s.ptt) (Some f.0) ≡ true
-      = ap (λ (w : Working). is_buffered w && block_is_framed s.ptt f.0.block) (ap (λ (e : BttEntry). e.work) (sym is) ∙ work)
-      ∙ ap (block_is_framed s.ptt) f.2 ∙ framed in
-      let both : true ≡ false = sym lies ∙ counted in cc
+IsBareState-none s none =
+    record { bare = λ b l. record { no_overlay = λ framed work. by_place b framed work (index_of block_key b s.btt) refl } } where
+      by_place : (b : ℕ) → is_framed (cell_of s b).page ≡ true → (cell_of s b).entry.work ≡ InBuffer → (o : Option ℕ)
+          → index_of block_key b s.btt ≡ o → ⊥
+      by_place b framed work None h =
+          let idle : NoWork ≡ InBuffer = sym (ap (λ (e : BttEntry). e.work) (entry_for-none block_key new_entry s.btt b h)) ∙ work in cc
+      by_place b framed work (Some i) h =
+          let f = found_entry block_key new_entry s.btt b i h in
+          let is : (cell_of s b).entry ≡ f.0 = entry_for-some block_key new_entry s.btt b i f.0 h f.1 in
+          let counted : passes (is_overlaid s.ptt) (Some f.0) ≡ false =
+          sym (ap (passes (is_overlaid s.ptt)) f.1) ∙ none-counted (passes (is_overlaid s.ptt)) s.btt.entries i None none f.3 in
+          let lies : passes (is_overlaid s.ptt) (Some f.0) ≡ true
+          = ap (λ (w : Working). is_buffered w && block_is_framed s.ptt f.0.block) (ap (λ (e : BttEntry). e.work) (sym is) ∙ work)
+          ∙ ap (block_is_framed s.ptt) f.2 ∙ framed in
+          let both : true ≡ false = sym lies ∙ counted in cc
 
 -- work that is held in a buffer
 pub buffered : (w : Working) → is_buffered w ≡ true → w ≡ InBuffer
@@ -198,7 +213,8 @@ IsPromoting-some s t some =
         let inside = t.ptt_once.inside j e.page listed in
         let b : ℕ = 64 * e.page in
         let of_page : page_of b ≡ e.page = omega arith in
-        let found : (cell_of s b).page ≡ e = entry_for-some page_key no_page s.ptt (page_of b) j e (ap (λ (n : ℕ). index_of page_key n s.ptt) of_page ∙ t.ptt_once.found j e.page listed) was in
+        let found : (cell_of s b).page ≡ e = entry_for-some page_key no_page s.ptt (page_of b) j e
+        (ap (λ (n : ℕ). index_of page_key n s.ptt) of_page ∙ t.ptt_once.found j e.page listed) was in
         record {
           block = b;
           inside = omega (arith, inside, t.ptt_numbers);

@@ -105,7 +105,8 @@ module _ (b : ℕ) (s : State) (framed : is_framed (cell_of s b).page ≡ true) 
     sound_b = subst (λ (u : Bool). IsSoundCell u (cell_of s b)) idle (t.cells b l)
 
     work_is : work (cell_of s b) ≡ buffer_at (seat_of (cell_of s b))
-    work_is = ap (λ (w : Working). worked_at w (is_framed (cell_of s b).page) (last (cell_of s b)) (cell_of s b).entry.v0 (seat_of (cell_of s b))) over
+    work_is = ap (λ (w : Working). worked_at w (is_framed (cell_of s b).page) (last (cell_of s b)) (cell_of s b).entry.v0
+        (seat_of (cell_of s b))) over
 
     -- the entries stay sound, whatever is read
     sound-merged : (k : ℕ) → k < memory_blocks s.p → IsSoundCell s.under_way (cell_of (merged_block b s) k)
@@ -118,7 +119,8 @@ module _ (b : ℕ) (s : State) (framed : is_framed (cell_of s b).page ≡ true) 
         (record { penult_same = refl; target_same = refl; last_same = refl; work_same = refl; frame_same = refl })).sound)
         (λ ne. t.cells k h)
 
-    pub AreSoundTables-merged : IsListing block_key (merged_block b s).btt → IsListing page_key (merged_block b s).ptt → AreSoundTables (merged_block b s)
+    pub AreSoundTables-merged : IsListing block_key (merged_block b s).btt → IsListing page_key (merged_block b s).ptt
+        → AreSoundTables (merged_block b s)
     unfolding merged_block dram_merged
     AreSoundTables-merged btt_once ptt_once =
         let there = found_entry page_key no_page s.ptt (page_of b) (cell_of s b).j listed_page-merge in
@@ -132,9 +134,11 @@ module _ (b : ℕ) (s : State) (framed : is_framed (cell_of s b).page ≡ true) 
           ptt_numbers = t.ptt_numbers;
           ptt_once = ptt_once;
           live_blocks = used-cleared s.btt (cell_of s b).i block_there.3 t.live_blocks;
-          live_pages = live-set s.ptt (cell_of s b).j (dirty (cell_of s b).page) there.3 (λ bare. let no : true ≡ false = sym framed ∙ bare in cc) t.live_pages;
+          live_pages = live-set s.ptt (cell_of s b).j (dirty (cell_of s b).page) there.3
+              (λ bare. let no : true ≡ false = sym framed ∙ bare in cc) t.live_pages;
           counts = t.counts;
-          dram_size = length-set s.dram.blocks (number_of s.p (frame_at (seat_of (cell_of s b)))) (block_at s.dram.blocks (number_of s.p (buffer_at (seat_of (cell_of s b))))) ∙ t.dram_size;
+          dram_size = length-set s.dram.blocks (number_of s.p (frame_at (seat_of (cell_of s b))))
+              (block_at s.dram.blocks (number_of s.p (buffer_at (seat_of (cell_of s b))))) ∙ t.dram_size;
           cells = sound-merged;
         }
 
@@ -149,7 +153,8 @@ module _ (b : ℕ) (s : State) (framed : is_framed (cell_of s b).page ≡ true) 
         let owns : owner s y ≡ Some b = (Owns-cell_of s b).of_page has_page in
         let old : Place → Block = reads s n in
         let new : Place → Block = reads_after s n b y v t sized there owns in
-        let put : Puts s.p y (old (work c)) old new = subst (λ (x : Place). Puts s.p y (old x) old new) (sym work_is) (puts s n b y v t sized there owns) in
+        let put : Puts s.p y (old (work c)) old new =
+        subst (λ (x : Place). Puts s.p y (old x) old new) (sym work_is) (puts s n b y v t sized there owns) in
         cell-merged t.btt_once (λ c d. Keeps s.under_way old new c d) k
         (subst (λ (u : Bool). Keeps u old new c (merged c)) (sym idle) (merge s.p c old new within sound_b framed over put))
         (λ ne q. others s.under_way (cell_of s k) old new (t.cells k h)
@@ -219,11 +224,13 @@ pub record MergesAll (s t : State) : Type 0 where
   pub left : overlays t + 1 ≡ overlays s
   pub each : (n : Device) → IsSized s n → KeepsEach s n t n
 
-pub MergesAll-next : MergeKeeps → DirtyKeeps → (s : State) → AreSoundTables s → s.under_way ≡ false → 0 < overlays s → MergesAll s (after_merge (next_merge s) s)
+pub MergesAll-next : MergeKeeps → DirtyKeeps → (s : State) → AreSoundTables s → s.under_way ≡ false → 0 < overlays s
+    → MergesAll s (after_merge (next_merge s) s)
 MergesAll-next merge others s t idle some = by_next (next_merge s) refl where
   by_next : (o : Option ℕ) → next_merge s ≡ o → MergesAll s (after_merge o s)
   by_next None h =
-      let none : overlays s ≡ 0 = none-passes (passes (is_overlaid s.ptt)) s.btt.entries None (λ k l. none-first_from (passes (is_overlaid s.ptt)) None s.btt.entries 0 h k (omega arith) l) in
+      let none : overlays s ≡ 0 = none-passes (passes (is_overlaid s.ptt)) s.btt.entries None
+      (λ k l. none-first_from (passes (is_overlaid s.ptt)) None s.btt.entries 0 h k (omega arith) l) in
       absurd (omega (arith, some, none))
   by_next (Some i) h =
       let o = IsOverlay-entry s t i h in
@@ -238,7 +245,8 @@ same_p-merge s None = refl
 same_p-merge s (Some i) = refl
 
 -- a merge moves no place of a checkpoint
-module _ (b : ℕ) (s : State) (framed : is_framed (cell_of s b).page ≡ true) (over : (cell_of s b).entry.work ≡ InBuffer) (t : AreSoundTables s) (l : b < memory_blocks s.p) (idle : s.under_way ≡ false) where
+module _ (b : ℕ) (s : State) (framed : is_framed (cell_of s b).page ≡ true) (over : (cell_of s b).entry.work ≡ InBuffer)
+    (t : AreSoundTables s) (l : b < memory_blocks s.p) (idle : s.under_way ≡ false) where
   -- the page of a block that is merged is not fresh
   fresh_not : (cell_of s b).page.fresh ≡ false
   fresh_not = false_from_ne_true (cell_of s b).page.fresh
@@ -273,15 +281,18 @@ module _ (b : ℕ) (s : State) (framed : is_framed (cell_of s b).page ≡ true) 
   unfolding merged_block
   stays_tables-merged =
       let c : Cell = cell_of s b in
-      let page = λ (f : PttEntry → Option ℕ) (same : f (dirty c.page) ≡ f c.page). map-page f s b (dirty c.page) (listed_page-merge b s framed over) same in
+      let page = λ (f : PttEntry → Option ℕ) (same : f (dirty c.page) ≡ f c.page). map-page f s b (dirty c.page)
+      (listed_page-merge b s framed over) same in
       record {
         same_p = refl;
         same_way = refl;
         tables0_same =
-            ap (λ (x : List (Option ℕ)). record (tables0 (merged_block b s)) { btt = x }) (map-cleared (λ e. entry_lists e.v0 e.block) (ap (λ (v : Version). entry_lists v c.entry.block) out0))
+            ap (λ (x : List (Option ℕ)). record (tables0 (merged_block b s)) { btt = x })
+            (map-cleared (λ e. entry_lists e.v0 e.block) (ap (λ (v : Version). entry_lists v c.entry.block) out0))
             ∙ ap (λ (x : List (Option ℕ)). record (tables0 s) { ptt = x }) (page (λ e. page_lists e.place e.page) refl);
         tables1_same =
-            ap (λ (x : List (Option ℕ)). record (tables1 (merged_block b s)) { btt = x }) (map-cleared (λ e. entry_lists e.v1 e.block) (ap (λ (v : Version). entry_lists v c.entry.block) out1))
+            ap (λ (x : List (Option ℕ)). record (tables1 (merged_block b s)) { btt = x })
+            (map-cleared (λ e. entry_lists e.v1 e.block) (ap (λ (v : Version). entry_lists v c.entry.block) out1))
             ∙ ap (λ (x : List (Option ℕ)). record (tables1 s) { ptt = x }) (page (λ e. page_lists e.target e.page) refl);
         lasts_same = refl;
         cells = λ k h. cell-merged b s framed over t.btt_once CellStays k

@@ -34,7 +34,8 @@ module _ {E : Type 0} (key : E → ℕ) (size numbers : ℕ) where
   pub index_of-empty : (n : ℕ) → index_of key n (empty_table size numbers) ≡ None
   index_of-empty n = position-none (lists key n) None (replicate size None) (λ k l. ap (lists key n) (entry_at-empty k))
 
-pub AreSoundTables-new : NewCellsAreSound → (p : Parameters) (dram : Contents) → IsInRange p → length dram.blocks ≡ dram_blocks p → AreSoundTables (new_state p dram)
+pub AreSoundTables-new : NewCellsAreSound → (p : Parameters) (dram : Contents) → IsInRange p → length dram.blocks ≡ dram_blocks p
+    → AreSoundTables (new_state p dram)
 AreSoundTables-new new_sound p dram range size = record {
   range = range;
   btt_size = grind (arith, common_steps);
@@ -49,11 +50,14 @@ AreSoundTables-new new_sound p dram range size = record {
   dram_size = size;
   cells = λ b l.
       let s = new_state p dram in
-      let entry : entry_for block_key new_entry b s.btt ≡ new_entry b = entry_for-none block_key new_entry s.btt b (index_of-empty block_key p.btt (memory_blocks p) b) in
-      let page : entry_for page_key no_page (page_of b) s.ptt ≡ no_page (page_of b) = entry_for-none page_key no_page s.ptt (page_of b) (index_of-empty page_key p.ptt p.pages (page_of b)) in
+      let entry : entry_for block_key new_entry b s.btt ≡ new_entry b =
+      entry_for-none block_key new_entry s.btt b (index_of-empty block_key p.btt (memory_blocks p) b) in
+      let page : entry_for page_key no_page (page_of b) s.ptt ≡ no_page (page_of b) =
+      entry_for-none page_key no_page s.ptt (page_of b) (index_of-empty page_key p.ptt p.pages (page_of b)) in
       let i : ℕ = index_for block_key new_entry b s.btt in
       let j : ℕ = index_for page_key no_page (page_of b) s.ptt in
       let one : cell_of s b ≡ record { i = i; entry = new_entry b; j = j; page = no_page (page_of b) }
-      = ap (λ (e : BttEntry). record (cell_of s b) { entry = e }) entry ∙ ap (λ (q : PttEntry). record (cell_of s b) { entry = new_entry b; page = q }) page in
+      = ap (λ (e : BttEntry). record (cell_of s b) { entry = e }) entry
+      ∙ ap (λ (q : PttEntry). record (cell_of s b) { entry = new_entry b; page = q }) page in
       subst (λ (c : Cell). IsSoundCell false c) (sym one) (new_sound i j b (page_of b) false).bare;
 }

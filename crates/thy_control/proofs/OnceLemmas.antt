@@ -12,18 +12,22 @@ use Rattle.thy_control.specs.Guarded.{IsFree}
 use Rattle.thy_control.specs.Once.{Spot, queued, IsOneOfNvm, OneActionIsOneOfNvm}
 use Rattle.thy_control.specs.State.{State}
 
-abbrev spot : (s : State) (place : Place) (block : Block) → IsPlace s.p place → in_dram place ≡ false → IsFree s (number_of s.p place) → Spot s
-spot s place block there side free = record { at = number_of s.p place; block = block; inside = within_image s.p place there side; free = free }
+module _ (s : State) (place : Place) (block : Block) where
+  abbrev spot : IsPlace s.p place → in_dram place ≡ false → IsFree s (number_of s.p place) → Spot s
+  spot there side free = record { at = number_of s.p place; block = block; inside = within_image s.p place there side; free = free }
 
--- a write, by the side on which its place lies
-one_write : (s : State) (place : Place) (block : Block) (side : Bool) (d : Devices) → in_dram place ≡ side → IsPlace s.p place → (side ≡ false → IsFree s (number_of s.p place))
-    → IsOneOfNvm s d (if side then record d { dram = written d.dram (number_of s.p place) block } else record d { nvm = written_to d.nvm (number_of s.p place) block })
-one_write s place block true d e there free = record { nvm = inl (inl refl); up = λ up. inl refl; queue = λ up. omega arith }
-one_write s place block false d e there free = record {
-  nvm = inl (inr (spot s place block there e (free refl), refl));
-  up = λ up. inr (spot s place block there e (free refl), refl);
-  queue = λ up. omega (arith, queue-written_to d.nvm (number_of s.p place) block);
-}
+  -- a write, by the side on which its place lies
+  one_write : (side : Bool) (d : Devices) → in_dram place ≡ side → IsPlace s.p place → (side ≡ false → IsFree s (number_of s.p place))
+      → IsOneOfNvm s d (if side then record d { dram = written d.dram (number_of s.p place) block } else record d {
+        nvm =
+            written_to d.nvm (number_of s.p place) block;
+      })
+  one_write true d e there free = record { nvm = inl (inl refl); up = λ up. inl refl; queue = λ up. omega arith }
+  one_write false d e there free = record {
+    nvm = inl (inr (spot there e (free refl), refl));
+    up = λ up. inr (spot there e (free refl), refl);
+    queue = λ up. omega (arith, queue-written_to d.nvm (number_of s.p place) block);
+  }
 
 not_up : {t : Bool} {P : Type 0} → t ≡ true → t ≡ false → P
 not_up e f = let no : true ≡ false = sym e ∙ f in cc

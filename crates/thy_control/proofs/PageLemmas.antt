@@ -26,7 +26,8 @@ count-same p q same (x ∷ xs) =
     omega (arith, sum_by-cons (λ y. one_if (p y)) x xs, sum_by-cons (λ y. one_if (q y)) x xs, ap one_if (same x), count-same p q same xs)
 
 -- one page's entry was changed: the blocks of that page
-module _ (f : PttEntry → PttEntry) (of_page : (e : PttEntry) → (f e).page ≡ e.page) (t : State) (b : ℕ) (listed : index_of page_key (page_of b) t.ptt ≡ Some (cell_of t b).j) where
+module _ (f : PttEntry → PttEntry) (of_page : (e : PttEntry) → (f e).page ≡ e.page) (t : State) (b : ℕ)
+    (listed : index_of page_key (page_of b) t.ptt ≡ Some (cell_of t b).j) where
   abbrev pub page_set : State
   page_set = record t { ptt = with_entry (cell_of t b).j (Some (f (cell_of t b).page)) t.ptt }
 
@@ -69,7 +70,8 @@ module _ (t : State) (once : IsListing block_key t.btt) (b : ℕ) (listed : inde
   there = found_entry block_key new_entry t.btt b (cell_of t b).i listed
 
   place-here : index_of block_key b block_cleared.btt ≡ None
-  place-here = ap (λ (n : ℕ). index_of block_key n block_cleared.btt) (sym there.2) ∙ index_of-cleared block_key t.btt once (cell_of t b).i there.0 there.1
+  place-here = ap (λ (n : ℕ). index_of block_key n block_cleared.btt) (sym there.2)
+      ∙ index_of-cleared block_key t.btt once (cell_of t b).i there.0 there.1
 
   place-other : (k : ℕ) → k ≢ b → index_of block_key k block_cleared.btt ≡ index_of block_key k t.btt
   place-other k other = index_of-cleared_other block_key t.btt once (cell_of t b).i there.0 k there.1 (λ e. other (e ∙ there.2))

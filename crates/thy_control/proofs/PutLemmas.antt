@@ -143,32 +143,38 @@ framed-after : (r : StoreRule) (c : Cell) → is_framed (after_store r c).page �
 framed-after r c = grind arith
 
 -- the state after a store has sound tables
-pub AreSoundTables-after : (b : ℕ) (block : Block) (s : State) (n : Device) → AreSoundTables s → IsSized s n → IsWholeState s → b < memory_blocks s.p → 0 < free_count s.btt
-    → IsListing block_key (state_after b block s n).btt → IsListing page_key (state_after b block s n).ptt → AreSoundTables (state_after b block s n)
+pub AreSoundTables-after : (b : ℕ) (block : Block) (s : State) (n : Device) → AreSoundTables s → IsSized s n → IsWholeState s
+    → b < memory_blocks s.p → 0 < free_count s.btt
+    → IsListing block_key (state_after b block s n).btt → IsListing page_key (state_after b block s n).ptt
+    → AreSoundTables (state_after b block s n)
 unfolding state_after cell_before devices_after
 AreSoundTables-after b block s n t sized whole l room btt_once ptt_once =
     let rule : StoreRule = rule_for b s in
     let u : State = with_block rule b s in
     let same : store_rule (cell_of u b) ≡ rule = rule-with_block rule b s in
-    let listed : IsListed (store_rule (cell_of u b)) b u = subst (λ (r : StoreRule). IsListed r b u) (sym same) (IsListed-with_block rule b s refl (has_free s.btt room)) in
+    let listed : IsListed (store_rule (cell_of u b)) b u =
+    subst (λ (r : StoreRule). IsListed r b u) (sym same) (IsListed-with_block rule b s refl (has_free s.btt room)) in
     let whole_b : IsWhole (cell_of u b).page = whole.whole b l in
     let sound = λ (m : ℕ) (k : m < memory_blocks s.p). sound-with_block rule b s m (t.cells m k) in
     let after : Cell = after_store rule (cell_of u b) in
     let place : Place = store_place rule (cell_of u b) in
     let put : Block = put_by rule block (reads s n) (cell_of u b) in
     let sizes = AreSized-written_at s.p (devices_of n s.dram) place put (record { nvm = sized.nvm; dram = t.dram_size }) in
-    let entry_there : (cell_of u b).i < length (btt_with rule b s.btt).entries = omega (arith, (IsWithin-before s b t l).entry, t.btt_size, length-btt_with rule b s.btt) in
+    let entry_there : (cell_of u b).i < length (btt_with rule b s.btt).entries =
+    omega (arith, (IsWithin-before s b t l).entry, t.btt_size, length-btt_with rule b s.btt) in
     let page_there : after.j < length s.ptt.entries = omega (arith, (IsWithin-cell_of s b t l).page, t.ptt_size, after-j rule (cell_of u b)) in
     record {
       range = t.range;
       btt_size = length-btt_after rule after (btt_with rule b s.btt) ∙ length-btt_with rule b s.btt ∙ t.btt_size;
       btt_numbers = numbers-btt_after rule after (btt_with rule b s.btt) ∙ numbers-btt_with rule b s.btt ∙ t.btt_numbers;
       btt_once = btt_once;
-      live_blocks = used-stored rule (cell_of u b) b s.btt t.live_blocks refl entry_there (λ first. (sound b l).pending_moves (λ e. let no : FromBuffer ≡ Settled = sym (first_is_pending (cell_of u b) (same ∙ first)) ∙ e in cc));
+      live_blocks = used-stored rule (cell_of u b) b s.btt t.live_blocks refl entry_there
+          (λ first. (sound b l).pending_moves (λ e. let no : FromBuffer ≡ Settled = sym (first_is_pending (cell_of u b) (same ∙ first)) ∙ e in cc));
       ptt_size = length-ptt_after rule after s.ptt ∙ t.ptt_size;
       ptt_numbers = numbers-ptt_after rule after s.ptt ∙ t.ptt_numbers;
       ptt_once = ptt_once;
-      live_pages = pages_after rule after s.ptt (λ frame. framed-after rule (cell_of u b) ∙ frame_is_framed (cell_of u b) (same ∙ frame)) page_there t.live_pages;
+      live_pages = pages_after rule after s.ptt
+          (λ frame. framed-after rule (cell_of u b) ∙ frame_is_framed (cell_of u b) (same ∙ frame)) page_there t.live_pages;
       counts = counts-counts_after rule (page_of b) s.p s.counts t.counts;
       dram_size = sizes.dram;
       cells = λ m k. subst (λ (r : StoreRule). IsSoundCell s.under_way (cell_of (with_cell r (after_store r (cell_of u b)) u) m)) same
@@ -285,7 +291,8 @@ pub may_set_block : (s : State) (b : ℕ) {after : Cell} {btt : Listing BttEntry
     → lists block_key after.entry.block (entry_at btt after.i) ≡ true
 unfolding cell_before
 may_set_block s b {after} {btt} room e t not_frame =
-    let block : after.entry.block ≡ b = ap (λ (c : Cell). c.entry.block) e ∙ after-block (rule_for b s) (cell_before b s) ∙ block-cell_of (with_block (rule_for b s) b s) b in
+    let block : after.entry.block ≡ b = ap (λ (c : Cell). c.entry.block) e ∙ after-block (rule_for b s) (cell_before b s)
+    ∙ block-cell_of (with_block (rule_for b s) b s) b in
     let place : after.i ≡ (cell_before b s).i = ap (λ (c : Cell). c.i) e ∙ after-i (rule_for b s) (cell_before b s) in
     ap (λ (n : ℕ). lists block_key n (entry_at btt after.i)) block ∙ ap (λ (i : ℕ). lists block_key b (entry_at btt i)) place
     ∙ ap (λ (u : Listing BttEntry). lists block_key b (entry_at u (cell_before b s).i)) t ∙ block_listed s b room not_frame
@@ -296,7 +303,8 @@ pub may_set_page : (s : State) (b : ℕ) {after : Cell} {ptt : Listing PttEntry}
     → lists page_key after.page.page (entry_at ptt after.j) ≡ true
 unfolding cell_before
 may_set_page s b {after} {ptt} room e t frame =
-    let page : after.page.page ≡ page_of b = ap (λ (c : Cell). c.page.page) e ∙ after-page (rule_for b s) (cell_before b s) ∙ page-cell_of (with_block (rule_for b s) b s) b in
+    let page : after.page.page ≡ page_of b =
+    ap (λ (c : Cell). c.page.page) e ∙ after-page (rule_for b s) (cell_before b s) ∙ page-cell_of (with_block (rule_for b s) b s) b in
     let place : after.j ≡ (cell_before b s).j = ap (λ (c : Cell). c.j) e ∙ after-j (rule_for b s) (cell_before b s) in
     ap (λ (n : ℕ). lists page_key n (entry_at ptt after.j)) page ∙ ap (λ (j : ℕ). lists page_key (page_of b) (entry_at ptt j)) place
     ∙ ap (λ (u : Listing PttEntry). lists page_key (page_of b) (entry_at u (cell_before b s).j)) t ∙ page_listed s b room frame

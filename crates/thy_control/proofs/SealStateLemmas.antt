@@ -75,7 +75,8 @@ sealed_as_counted-page c e f h = elim (page_left (is_low c e.page) (is_framed e)
   | inr s ↦ ap page_key s
 ]
 
-pub live_left : (c : Tally) (e f : PttEntry) → sealed_as_counted c e ≡ Some f → (is_framed e ≡ false → e.fresh ≡ true) → is_framed f ≡ false → f.fresh ≡ true
+pub live_left : (c : Tally) (e f : PttEntry) → sealed_as_counted c e ≡ Some f → (is_framed e ≡ false → e.fresh ≡ true) → is_framed f ≡ false
+    → f.fresh ≡ true
 live_left c e f h live bare = elim (page_left (is_low c e.page) (is_framed e) e f refl h) as (λ _. f.fresh ≡ true) [
   | inl l ↦ elim (cases_Bool (is_framed e)) as (λ _. f.fresh ≡ true) [
     | inl framed ↦ let now : is_framed f ≡ true = l.framed framed in cc
@@ -127,7 +128,8 @@ module _ (s : State) (t : AreSoundTables s) where
   or_listed b = elim ((lists_sealed s t).each (page_of b)) as (λ _. OrListed (page_of b) (cell_of (mapped_state s) b) (cell_of (sealed_state s) b)) [
     | inl x ↦ inl (same_cell (cell_of (sealed_state s) b) (cell_of (mapped_state s) b) refl refl (ap (λ o. unwrap_or o 0) x.place) x.entry)
     | inr x ↦
-        let none : (cell_of (mapped_state s) b).page ≡ no_page (page_of b) = entry_for-none page_key no_page (mapped_state s).ptt (page_of b) x.unlisted in
+        let none : (cell_of (mapped_state s) b).page ≡ no_page (page_of b) =
+        entry_for-none page_key no_page (mapped_state s).ptt (page_of b) x.unlisted in
         inr (
           none,
           (
@@ -146,14 +148,17 @@ module _ (s : State) (t : AreSoundTables s) (idle : s.under_way ≡ false) (whol
   sound : (b : ℕ) → b < memory_blocks s.p → IsSoundCell false (cell_of s b)
   sound b l = subst (λ (u : Bool). IsSoundCell u (cell_of s b)) idle (t.cells b l)
 
-  listed : SealTakesWork → ListingKeeps → (b j : ℕ) → b < memory_blocks s.p → IsSoundCell true (sealed_cell s b) → (sealed_cell s b).page ≡ no_page (page_of b)
+  listed : SealTakesWork → ListingKeeps → (b j : ℕ) → b < memory_blocks s.p → IsSoundCell true (sealed_cell s b)
+      → (sealed_cell s b).page ≡ no_page (page_of b)
       → ListsPage true (sealed_cell s b) (with_listed j (sealed_cell s b))
   listed takes keeps b j l now none =
       keeps true j (page_of b) (sealed_cell s b) now none (takes (is_few s) (is_low s.counts (page_of b)) (cell_of s b) (sound b l) (bare.bare b l))
 
-  sound_sealed : SealKeepsSound → SealTakesWork → ListingKeeps → (b : ℕ) → b < memory_blocks s.p → IsSoundCell true (cell_of (sealed_state s) b)
+  sound_sealed : SealKeepsSound → SealTakesWork → ListingKeeps → (b : ℕ) → b < memory_blocks s.p
+      → IsSoundCell true (cell_of (sealed_state s) b)
   sound_sealed law takes keeps b l =
-      let now : IsSoundCell true (sealed_cell s b) = law (is_few s) (is_low s.counts (page_of b)) (cell_of s b) (sound b l) (whole.whole b l) (bare.bare b l) in
+      let now : IsSoundCell true (sealed_cell s b) =
+      law (is_few s) (is_low s.counts (page_of b)) (cell_of s b) (sound b l) (whole.whole b l) (bare.bare b l) in
       elim (cell-sealed s t b) as (λ _. IsSoundCell true (cell_of (sealed_state s) b)) [
         | inl e ↦ subst (IsSoundCell true) (sym e) now
         | inr x ↦ subst (IsSoundCell true) (sym x.1.1) (listed takes keeps b x.1.0 l now x.0).sound
@@ -189,14 +194,16 @@ module _ (s : State) (t : AreSoundTables s) (idle : s.under_way ≡ false) (whol
         cells = sound_sealed law takes keeps;
       }
 
-  moves_sealed : SealKeepsSound → SealTakesWork → ListingKeeps → SealMoves → (reads : Place → Block) (b : ℕ) → b < memory_blocks s.p → Holds reads (cell_of s b)
+  moves_sealed : SealKeepsSound → SealTakesWork → ListingKeeps → SealMoves → (reads : Place → Block) (b : ℕ) → b < memory_blocks s.p
+      → Holds reads (cell_of s b)
       → Moves reads (cell_of s b) (cell_of (sealed_state s) b) (reads (penult (cell_of s b))) (reads (work (cell_of s b)))
   moves_sealed law takes keeps moves reads b l holds =
       let few : Bool = is_few s in
       let low : Bool = is_low s.counts (page_of b) in
       let c : Cell = cell_of s b in
       let now : IsSoundCell true (sealed_cell s b) = law few low c (sound b l) (whole.whole b l) (bare.bare b l) in
-      let first : Moves reads c (sealed_cell s b) (reads (penult c)) (reads (work c)) = moves few low c reads (sound b l) (whole.whole b l) (bare.bare b l) holds in
+      let first : Moves reads c (sealed_cell s b) (reads (penult c)) (reads (work c)) =
+      moves few low c reads (sound b l) (whole.whole b l) (bare.bare b l) holds in
       elim (cell-sealed s t b) as (λ _. Moves reads c (cell_of (sealed_state s) b) (reads (penult c)) (reads (work c))) [
         | inl e ↦ subst (λ (d : Cell). Moves reads c d (reads (penult c)) (reads (work c))) (sym e) first
         | inr x ↦
@@ -213,7 +220,8 @@ module _ (s : State) (t : AreSoundTables s) (idle : s.under_way ≡ false) (whol
   pub Seals-sealed : SealKeepsSound → SealTakesWork → ListingKeeps → SealMoves → (n : Device) → HoldAll s n → Seals s (sealed_state s) n
   unfolding sealed_state
   Seals-sealed law takes keeps moves n holds =
-      let each : (b : ℕ) → b < memory_blocks s.p → Moves (reads s n) (cell_of s b) (cell_of (sealed_state s) b) (reads s n (penult (cell_of s b))) (reads s n (work (cell_of s b)))
+      let each : (b : ℕ) → b < memory_blocks s.p
+      → Moves (reads s n) (cell_of s b) (cell_of (sealed_state s) b) (reads s n (penult (cell_of s b))) (reads s n (work (cell_of s b)))
       = λ b l. moves_sealed law takes keeps moves (reads s n) b l (holds b l) in
       record {
         penult_same = λ b l. (each b l).penult_is;
@@ -233,14 +241,16 @@ sealed_parts e of_few of_btt of_ptt of_counts = cc
 -- ---- the tables of both checkpoints after a commit and after a seal
 
 -- what is listed after a rule, if what is listed of each live entry is known
-module _ {E : Type 0} (rule : E → Option E) (f h : E → Option ℕ) (t : Listing E) (each : (i : ℕ) (e : E) → entry_at t i ≡ Some e → option_and_then f (rule e) ≡ h e) where
+module _ {E : Type 0} (rule : E → Option E) (f h : E → Option ℕ) (t : Listing E)
+    (each : (i : ℕ) (e : E) → entry_at t i ≡ Some e → option_and_then f (rule e) ≡ h e) where
   by_entry : (i : ℕ) (o : Option E) → entry_at t i ≡ o → option_and_then f (option_and_then rule o) ≡ option_and_then h o
   by_entry i None was = refl
   by_entry i (Some e) was = each i e was
 
   pub listed-mapped : map (option_and_then f) (mapped rule t).entries ≡ map (option_and_then h) t.entries
   listed-mapped = ext_get_or None (map (option_and_then f) (mapped rule t).entries) (map (option_and_then h) t.entries)
-      (length-map (mapped rule t).entries (option_and_then f) ∙ length-map t.entries (option_and_then rule) ∙ sym (length-map t.entries (option_and_then h)))
+      (length-map (mapped rule t).entries (option_and_then f) ∙ length-map t.entries (option_and_then rule)
+      ∙ sym (length-map t.entries (option_and_then h)))
       (λ i l.
       get_or-map (option_and_then f) (mapped rule t).entries i None
       ∙ ap (option_and_then f) (entry_at-mapped rule t i)
@@ -248,11 +258,13 @@ module _ {E : Type 0} (rule : E → Option E) (f h : E → Option ℕ) (t : List
       ∙ sym (get_or-map (option_and_then h) t.entries i None))
 
 -- what an entry of the block table lists after a commit
-block_committed : (v : Version) (w : Working) (e : BttEntry) → option_and_then (λ (x : BttEntry). entry_lists x.v0 x.block) (committed_by v w e) ≡ entry_lists v e.block
+block_committed : (v : Version) (w : Working) (e : BttEntry)
+    → option_and_then (λ (x : BttEntry). entry_lists x.v0 x.block) (committed_by v w e) ≡ entry_lists v e.block
 block_committed Out NoWork e = refl
 block_committed v w e = refl
 
-block_same : (v : Version) (w : Working) (e : BttEntry) → v ≡ e.v1 → option_and_then (λ (x : BttEntry). entry_lists x.v1 x.block) (committed_by v w e) ≡ entry_lists e.v1 e.block
+block_same : (v : Version) (w : Working) (e : BttEntry) → v ≡ e.v1
+    → option_and_then (λ (x : BttEntry). entry_lists x.v1 x.block) (committed_by v w e) ≡ entry_lists e.v1 e.block
 block_same Out NoWork e is = ap (λ (v : Version). entry_lists v e.block) is
 block_same v w e is = refl
 
@@ -274,7 +286,8 @@ leaves_home s t j e was leaves =
     let inside = t.ptt_once.inside j e.page listed in
     let b : ℕ = 64 * e.page in
     let of_page : page_of b ≡ e.page = omega arith in
-    let found : (cell_of s b).page ≡ e = entry_for-some page_key no_page s.ptt (page_of b) j e (ap (λ (n : ℕ). index_of page_key n s.ptt) of_page ∙ t.ptt_once.found j e.page listed) was in
+    let found : (cell_of s b).page ≡ e = entry_for-some page_key no_page s.ptt (page_of b) j e
+    (ap (λ (n : ℕ). index_of page_key n s.ptt) of_page ∙ t.ptt_once.found j e.page listed) was in
     let sound = t.cells b (omega (arith, inside, t.ptt_numbers)) in
     ap (λ (x : PttEntry). x.target) (sym found) ∙ sound.of_page.leaving_home (ap (λ (x : PttEntry). x.leaving) found ∙ leaves)
 
@@ -283,28 +296,35 @@ unfolding committed_state
 CommitsTables-committed s t = record {
   tables0_next =
       ap (λ (xs : List (Option ℕ)). record (tables0 (committed_state s)) { btt = xs })
-      (listed-mapped committed_entry (λ e. entry_lists e.v0 e.block) (λ e. entry_lists e.v1 e.block) s.btt (λ i e was. block_committed e.v1 e.work e))
+      (listed-mapped committed_entry (λ e. entry_lists e.v0 e.block) (λ e. entry_lists e.v1 e.block) s.btt
+      (λ i e was. block_committed e.v1 e.work e))
       ∙ ap (λ (xs : List (Option ℕ)). record (tables1 s) { ptt = xs })
-      (listed-mapped committed_page (λ e. page_lists e.place e.page) (λ e. page_lists e.target e.page) s.ptt (λ j e was. page_committed e.leaving e (leaves_home s t j e was)));
+      (listed-mapped committed_page (λ e. page_lists e.place e.page) (λ e. page_lists e.target e.page) s.ptt
+      (λ j e was. page_committed e.leaving e (leaves_home s t j e was)));
   tables1_same =
       ap (λ (xs : List (Option ℕ)). record (tables1 (committed_state s)) { btt = xs })
-      (listed-mapped committed_entry (λ e. entry_lists e.v1 e.block) (λ e. entry_lists e.v1 e.block) s.btt (λ i e was. block_same e.v1 e.work e refl))
+      (listed-mapped committed_entry (λ e. entry_lists e.v1 e.block) (λ e. entry_lists e.v1 e.block) s.btt
+      (λ i e was. block_same e.v1 e.work e refl))
       ∙ ap (λ (xs : List (Option ℕ)). record (tables1 s) { ptt = xs })
-      (listed-mapped committed_page (λ e. page_lists e.target e.page) (λ e. page_lists e.target e.page) s.ptt (λ j e was. page_same e.leaving e (leaves_home s t j e was)));
+      (listed-mapped committed_page (λ e. page_lists e.target e.page) (λ e. page_lists e.target e.page) s.ptt
+      (λ j e was. page_same e.leaving e (leaves_home s t j e was)));
 }
 
 -- a seal moves nothing that the committed checkpoint lists
-block_sealed : (framed : Bool) (w : Working) (few : Bool) (v : Version) (e : BttEntry) → entry_lists (sealed_by framed w few v e).v0 (sealed_by framed w few v e).block ≡ entry_lists e.v0 e.block
+block_sealed : (framed : Bool) (w : Working) (few : Bool) (v : Version) (e : BttEntry)
+    → entry_lists (sealed_by framed w few v e).v0 (sealed_by framed w few v e).block ≡ entry_lists e.v0 e.block
 block_sealed false NoWork true Alt e = refl
 block_sealed framed w few v e = refl
 
 abbrev page0 : PttEntry → Option ℕ
 page0 e = page_lists e.place e.page
 
-frame_sealed : (low written : Bool) (site : Site) (e : PttEntry) → site ≡ e.place → option_and_then page0 (page_sealed_by low written site e) ≡ page0 e
+frame_sealed : (low written : Bool) (site : Site) (e : PttEntry) → site ≡ e.place
+    → option_and_then page0 (page_sealed_by low written site e) ≡ page0 e
 frame_sealed low written site e is = grind (arith, is)
 
-page_sealed : (framed : Bool) (o : Option PttEntry) (e : PttEntry) → option_and_then page0 o ≡ page0 e → option_and_then page0 (if framed then o else Some e) ≡ page0 e
+page_sealed : (framed : Bool) (o : Option PttEntry) (e : PttEntry) → option_and_then page0 o ≡ page0 e
+    → option_and_then page0 (if framed then o else Some e) ≡ page0 e
 page_sealed true o e h = h
 page_sealed false o e h = refl
 
@@ -326,7 +346,8 @@ unfolding sealed_state
 HasNoWork-sealed takes s t idle bare = record {
   no_work = λ i e was. by_entry i e (entry_at s.btt i) refl (sym (entry_at-mapped (sealed_in (is_few s) s.ptt) s.btt i) ∙ was);
 } where
-  by_entry : (i : ℕ) (f : BttEntry) (o : Option BttEntry) → entry_at s.btt i ≡ o → option_and_then (sealed_in (is_few s) s.ptt) o ≡ Some f → f.work ≡ NoWork
+  by_entry : (i : ℕ) (f : BttEntry) (o : Option BttEntry) → entry_at s.btt i ≡ o → option_and_then (sealed_in (is_few s) s.ptt) o ≡ Some f
+      → f.work ≡ NoWork
   by_entry i f None was h = cc
   by_entry i f (Some e) was h =
       let listed = lists-key block_key e.block (entry_at s.btt i) e was refl in
@@ -351,12 +372,14 @@ unfolding committed_state
 HasNoWork-committed s none = record {
   no_work = λ i e was. by_entry i e (entry_at s.btt i) refl (sym (entry_at-mapped committed_entry s.btt i) ∙ was);
 } where
-  by_entry : (i : ℕ) (f : BttEntry) (o : Option BttEntry) → entry_at s.btt i ≡ o → option_and_then committed_entry o ≡ Some f → f.work ≡ NoWork
+  by_entry : (i : ℕ) (f : BttEntry) (o : Option BttEntry) → entry_at s.btt i ≡ o → option_and_then committed_entry o ≡ Some f
+      → f.work ≡ NoWork
   by_entry i f None was h = cc
   by_entry i f (Some e) was h = committed-work e.v1 e.work e f h ∙ none.no_work i e was
 
 -- a rule that clears no entry leaves the number of free entries
-free-kept : {E : Type 0} (rule : E → E) (es : List (Option E)) → sum_by free_one (map (option_and_then (λ e. Some (rule e))) es) ≡ sum_by free_one es
+free-kept : {E : Type 0} (rule : E → E) (es : List (Option E))
+    → sum_by free_one (map (option_and_then (λ e. Some (rule e))) es) ≡ sum_by free_one es
 free-kept rule [] = refl
 free-kept rule (None ∷ es) =
     omega (arith, free-kept rule es, sum_by-cons free_one None es, sum_by-cons free_one None (map (option_and_then (λ e. Some (rule e))) es))

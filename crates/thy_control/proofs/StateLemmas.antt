@@ -67,7 +67,8 @@ pub IsPlace-last : (p : Parameters) (c : Cell) → IsWithin p (seat_of c) → Is
 IsPlace-last p c w =
     IsPlace-if p c.page.busy _ _ (IsPlace-frame p (seat_of c) w) (IsPlace-pending p c.entry.pend c.entry.v1 c.page.target (seat_of c) w)
 
-IsPlace-worked : (p : Parameters) (k : Working) (framed : Bool) (place : Place) (v : Version) (x : Seat) → IsWithin p x → IsPlace p place → IsPlace p (worked_at k framed place v x)
+IsPlace-worked : (p : Parameters) (k : Working) (framed : Bool) (place : Place) (v : Version) (x : Seat) → IsWithin p x → IsPlace p place
+    → IsPlace p (worked_at k framed place v x)
 IsPlace-worked p NoWork framed place v x w h = IsPlace-if p framed _ _ (IsPlace-frame p x w) h
 IsPlace-worked p InNvm framed place v x w h = IsPlace-placed p (other_version v) AtHome x w
 IsPlace-worked p InBuffer framed place v x w h = w.entry
@@ -119,47 +120,45 @@ btt_with-by P ToFrame b t same put = same
 btt_with-by P PendingFirst b t same put = same
 btt_with-by P r b t same put = by_entry_for block_key new_entry P t b same put
 
--- an entry for a block leaves every block its entries
-pub entry-with_block : (rule : StoreRule) (b : ℕ) (s : State) (m : ℕ)
-    → entry_for block_key new_entry m (btt_with rule b s.btt) ≡ entry_for block_key new_entry m s.btt
-entry-with_block rule b s m =
-    btt_with-by (λ t. entry_for block_key new_entry m t ≡ entry_for block_key new_entry m s.btt)
-    rule b s.btt refl
-    (λ i h f. entry_for-new block_key new_entry (λ n. refl) s.btt b i h f m)
+module _ (rule : StoreRule) (b : ℕ) (s : State) where
+  -- an entry for a block leaves every block its entries
+  pub entry-with_block : (m : ℕ) → entry_for block_key new_entry m (btt_with rule b s.btt) ≡ entry_for block_key new_entry m s.btt
+  entry-with_block m =
+      btt_with-by (λ t. entry_for block_key new_entry m t ≡ entry_for block_key new_entry m s.btt)
+      rule b s.btt refl
+      (λ i h f. entry_for-new block_key new_entry (λ n. refl) s.btt b i h f m)
 
-place-with_block : (rule : StoreRule) (b : ℕ) (s : State) (m : ℕ) → m ≢ b
-    → index_of block_key m (btt_with rule b s.btt) ≡ index_of block_key m s.btt
-place-with_block rule b s m other =
-    btt_with-by (λ t. index_of block_key m t ≡ index_of block_key m s.btt) rule b s.btt refl
-    (λ i h f. index_of-new_other block_key new_entry (λ n. refl) s.btt b i h f m other)
+  place-with_block : (m : ℕ) → m ≢ b → index_of block_key m (btt_with rule b s.btt) ≡ index_of block_key m s.btt
+  place-with_block m other =
+      btt_with-by (λ t. index_of block_key m t ≡ index_of block_key m s.btt) rule b s.btt refl
+      (λ i h f. index_of-new_other block_key new_entry (λ n. refl) s.btt b i h f m other)
 
--- an entry for a block leaves every other block its cell
-pub cell-with_block_other : (rule : StoreRule) (b : ℕ) (s : State) (m : ℕ) → m ≢ b → cell_of (with_block rule b s) m ≡ cell_of s m
-cell-with_block_other rule b s m other =
-    ap (λ (e : BttEntry). record (cell_of (with_block rule b s) m) { entry = e }) (entry-with_block rule b s m)
-    ∙ ap (λ (o : Option ℕ). record (cell_of s m) { i = unwrap_or o 0 }) (place-with_block rule b s m other)
+  -- an entry for a block leaves every other block its cell
+  pub cell-with_block_other : (m : ℕ) → m ≢ b → cell_of (with_block rule b s) m ≡ cell_of s m
+  cell-with_block_other m other =
+      ap (λ (e : BttEntry). record (cell_of (with_block rule b s) m) { entry = e }) (entry-with_block m)
+      ∙ ap (λ (o : Option ℕ). record (cell_of s m) { i = unwrap_or o 0 }) (place-with_block m other)
 
--- an entry for a block leaves the block its cell but for the place
-pub cell-with_block_same : (rule : StoreRule) (b : ℕ) (s : State)
-    → cell_of (with_block rule b s) b ≡ record (cell_of s b) { i = index_for block_key new_entry b (btt_with rule b s.btt) }
-cell-with_block_same rule b s =
-    ap (λ (e : BttEntry). record (cell_of (with_block rule b s) b) { entry = e }) (entry-with_block rule b s b)
+  -- an entry for a block leaves the block its cell but for the place
+  pub cell-with_block_same : cell_of (with_block rule b s) b
+      ≡ record (cell_of s b) { i = index_for block_key new_entry b (btt_with rule b s.btt) }
+  cell-with_block_same =
+      ap (λ (e : BttEntry). record (cell_of (with_block rule b s) b) { entry = e }) (entry-with_block b)
 
--- every block stays sound when a block gets an entry
-pub sound-with_block : (rule : StoreRule) (b : ℕ) (s : State) (m : ℕ) → IsSoundCell s.under_way (cell_of s m)
-    → IsSoundCell s.under_way (cell_of (with_block rule b s) m)
-sound-with_block rule b s m =
-    by_number (λ k. IsSoundCell s.under_way (cell_of s k)
-    → IsSoundCell s.under_way (cell_of (with_block rule b s) k)) b m
-    (λ sound. subst (IsSoundCell s.under_way) (sym (cell-with_block_same rule b s))
-    (IsSoundCell-moved s.under_way (cell_of s b)
-    (index_for block_key new_entry b (btt_with rule b s.btt)) sound))
-    (λ o sound. subst (IsSoundCell s.under_way) (sym (cell-with_block_other rule b s m o)) sound)
+  -- every block stays sound when a block gets an entry
+  pub sound-with_block : (m : ℕ) → IsSoundCell s.under_way (cell_of s m) → IsSoundCell s.under_way (cell_of (with_block rule b s) m)
+  sound-with_block m =
+      by_number (λ k. IsSoundCell s.under_way (cell_of s k)
+      → IsSoundCell s.under_way (cell_of (with_block rule b s) k)) b m
+      (λ sound. subst (IsSoundCell s.under_way) (sym cell-with_block_same)
+      (IsSoundCell-moved s.under_way (cell_of s b)
+      (index_for block_key new_entry b (btt_with rule b s.btt)) sound))
+      (λ o sound. subst (IsSoundCell s.under_way) (sym (cell-with_block_other m o)) sound)
 
--- the rule of a block's store is the same with its entry
-pub rule-with_block : (rule : StoreRule) (b : ℕ) (s : State) → store_rule (cell_of (with_block rule b s) b) ≡ rule_for b s
-unfolding rule_for
-rule-with_block rule b s = ap store_rule (cell-with_block_same rule b s)
+  -- the rule of a block's store is the same with its entry
+  pub rule-with_block : store_rule (cell_of (with_block rule b s) b) ≡ rule_for b s
+  unfolding rule_for
+  rule-with_block = ap store_rule cell-with_block_same
 
 -- the entry that a rule changes is listed
 pub record IsListed (rule : StoreRule) (b : ℕ) (t : State) : Type 0 where
@@ -181,7 +180,8 @@ frame_is_framed c e = grind arith
 pub first_is_pending : (c : Cell) → store_rule c ≡ PendingFirst → c.entry.pend ≡ FromBuffer
 first_is_pending c e = grind arith
 
-pub IsListed-with_block : (rule : StoreRule) (b : ℕ) (s : State) → rule_for b s ≡ rule → (free_index s.btt ≡ None → ⊥) → IsListed rule b (with_block rule b s)
+pub IsListed-with_block : (rule : StoreRule) (b : ℕ) (s : State) → rule_for b s ≡ rule → (free_index s.btt ≡ None → ⊥)
+    → IsListed rule b (with_block rule b s)
 unfolding rule_for
 IsListed-with_block ToFrame b s is some = record {
   block = λ n. absurd (n refl);
@@ -222,8 +222,10 @@ module _ (t : State) (b : ℕ) (e : BttEntry) (of_block : e.block ≡ b) (listed
       (entry_for-set_other block_key new_entry t.btt (cell_of t b).i there.0 e there.1 same_key there.3 m (λ q. other (q ∙ there.2)))
 
 -- and after one of the page table was
-module _ (t : State) (b : ℕ) (e : PttEntry) (of_page : e.page ≡ page_of b) (listed : index_of page_key (page_of b) t.ptt ≡ Some (cell_of t b).j) where
-  page_there : (old : PttEntry) × (entry_at t.ptt (cell_of t b).j ≡ Some old) × (old.page ≡ page_of b) × ((cell_of t b).j < length t.ptt.entries)
+module _ (t : State) (b : ℕ) (e : PttEntry) (of_page : e.page ≡ page_of b)
+    (listed : index_of page_key (page_of b) t.ptt ≡ Some (cell_of t b).j) where
+  page_there : (old : PttEntry) × (entry_at t.ptt (cell_of t b).j ≡ Some old) × (old.page ≡ page_of b)
+      × ((cell_of t b).j < length t.ptt.entries)
   page_there = found_entry page_key no_page t.ptt (page_of b) (cell_of t b).j listed
 
   same_page_key : page_key e ≡ page_key page_there.0
@@ -244,7 +246,8 @@ module _ (t : State) (b : ℕ) (e : PttEntry) (of_page : e.page ≡ page_of b) (
       ap (λ (o : Option ℕ). record (cell_of (record t { ptt = with_entry (cell_of t b).j (Some e) t.ptt }) m) { j = unwrap_or o 0 })
       (index_of-set page_key no_page t.ptt (cell_of t b).j page_there.0 e page_there.1 same_page_key page_there.3 (page_of m))
       ∙ ap (λ (x : PttEntry). record (cell_of t m) { page = x })
-      (entry_for-set_other page_key no_page t.ptt (cell_of t b).j page_there.0 e page_there.1 same_page_key page_there.3 (page_of m) (λ q. other (q ∙ page_there.2)))
+      (entry_for-set_other page_key no_page t.ptt (cell_of t b).j page_there.0 e page_there.1 same_page_key page_there.3 (page_of m)
+      (λ q. other (q ∙ page_there.2)))
 
 -- after a rule's change of a block, the block itself
 pub cell-with_cell_same : (rule : StoreRule) (b : ℕ) (t : State) → IsListed rule b t
@@ -262,7 +265,8 @@ pub cell-with_cell_other : (rule : StoreRule) (b : ℕ) (t : State) (m : ℕ) �
     → OrDirty rule (cell_of t m) (cell_of (with_cell rule (after_store rule (cell_of t b)) t) m)
 cell-with_cell_other ToFrame b t m l other =
     let e : PttEntry = record (cell_of t b).page { dirty = true } in
-    elim (cases_eq (page_of m) (page_of b)) as (λ _. OrDirty ToFrame (cell_of t m) (cell_of (with_cell ToFrame (after_store ToFrame (cell_of t b)) t) m)) [
+    elim (cases_eq (page_of m) (page_of b))
+    as (λ _. OrDirty ToFrame (cell_of t m) (cell_of (with_cell ToFrame (after_store ToFrame (cell_of t b)) t) m)) [
       | inl q ↦ inr (
         refl,
         cell-set_page_same t b e (page-cell_of t b) (l.page refl) m q
@@ -283,7 +287,8 @@ sound-with_cell b t m l whole sound_b sound_m =
     let new : State = with_cell rule (after_store rule (cell_of t b)) t in
     elim (cases_eq m b) as (λ _. IsSoundCell t.under_way (cell_of new m)) [
       | inl e ↦ subst (λ (k : ℕ). IsSoundCell t.under_way (cell_of new k)) (sym e)
-          (subst (λ (c : Cell). IsSoundCell t.under_way c) (sym (cell-with_cell_same rule b t l)) (IsSoundCell-after_store t.under_way (cell_of t b) sound_b whole))
+          (subst (λ (c : Cell). IsSoundCell t.under_way c) (sym (cell-with_cell_same rule b t l))
+          (IsSoundCell-after_store t.under_way (cell_of t b) sound_b whole))
       | inr o ↦ elim (cell-with_cell_other rule b t m l o) as (λ _. IsSoundCell t.under_way (cell_of new m)) [
         | inl same ↦ subst (λ (c : Cell). IsSoundCell t.under_way c) (sym same) sound_m
         | inr dirty ↦ subst (λ (c : Cell). IsSoundCell t.under_way c) (sym dirty.1) (IsSoundCell-dirty t.under_way true (cell_of t m) sound_m)

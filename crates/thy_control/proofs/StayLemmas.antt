@@ -42,7 +42,8 @@ use Rattle.thy_control.proofs.TablesLemmas.{owner, Owns-cell_of, owned-penult, o
 pub use Rattle.thy_control.proofs.FindLemmas.{free_at}
 
 -- if an element is replaced by one that maps to the same, the list maps to the same
-pub map-set_same : {X Y : Type 0} (f : X → Y) (xs : List X) (i : ℕ) (y d : X) → f y ≡ f (get_or xs i d) → i < length xs → map f (slice_set xs i y) ≡ map f xs
+pub map-set_same : {X Y : Type 0} (f : X → Y) (xs : List X) (i : ℕ) (y d : X) → f y ≡ f (get_or xs i d) → i < length xs
+    → map f (slice_set xs i y) ≡ map f xs
 map-set_same f xs i y d same inside =
     ext_get_or (f d) (map f (slice_set xs i y)) (map f xs) (length-map (slice_set xs i y) f ∙ length-set xs i y ∙ sym (length-map xs f))
     (λ k l.
@@ -56,7 +57,8 @@ map-set_same f xs i y d same inside =
     ∙ sym (get_or-map f xs k d (f d) in_xs))
 
 module _ (f : BttEntry → Option ℕ) (new_none : (b : ℕ) → f (new_entry b) ≡ None) where
-  map-with : (r : StoreRule) (b : ℕ) (t : Listing BttEntry) → map (option_and_then f) (btt_with r b t).entries ≡ map (option_and_then f) t.entries
+  map-with : (r : StoreRule) (b : ℕ) (t : Listing BttEntry)
+      → map (option_and_then f) (btt_with r b t).entries ≡ map (option_and_then f) t.entries
   map-with r b t =
       btt_with-by (λ u. map (option_and_then f) u.entries ≡ map (option_and_then f) t.entries) r b t
       refl (λ i h e.
@@ -65,14 +67,16 @@ module _ (f : BttEntry → Option ℕ) (new_none : (b : ℕ) → f (new_entry b)
       (new_none b ∙ sym (ap (option_and_then f) free.0)) free.1)
 
 -- an entry of the block table that is listed the same
-pub map-block : (f : BttEntry → Option ℕ) (t : State) (b : ℕ) (e : BttEntry) → index_of block_key b t.btt ≡ Some (cell_of t b).i → f e ≡ f (cell_of t b).entry
+pub map-block : (f : BttEntry → Option ℕ) (t : State) (b : ℕ) (e : BttEntry) → index_of block_key b t.btt ≡ Some (cell_of t b).i
+    → f e ≡ f (cell_of t b).entry
     → map (option_and_then f) (with_entry (cell_of t b).i (Some e) t.btt).entries ≡ map (option_and_then f) t.btt.entries
 map-block f t b e listed same =
     let there = stands_at block_key new_entry t.btt b (cell_of t b).i listed in
     map-set_same (option_and_then f) t.btt.entries (cell_of t b).i (Some e) None
     (same ∙ sym (ap (option_and_then f) there.0)) there.1
 
-pub map-page : (f : PttEntry → Option ℕ) (t : State) (b : ℕ) (e : PttEntry) → index_of page_key (page_of b) t.ptt ≡ Some (cell_of t b).j → f e ≡ f (cell_of t b).page
+pub map-page : (f : PttEntry → Option ℕ) (t : State) (b : ℕ) (e : PttEntry) → index_of page_key (page_of b) t.ptt ≡ Some (cell_of t b).j
+    → f e ≡ f (cell_of t b).page
     → map (option_and_then f) (with_entry (cell_of t b).j (Some e) t.ptt).entries ≡ map (option_and_then f) t.ptt.entries
 map-page f t b e listed same =
     let there = stands_at page_key no_page t.ptt (page_of b) (cell_of t b).j listed in
@@ -88,21 +92,24 @@ tables1-with r b s = ap (λ (l : List (Option ℕ)). record (tables1 s) { btt = 
 
 -- the committed tables stay when a rule changes the entries of a block
 tables0-cell : (r : StoreRule) (b : ℕ) (t : State) → IsListed r b t → tables0 (with_cell r (after_store r (cell_of t b)) t) ≡ tables0 t
-tables0-cell ToFrame b t l = ap (λ (x : List (Option ℕ)). record (tables0 t) { ptt = x }) (map-page (λ e. page_lists e.place e.page) t b (record (cell_of t b).page { dirty = true }) (l.page refl) refl)
+tables0-cell ToFrame b t l = ap (λ (x : List (Option ℕ)). record (tables0 t) { ptt = x })
+    (map-page (λ e. page_lists e.place e.page) t b (record (cell_of t b).page { dirty = true }) (l.page refl) refl)
 tables0-cell r b t l =
     ap (λ (x : List (Option ℕ)). record (tables0 t) { btt = x })
     (map-block (λ e. entry_lists e.v0 e.block) t b (after_store r (cell_of t b)).entry
     (l.block (λ e. cc)) refl)
 
 tables1-cell : (r : StoreRule) (b : ℕ) (t : State) → IsListed r b t → tables1 (with_cell r (after_store r (cell_of t b)) t) ≡ tables1 t
-tables1-cell ToFrame b t l = ap (λ (x : List (Option ℕ)). record (tables1 t) { ptt = x }) (map-page (λ e. page_lists e.target e.page) t b (record (cell_of t b).page { dirty = true }) (l.page refl) refl)
+tables1-cell ToFrame b t l = ap (λ (x : List (Option ℕ)). record (tables1 t) { ptt = x })
+    (map-page (λ e. page_lists e.target e.page) t b (record (cell_of t b).page { dirty = true }) (l.page refl) refl)
 tables1-cell r b t l =
     ap (λ (x : List (Option ℕ)). record (tables1 t) { btt = x })
     (map-block (λ e. entry_lists e.v1 e.block) t b (after_store r (cell_of t b)).entry
     (l.block (λ e. cc)) refl)
 
 -- the places of both checkpoints
-place-with : (f : Cell → Place) → ((c : Cell) (k b : ℕ) → c.entry ≡ new_entry b → f (record c { i = k }) ≡ f c) → (r : StoreRule) (b : ℕ) (s : State) (k : ℕ)
+place-with : (f : Cell → Place) → ((c : Cell) (k b : ℕ) → c.entry ≡ new_entry b → f (record c { i = k }) ≡ f c)
+    → (r : StoreRule) (b : ℕ) (s : State) (k : ℕ)
     → f (cell_of (with_block r b s) k) ≡ f (cell_of s k)
 place-with f free r b s k =
     by_number (λ j. f (cell_of (with_block r b s) j) ≡ f (cell_of s j)) b k
@@ -136,7 +143,8 @@ stays-or_dirty : (r : StoreRule) (c d : Cell) → OrDirty r c d → CellStays c 
 stays-or_dirty r c d (inl e) = subst (λ (x : Cell). CellStays c x) (sym e) (cell_same c)
 stays-or_dirty r c d (inr e) = subst (λ (x : Cell). CellStays c x) (sym e.1) (stays-after ToFrame c)
 
-stays-cell : (r : StoreRule) (b : ℕ) (t : State) (k : ℕ) → IsListed r b t → CellStays (cell_of t k) (cell_of (with_cell r (after_store r (cell_of t b)) t) k)
+stays-cell : (r : StoreRule) (b : ℕ) (t : State) (k : ℕ) → IsListed r b t
+    → CellStays (cell_of t k) (cell_of (with_cell r (after_store r (cell_of t b)) t) k)
 stays-cell r b t k l =
     let u : State = with_cell r (after_store r (cell_of t b)) t in
     by_number (λ j. CellStays (cell_of t j) (cell_of u j)) b k
@@ -146,7 +154,8 @@ stays-cell r b t k l =
 
 -- what stands apart from memory's places reads as before
 pub apart-reads : (side : Bool) (at x : ℕ) (block : Block) (d : Devices) → (side ≡ false → x ≢ at) → x < length d.nvm.image
-    → newest (if side then record d { dram = written d.dram at block } else record d { nvm = written_to d.nvm at block }).nvm x ≡ newest d.nvm x
+    → newest (if side then record d { dram = written d.dram at block } else record d { nvm = written_to d.nvm at block }).nvm x
+    ≡ newest d.nvm x
 apart-reads true at x block d other l = refl
 apart-reads false at x block d other l = newest-written_to_other d.nvm at block x (other refl) l
 
@@ -267,7 +276,8 @@ Stays-done b block s m t sized room up there framed guarded keeps holds =
       tables0_same = tables0-cell r b u listed ∙ tables0-with r b s;
       tables1_same = tables1-cell r b u listed ∙ tables1-with r b s;
       lasts_same = lasts-counts_after r (page_of b) s.counts;
-      cells = λ k l. cell_on (cell_of s k) (cell_of u k) (cell_of (with_cell r (after_store r (cell_of u b)) u) k) (stays-with r b s k) (stays-cell r b u k listed);
+      cells = λ k l. cell_on (cell_of s k) (cell_of u k) (cell_of (with_cell r (after_store r (cell_of u b)) u) k) (stays-with r b s k)
+          (stays-cell r b u k listed);
     })
     (λ d. absurd (both_ways _ up d)) framed guarded keeps.penult_same
     (λ h. record { holds = holds h; last_same = keeps.last_same })
@@ -287,14 +297,16 @@ pub stays_by : (b : ℕ) (block : Block) (s : State) (m : Device) (t : State) (n
     → IsPlace s.p (store_place (rule_for b s) (cell_before b s)) → IsFramed m n → LeavesGuarded s m n → Stays s m t n
 stays_by b block s m t n (Ok x) e f k g keeps holds tables sized room up there framed guarded =
     subst (λ (y : State). Stays s m y n) (sym e) (subst (λ (y : Device). Stays s m (state_after b block s m) y) (sym f)
-    (Stays-done b block s m tables sized room up there (subst (λ (y : Device). IsFramed m y) f framed) (subst (λ (y : Device). LeavesGuarded s m y) f guarded)
+    (Stays-done b block s m tables sized room up there (subst (λ (y : Device). IsFramed m y) f framed)
+    (subst (λ (y : Device). LeavesGuarded s m y) f guarded)
     (subst (λ (y : Device). KeepsCheckpoints s m (state_after b block s m) y) f (subst (λ (y : State). KeepsCheckpoints s m y n) e keeps))
     (subst (λ (y : Device). HoldAll s m → HoldAll (state_after b block s m) y) f (subst (λ (y : State). HoldAll s m → HoldAll y n) e holds))))
 stays_by b block s m t n (Err x) e f k g keeps holds tables sized room up there framed guarded =
     subst (λ (y : State). Stays s m y n) (sym k) (Stays-failed b block s m n g framed guarded)
 
 -- a read leaves the controller as it is, and the NVM too unless it failed
-pub stays_read : (s : State) (m n : Device) (r : Result Block NvmError) → OnOk r (n ≡ m) → OnErr r (HasFailed m n) → IsFramed m n → Stays s m s n
+pub stays_read : (s : State) (m n : Device) (r : Result Block NvmError) → OnOk r (n ≡ m) → OnErr r (HasFailed m n) → IsFramed m n
+    → Stays s m s n
 stays_read s m n (Ok x) same failed framed = subst (λ (k : Device). Stays s m s k) (sym same) (stays_same s m)
 stays_read s m n (Err x) same failed framed =
     Stays-failed_step s m n framed failed.down (LeavesGuarded-failed s m n failed)

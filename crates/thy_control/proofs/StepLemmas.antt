@@ -43,7 +43,8 @@ pub record Untouched (old new : Place → Block) (b : ℕ) (c : Cell) : Type 0 w
   pub work_same : new (work c) ≡ old (work c)
   pub frame_same : c.page ≢ no_page (page_of b) → new (frame_at (seat_of c)) ≡ old (frame_at (seat_of c))
 
-module _ (s : State) (m : Device) (b : ℕ) (y : Place) (v : Block) (t : AreSoundTables s) (sized : IsSized s m) (there : IsPlace s.p y) (owns : owner s y ≡ Some b) where
+module _ (s : State) (m : Device) (b : ℕ) (y : Place) (v : Block) (t : AreSoundTables s) (sized : IsSized s m) (there : IsPlace s.p y)
+    (owns : owner s y ≡ Some b) where
   abbrev pub reads_after : Place → Block
   reads_after x = read_at s.p (written_at s.p y v (devices_of m s.dram)) x
 
@@ -78,7 +79,8 @@ pub ReadsSame-of : (old new : Place → Block) (b : ℕ) (c : Cell) → Untouche
 ReadsSame-of old new b c u listed = search (rules, u.frame_same listed)
 
 -- a block whose entries are left is kept
-pub Keeps-untouched : (under_way : Bool) (old new : Place → Block) (b : ℕ) (c : Cell) → IsSoundCell under_way c → Untouched old new b c → Keeps under_way old new c c
+pub Keeps-untouched : (under_way : Bool) (old new : Place → Block) (b : ℕ) (c : Cell) → IsSoundCell under_way c → Untouched old new b c
+    → Keeps under_way old new c c
 Keeps-untouched under_way old new b c sound u = record {
   sound = sound;
   reads = record { penult_same = u.penult_same; last_same = u.last_same; work_gives = u.work_same };
@@ -114,7 +116,8 @@ KeepsAll-each s m t n same each = record {
 }
 
 -- if none passes a test, none is counted
-pub none-passes : {X : Type 0} (test : X → Bool) (xs : List X) (d : X) → ((k : ℕ) → k < length xs → test (get_or xs k d) ≡ false) → count_by test xs ≡ 0
+pub none-passes : {X : Type 0} (test : X → Bool) (xs : List X) (d : X) → ((k : ℕ) → k < length xs → test (get_or xs k d) ≡ false)
+    → count_by test xs ≡ 0
 none-passes test xs d none =
     let each : All (λ x. one_if (test x) ≤ 0) xs = λ k other l.
     let is : test (get_or xs k other) ≡ false = ap test (get_or_default xs k other d l) ∙ none k l in
@@ -191,14 +194,18 @@ module _ {f : PttEntry → PttEntry} {u : Bool} {b : ℕ} {s : State} {x y : Pla
   cell-walked d P k here others = cell-page f w.of_page s b listed P k here others
 
   -- the tables of both checkpoints stay if the step moves no place of them
-  pub StaysTables-walked : page_lists (f (cell_of s b).page).place (f (cell_of s b).page).page ≡ page_lists (cell_of s b).page.place (cell_of s b).page.page
+  pub StaysTables-walked : page_lists (f (cell_of s b).page).place (f (cell_of s b).page).page ≡ page_lists (cell_of s b).page.place
+      (cell_of s b).page.page
       → page_lists (f (cell_of s b).page).target (f (cell_of s b).page).page ≡ page_lists (cell_of s b).page.target (cell_of s b).page.page
-      → ((k : ℕ) → page_of k ≡ page_of b → CellStays (cell_of s k) (counted_on f (cell_of s k))) → (d : Contents) → StaysTables s (walked f b s d)
+      → ((k : ℕ) → page_of k ≡ page_of b → CellStays (cell_of s k) (counted_on f (cell_of s k))) → (d : Contents)
+      → StaysTables s (walked f b s d)
   StaysTables-walked place target stays d = record {
     same_p = refl;
     same_way = refl;
-    tables0_same = ap (λ (x : List (Option ℕ)). record (tables0 s) { ptt = x }) (map-page (λ e. page_lists e.place e.page) s b (f (cell_of s b).page) listed place);
-    tables1_same = ap (λ (x : List (Option ℕ)). record (tables1 s) { ptt = x }) (map-page (λ e. page_lists e.target e.page) s b (f (cell_of s b).page) listed target);
+    tables0_same = ap (λ (x : List (Option ℕ)). record (tables0 s) { ptt = x })
+        (map-page (λ e. page_lists e.place e.page) s b (f (cell_of s b).page) listed place);
+    tables1_same = ap (λ (x : List (Option ℕ)). record (tables1 s) { ptt = x })
+        (map-page (λ e. page_lists e.target e.page) s b (f (cell_of s b).page) listed target);
     lasts_same = refl;
     cells = λ k l. cell-walked d CellStays k (λ q. stays k q) (λ o. cell_same (cell_of s k));
   }
@@ -226,7 +233,8 @@ module _ {f : PttEntry → PttEntry} {u : Bool} {b : ℕ} {s : State} {x y : Pla
         (record { clean = λ g d e. refl; copied = λ j g. refl; issued = λ g j. refl })).sound))
         (λ o. sound k h))
 
-    pub AreSoundTables-walked : (d : Contents) → length d.blocks ≡ dram_blocks s.p → (is_framed (f (cell_of s b).page) ≡ false → (f (cell_of s b).page).fresh ≡ true)
+    pub AreSoundTables-walked : (d : Contents) → length d.blocks ≡ dram_blocks s.p
+        → (is_framed (f (cell_of s b).page) ≡ false → (f (cell_of s b).page).fresh ≡ true)
         → IsListing page_key (walked f b s d).ptt → AreSoundTables (walked f b s d)
     AreSoundTables-walked d size live once =
         search (
@@ -267,7 +275,8 @@ module _ {f : PttEntry → PttEntry} {u : Bool} {b : ℕ} {s : State} {x y : Pla
       pub reads-walked : (version : Cell → Place) → reads_now (version (counted_on f (cell_of s b))) ≡ reads s m (version (cell_of s b))
           → ((k : ℕ) → k < memory_blocks s.p → page_of k ≡ page_of b → version (counted_on f (cell_of s k)) ≡ version (cell_of s k))
           → ((k : ℕ) → k < memory_blocks s.p → k ≢ b → reads_now (version (cell_of s k)) ≡ reads s m (version (cell_of s k)))
-          → (d : Contents) (k : ℕ) → k < memory_blocks s.p → reads_now (version (cell_of (walked f b s d) k)) ≡ reads s m (version (cell_of s k))
+          → (d : Contents) (k : ℕ) → k < memory_blocks s.p
+          → reads_now (version (cell_of (walked f b s d) k)) ≡ reads s m (version (cell_of s k))
       reads-walked version here same others d k h = cell-walked d (λ c e. reads_now (version e) ≡ reads s m (version c)) k
           (λ q. by_number
           (λ j. reads_now (version (counted_on f (cell_of s j))) ≡ reads s m
@@ -281,7 +290,8 @@ pub record IsBlockOf (s : State) (x : PttEntry) (n b : ℕ) : Type 0 where
   pub page : (cell_of s b).page ≡ x
   pub in_page : n ≡ b % 64
 
-pub IsBlockOf-entry : (s : State) → AreSoundTables s → (j : ℕ) (x : PttEntry) → entry_at s.ptt j ≡ Some x → (n : ℕ) → n < 64 → IsBlockOf s x n (page_blocks * x.page + n)
+pub IsBlockOf-entry : (s : State) → AreSoundTables s → (j : ℕ) (x : PttEntry) → entry_at s.ptt j ≡ Some x → (n : ℕ) → n < 64
+    → IsBlockOf s x n (page_blocks * x.page + n)
 IsBlockOf-entry s t j x e n few =
     let there = entry_for-there page_key no_page s.ptt t.ptt_once j x e in
     let page : page_of (page_blocks * x.page + n) ≡ x.page = omega (arith, few) in

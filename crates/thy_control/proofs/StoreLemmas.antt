@@ -57,8 +57,13 @@ work-with r b s k = record {
 }
 
 -- a block as a rule leaves it
-work-after : (r : StoreRule) (c d : Cell) → d.entry.pend ≡ c.entry.pend → d.page ≡ c.page → (r ≡ PendingFirst → c.entry.pend ≡ FromBuffer) → KeepsCheckpointWork c (after_store r d)
-work-after PendingFirst c d e p first = record { busy_same = ap (λ (x : PttEntry). x.busy) p; issued_same = ap (λ (x : PttEntry). x.issued) p; pending = inr (first refl, refl) }
+work-after : (r : StoreRule) (c d : Cell) → d.entry.pend ≡ c.entry.pend → d.page ≡ c.page → (r ≡ PendingFirst → c.entry.pend ≡ FromBuffer)
+    → KeepsCheckpointWork c (after_store r d)
+work-after PendingFirst c d e p first = record {
+  busy_same = ap (λ (x : PttEntry). x.busy) p;
+  issued_same = ap (λ (x : PttEntry). x.issued) p;
+  pending = inr (first refl, refl);
+}
 work-after r c d e p first =
     record {
       busy_same = ap (λ (x : PttEntry). x.busy) p;
@@ -74,7 +79,8 @@ work-or_dirty r c d f w (inr e) =
     subst (λ (x : Cell). KeepsCheckpointWork c x) (sym e.1) (record { busy_same = w.busy_same; issued_same = w.issued_same; pending = w.pending })
 
 -- a store that was done keeps the work of the checkpoint under way
-pub work-stored : (b : ℕ) (block : Block) (s : State) (m : Device) → 0 < free_count s.btt → (k : ℕ) → KeepsCheckpointWork (cell_of s k) (cell_of (state_after b block s m) k)
+pub work-stored : (b : ℕ) (block : Block) (s : State) (m : Device) → 0 < free_count s.btt → (k : ℕ)
+    → KeepsCheckpointWork (cell_of s k) (cell_of (state_after b block s m) k)
 unfolding state_after devices_after cell_before
 work-stored b block s m room k =
     let r : StoreRule = rule_for b s in
@@ -94,20 +100,24 @@ unpromoted : (framed fresh : Bool) → (not framed && fresh) ≡ false → frame
 unpromoted true fresh h e = cc
 unpromoted false fresh h e = h
 
-pub whole_page : (s : State) (b : ℕ) → promoted s.ptt ≡ 0 → (o : Option ℕ) → index_of page_key (page_of b) s.ptt ≡ o → IsWhole (cell_of s b).page
+pub whole_page : (s : State) (b : ℕ) → promoted s.ptt ≡ 0 → (o : Option ℕ) → index_of page_key (page_of b) s.ptt ≡ o
+    → IsWhole (cell_of s b).page
 whole_page s b none None h =
     let is : (cell_of s b).page ≡ no_page (page_of b) = entry_for-none page_key no_page s.ptt (page_of b) h in
     record { framed = λ f. ap (λ (x : PttEntry). x.fresh) is }
 whole_page s b none (Some i) h =
     let there = found_entry page_key no_page s.ptt (page_of b) i h in
     let is : (cell_of s b).page ≡ there.0 = entry_for-some page_key no_page s.ptt (page_of b) i there.0 h there.1 in
-    let no_more : is_promoted there.0 ≡ false = sym (ap (passes is_promoted) there.1) ∙ none-counted (passes is_promoted) s.ptt.entries i None none there.3 in
+    let no_more : is_promoted there.0 ≡ false =
+    sym (ap (passes is_promoted) there.1) ∙ none-counted (passes is_promoted) s.ptt.entries i None none there.3 in
     record { framed = λ f. ap (λ (x : PttEntry). x.fresh) is ∙ unpromoted (is_framed there.0) there.0.fresh no_more (sym (ap is_framed is) ∙ f) }
 
 pub ready-whole : (s : State) (m : Device) → (holding_of s m).ready ≡ true → IsWholeState s × (m.down ≡ false)
 ready-whole s m h =
-    let both = and_parts (promoted s.ptt == 0) (not m.down) h in
-    (record { whole = λ b l. whole_page s b (eqb-true (promoted s.ptt) 0 both.0) (index_of page_key (page_of b) s.ptt) refl }, not-true m.down both.1)
+    let both = and_parts (promoted s.ptt == 0) (not m.down) h in (
+      record { whole = λ b l. whole_page s b (eqb-true (promoted s.ptt) 0 both.0) (index_of page_key (page_of b) s.ptt) refl },
+      not-true m.down both.1,
+    )
 
 -- blocks by a function that gives the same but for one number
 blocks_set : (f g : ℕ → Block) (size b : ℕ) (block : Block) → g b ≡ block → ((k : ℕ) → k < size → k ≢ b → g k ≡ f k)
@@ -117,7 +127,8 @@ blocks_set f g size b block here others =
     sym (fill_by_all g (slice_set old b block) size zero_block (length-set old b block ∙ length-map-range_with_len f 0 size)
     (λ k l. elim (cases_eq k b) as (λ _. get_or (slice_set old b block) k zero_block ≡ g k) [
       | inl e ↦
-          ap (λ j. get_or (slice_set old b block) j zero_block) e ∙ get_or-set_same old b block zero_block (omega (arith, l, e, length-map-range_with_len f 0 size))
+          ap (λ j. get_or (slice_set old b block) j zero_block) e
+          ∙ get_or-set_same old b block zero_block (omega (arith, l, e, length-map-range_with_len f 0 size))
           ∙ sym here ∙ ap g (sym e)
       | inr o ↦ get_or-set_other old b k block zero_block o ∙ get_or-map-range_with_len f 0 size k k zero_block l (omega arith) ∙ sym (others k l o)
     ]))
@@ -130,7 +141,8 @@ blocks_same f g size each =
 sized_still : (s t : State) (m n : Device) → IsSized s m → t.p ≡ s.p → length n.image ≡ length m.image → IsSized t n
 sized_still s t m n sized same long = record { nvm = long ∙ sized.nvm ∙ ap image_blocks (sym same) }
 
-module _ (s : State) (m : Device) (t : State) (n : Device) (sized : IsSized s m) (up : m.down ≡ false) (up_still : n.down ≡ m.down) (stays : Stays s m t n) where
+module _ (s : State) (m : Device) (t : State) (n : Device) (sized : IsSized s m) (up : m.down ≡ false) (up_still : n.down ≡ m.down)
+    (stays : Stays s m t n) where
   works_now : works t n ≡ map (work_of t n) (range_with_len 0 (memory_blocks s.p))
   works_now =
       works-sized t n (sized_still s t m n sized stays.same_p stays.as_long) (up_still ∙ up)
@@ -157,7 +169,8 @@ pub record AreCounted (r : StoreRule) (s : State) (m : Device) (t : State) (n : 
   pub owed : r ≢ PendingFirst → waiting t.btt ≡ waiting s.btt
   pub owed_copied : r ≡ PendingFirst → waiting t.btt + 1 ≡ waiting s.btt
 
-copied_less : (q : StoreRule) (b : ℕ) (s : State) → q ≡ PendingFirst → IsListed q b (with_block q b s) → (cell_of s b).entry.pend ≡ FromBuffer
+copied_less : (q : StoreRule) (b : ℕ) (s : State) → q ≡ PendingFirst → IsListed q b (with_block q b s)
+    → (cell_of s b).entry.pend ≡ FromBuffer
     → waiting (btt_after q (after_store q (cell_of (with_block q b s) b)) (btt_with q b s.btt)) + 1 ≡ waiting s.btt
 copied_less PendingFirst b s e l was = waiting-copied b s l was
 copied_less r b s e l was = cc
@@ -184,7 +197,8 @@ AreCounted-after b block s m room =
     }
 
 -- so it stored, or made a copy first
-module _ (b : ℕ) (block : Block) (s : State) (m : Device) (t : State) (n : Device) (sized : IsSized s m) (up : m.down ≡ false) (stays : Stays s m t n) where
+module _ (b : ℕ) (block : Block) (s : State) (m : Device) (t : State) (n : Device) (sized : IsSized s m) (up : m.down ≡ false)
+    (stays : Stays s m t n) where
   ready-same : (r : StoreRule) → AreCounted r s m t n → (holding_of t n).ready ≡ (holding_of s m).ready
   ready-same r c =
       ap (λ (k : ℕ). k == 0 && not n.down) c.whole

@@ -1,7 +1,8 @@
 -- The entries of a block of tables, one by one.
-use Rattle.std.proofs.Common.{◌≡◌, ℕ, ◌+◌, ◌-◌, ◌*◌, ◌^◌, ◌<◌, ◌≤◌, List, ◌++◌, drop, length, Option, Some, None, sym, ◌∙◌, ap, inl, inr, arith}
+use Rattle.std.proofs.Common.{◌≡◌, ℕ, ◌+◌, ◌-◌, ◌*◌, ◌^◌, ◌<◌, ◌≤◌, List, ◌++◌, drop, length, map, get_or, Option, Some, None, sym, ◌∙◌, ap, inl, inr, arith}
 use Rattle.std.proofs.lemmas.Bool.{cases_lt}
-use Rattle.std.proofs.lemmas.List.{length-append, length-drop, length-take-le, length-take, get_or_past, get_or-take, get_or-drop, get_or_append_left, get_or-append-add, ext_get_or}
+use Rattle.std.specs.Option.{option_and_then}
+use Rattle.std.proofs.lemmas.List.{length-map, get_or-map, length-append, length-drop, length-take-le, length-take, get_or_past, get_or-take, get_or-drop, get_or_append_left, get_or-append-add, ext_get_or}
 use Rattle.thy_block.specs.declared.parameters.Parameters.{Parameters}
 use Rattle.thy_block.specs.Geometry.{IsInRange}
 use Rattle.thy_layout.specs.Entries.{entry_at, Lists}
@@ -24,6 +25,13 @@ pub entries-are : (t : Tables) (k : ℕ) (entries : List (Option ℕ)) → 8 * k
 entries-are t k entries l long each =
     ext_get_or None entries (entries_of t k) (long ∙ sym (entries-eight t k l))
     (λ j inside. let below : j < 8 = omega (arith, long) in each j below ∙ sym (entries-each t k j below))
+
+-- nothing is listed at a free entry of the block table
+pub entry-free : {E : Type 0} (due : E → Option ℕ) (es : List (Option E)) (pages : List (Option ℕ)) (n : ℕ) → n < length es → get_or es n None ≡ None
+    → entry_at (map (option_and_then due) es ++ pages) n ≡ None
+entry-free due es pages n inside free =
+    let f = option_and_then due in
+    get_or_append_left (map f es) pages None n (omega (arith, inside, length-map es f)) ∙ get_or-map f es n None None inside ∙ ap f free
 
 -- each number that both tables list fits a word
 entry-fits : (p : Parameters) (t : Tables) → IsInRange p → IsTables p t → (m n : ℕ) → entry_at (t.btt ++ t.ptt) m ≡ Some n → n < 2 ^ 64 - 1

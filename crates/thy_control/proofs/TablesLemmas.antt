@@ -56,7 +56,8 @@ pub record Owns (t : State) (m : ℕ) (c : Cell) : Type 0 where
 pub owner-listed : (t : State) (m i : ℕ) → index_of block_key m t.btt ≡ Some i → option_map block_key (entry_at t.btt i) ≡ Some m
 owner-listed t m i h = let f = found_entry block_key new_entry t.btt m i h in ap (option_map block_key) f.1 ∙ ap Some f.2
 
-pub owner-page_listed : (t : State) (m j k : ℕ) → k ≡ m % 64 → index_of page_key (page_of m) t.ptt ≡ Some j → option_map (block_in_page k) (entry_at t.ptt j) ≡ Some m
+pub owner-page_listed : (t : State) (m j k : ℕ) → k ≡ m % 64 → index_of page_key (page_of m) t.ptt ≡ Some j
+    → option_map (block_in_page k) (entry_at t.ptt j) ≡ Some m
 owner-page_listed t m j k e h =
     let f = found_entry page_key no_page t.ptt (page_of m) j h in
     let same : block_in_page k f.0 ≡ m = omega (arith, f.2, e) in
@@ -66,7 +67,8 @@ pub Owns-cell_of : (t : State) (m : ℕ) → Owns t m (cell_of t m)
 Owns-cell_of t m = record {
   of_block = block-cell_of t m;
   of_entry = λ n. owner-listed t m (cell_of t m).i (index_of-index block_key new_entry t.btt m n);
-  of_page = λ n. owner-page_listed t m (cell_of t m).j ((cell_of t m).entry.block % 64) (ap (λ b. b % 64) (block-cell_of t m)) (index_of-index page_key no_page t.ptt (page_of m) n);
+  of_page = λ n. owner-page_listed t m (cell_of t m).j ((cell_of t m).entry.block % 64) (ap (λ b. b % 64) (block-cell_of t m))
+      (index_of-index page_key no_page t.ptt (page_of m) n);
 }
 
 owned-placed : (t : State) (m : ℕ) (c : Cell) → Owns t m c → (v : Version) (s : Site)
@@ -91,7 +93,8 @@ owned-pending t m c o Settled h = owned-target t m c o
 owned-pending t m c o FromBuffer h = o.of_entry (h (λ e. cc))
 owned-pending t m c o FromAlternate h = o.of_entry (h (λ e. cc))
 
-owned-if : (t : State) (m : ℕ) (b : Bool) (x y : Place) → (b ≡ true → owner t x ≡ Some m) → owner t y ≡ Some m → owner t (if b then x else y) ≡ Some m
+owned-if : (t : State) (m : ℕ) (b : Bool) (x y : Place) → (b ≡ true → owner t x ≡ Some m) → owner t y ≡ Some m
+    → owner t (if b then x else y) ≡ Some m
 owned-if t m true x y hx hy = hx refl
 owned-if t m false x y hx hy = hy
 
@@ -112,7 +115,8 @@ owned-work t m c o = owned-worked t m c o c.entry.work (λ n e. n (ap (λ (x : B
 
 -- the place of a block's store belongs to it
 pub owned-store : (rule : StoreRule) (t : State) (b : ℕ) → IsListed rule b t → owner t (store_place rule (cell_of t b)) ≡ Some b
-owned-store ToFrame t b l = owner-page_listed t b (cell_of t b).j ((cell_of t b).entry.block % 64) (ap (λ n. n % 64) (block-cell_of t b)) (l.page refl)
+owned-store ToFrame t b l = owner-page_listed t b (cell_of t b).j ((cell_of t b).entry.block % 64)
+    (ap (λ n. n % 64) (block-cell_of t b)) (l.page refl)
 owned-store ToBuffer t b l = owner-listed t b (cell_of t b).i (l.block (λ e. cc))
 owned-store ToNvm t b l = spare (other_version (cell_of t b).entry.v0) where
   spare : (v : Version) → owner t (placed v AtHome (seat_of (cell_of t b))) ≡ Some b
@@ -130,7 +134,8 @@ owned-apart t m b x y other hx hy e =
 -- ---- the tables of both checkpoints: what they list, and the places at which they have each block
 
 -- what a checkpoint lists at each entry of a table, if it lists the entry's own number or nothing
-module _ {E : Type 0} (key : E → ℕ) (new : ℕ → E) (listed : E → Option ℕ) (of_key : (e : E) (n : ℕ) → listed e ≡ Some n → key e ≡ n) (t : Listing E) where
+module _ {E : Type 0} (key : E → ℕ) (new : ℕ → E) (listed : E → Option ℕ) (of_key : (e : E) (n : ℕ) → listed e ≡ Some n → key e ≡ n)
+    (t : Listing E) where
   abbrev listed_in : List (Option ℕ)
   listed_in = map (option_and_then listed) t.entries
 
@@ -139,7 +144,8 @@ module _ {E : Type 0} (key : E → ℕ) (new : ℕ → E) (listed : E → Option
 
   listed_entry : (i n : ℕ) → Lists listed_in i n → (e : E) × (entry_at t i ≡ Some e) × (listed e ≡ Some n)
   listed_entry i n l = by_entry (entry_at t i) refl (at_entry i n l) where
-    by_entry : (o : Option E) → entry_at t i ≡ o → option_and_then listed o ≡ Some n → (e : E) × (entry_at t i ≡ Some e) × (listed e ≡ Some n)
+    by_entry : (o : Option E) → entry_at t i ≡ o → option_and_then listed o ≡ Some n
+        → (e : E) × (entry_at t i ≡ Some e) × (listed e ≡ Some n)
     by_entry None s h = cc
     by_entry (Some e) s h = (e, s, h)
 
@@ -176,10 +182,12 @@ module _ {E : Type 0} (key : E → ℕ) (new : ℕ → E) (listed : E → Option
           let one : Some f.0 ≡ Some e = sym f.1 ∙ s in
           let is : f.0 ≡ e = cc in
           let number : m ≡ n = sym (of_key e m h) ∙ ap key (sym is) ∙ f.2 in
-          let here : Lists listed_in i n = record { is = get_or-map (option_and_then listed) t.entries i None ∙ ap (option_and_then listed) s ∙ h ∙ ap Some number } in
+          let here : Lists listed_in i n =
+          record { is = get_or-map (option_and_then listed) t.entries i None ∙ ap (option_and_then listed) s ∙ h ∙ ap Some number } in
           entry_of-listed listed_in n i here (λ k l. listed_once k i n l here)
 
-      by_place : (o : Option ℕ) → index_of key n t ≡ o → entry_of listed_in n ≡ option_map (λ _. index_for key new n t) (listed (entry_for key new n t))
+      by_place : (o : Option ℕ) → index_of key n t ≡ o
+          → entry_of listed_in n ≡ option_map (λ _. index_for key new n t) (listed (entry_for key new n t))
       by_place None p =
           entry_of-absent listed_in n (λ i l. let no : Some i ≡ None = sym (found_at i n l) ∙ p in cc)
           ∙ sym (ap (option_map (λ _. index_for key new n t)) (ap listed (entry_for-none key new t n p) ∙ new_none n))
@@ -200,7 +208,8 @@ page_is AtAlternate m n h = let same : m ≡ n = cc in (refl, same)
 
 -- the place of a block by its entries in both tables
 placed-by : (v : Version) (s : Site) (i j m n b : ℕ)
-    → place_by_entries (option_map (λ _. i) (entry_lists v m)) (option_map (λ _. j) (page_lists s n)) b ≡ placed v s (record { i = i; j = j; block = b })
+    → place_by_entries (option_map (λ _. i) (entry_lists v m)) (option_map (λ _. j) (page_lists s n)) b
+    ≡ placed v s (record { i = i; j = j; block = b })
 placed-by Alt s i j m n b = refl
 placed-by Out AtAlternate i j m n b = refl
 placed-by Out AtHome i j m n b = refl
@@ -228,25 +237,32 @@ module _ (s : State) (version : BttEntry → Version) (site : PttEntry → Site)
   IsTables-by = record {
     btt_length = length-map s.btt.entries _ ∙ t.btt_size;
     ptt_length = length-map s.ptt.entries _ ∙ t.ptt_size;
-    blocks = λ i b l. let inside = t.btt_once.inside i b (lists_number block_key new_entry block_by of_block s.btt i b l) in omega (arith, inside, t.btt_numbers);
-    pages = λ j page l. let inside = t.ptt_once.inside j page (lists_number page_key no_page page_by of_page s.ptt j page l) in omega (arith, inside, t.ptt_numbers);
+    blocks = λ i b l. let inside = t.btt_once.inside i b (lists_number block_key new_entry block_by of_block s.btt i b l) in
+        omega (arith, inside, t.btt_numbers);
+    pages = λ j page l. let inside = t.ptt_once.inside j page (lists_number page_key no_page page_by of_page s.ptt j page l) in
+        omega (arith, inside, t.ptt_numbers);
     blocks_once = λ i k b l m. listed_once block_key new_entry block_by of_block s.btt t.btt_once i k b l m;
     pages_once = λ j k page l m. listed_once page_key no_page page_by of_page s.ptt t.ptt_once j k page l m;
     apart = λ i j b l m.
-        let inside : b < memory_blocks s.p = omega (arith, t.btt_once.inside i b (lists_number block_key new_entry block_by of_block s.btt i b l), t.btt_numbers) in
+        let inside : b < memory_blocks s.p =
+        omega (arith, t.btt_once.inside i b (lists_number block_key new_entry block_by of_block s.btt i b l), t.btt_numbers) in
         let alt = (entry_is (version (cell_of s b).entry) _ b (entry_listed block_key new_entry block_by of_block s.btt t.btt_once i b l)).0 in
-        let alternate = (page_is (site (cell_of s b).page) _ (page_of b) (entry_listed page_key no_page page_by of_page s.ptt t.ptt_once j (page_of b) m)).0 in
+        let alternate = (page_is (site (cell_of s b).page) _ (page_of b)
+        (entry_listed page_key no_page page_by of_page s.ptt t.ptt_once j (page_of b) m)).0 in
         let home = way.apart b inside alt in
         home_is_not (site (cell_of s b).page) home alternate;
   } where
     home_is_not : (x : Site) → x ≡ AtHome → x ≡ AtAlternate → ⊥
     home_is_not x e f = cc
 
-  place-by : (b : ℕ) → place_in (tables_by version site s) b ≡ placed (version (cell_of s b).entry) (site (cell_of s b).page) (seat_of (cell_of s b))
+  place-by : (b : ℕ)
+      → place_in (tables_by version site s) b ≡ placed (version (cell_of s b).entry) (site (cell_of s b).page) (seat_of (cell_of s b))
   place-by b =
       let c : Cell = cell_of s b in
-      let block = entry_of-listed_in block_key new_entry block_by of_block s.btt t.btt_once (λ n. ap (λ (v : Version). entry_lists v n) (way.new_out n)) b in
-      let page = entry_of-listed_in page_key no_page page_by of_page s.ptt t.ptt_once (λ n. ap (λ (x : Site). page_lists x n) (way.no_home n)) (page_of b) in
+      let block = entry_of-listed_in block_key new_entry block_by of_block s.btt t.btt_once
+      (λ n. ap (λ (v : Version). entry_lists v n) (way.new_out n)) b in
+      let page = entry_of-listed_in page_key no_page page_by of_page s.ptt t.ptt_once
+      (λ n. ap (λ (x : Site). page_lists x n) (way.no_home n)) (page_of b) in
       let table : Tables = tables_by version site s in
       ap (λ (o : Option ℕ). place_by_entries o (entry_of table.ptt (page_of b)) b) block
       ∙ ap (λ (o : Option ℕ). place_by_entries (option_map (λ _. c.i) (entry_lists (version c.entry) c.entry.block)) o b) page
@@ -260,5 +276,6 @@ AreTablesOf-committed s t =
 
 pub AreTablesOf-under_way : (s : State) → AreSoundTables s → AreTablesOf s (tables1 s) target
 AreTablesOf-under_way s t =
-    let way : IsWay s (λ e. e.v1) (λ e. e.target) = record { new_out = λ b. refl; no_home = λ page. refl; apart = λ b l v. (t.cells b l).apart1 v } in
+    let way : IsWay s (λ e. e.v1) (λ e. e.target) =
+    record { new_out = λ b. refl; no_home = λ page. refl; apart = λ b l v. (t.cells b l).apart1 v } in
     record { valid = IsTables-by s (λ e. e.v1) (λ e. e.target) t way; same_place = λ b l. place-by s (λ e. e.v1) (λ e. e.target) t way b }

@@ -17,7 +17,7 @@ pub struct WorkCounts {
 }
 
 impl WorkCounts {
-    /// The numbers of both tables: it goes over all their entries.
+    /// The numbers of both tables: it goes over all their live entries.
     pub fn of(btt: &Btt, ptt: &Ptt) -> WorkCounts
         ensures { AreWorkCounts ptt.now btt.now result }
     {
@@ -55,7 +55,8 @@ fn count_overlaid(btt: &Btt, ptt: &Ptt) -> u64
     ensures { result ≡ overlaid ptt.now btt.now }
 {
     let mut count = 0;
-    for i in 0..btt.size() {
+    let end = btt.live_end();
+    for i in 0..end {
         if is_overlaid(btt, i, ptt) {
             count += 1;
         }
@@ -77,7 +78,8 @@ fn count_promoted(ptt: &Ptt) -> u64
     ensures { result ≡ promoted ptt.now }
 {
     let mut count = 0;
-    for j in 0..ptt.size() {
+    let end = ptt.live_end();
+    for j in 0..end {
         if is_promoted(ptt, j) {
             count += 1;
         }

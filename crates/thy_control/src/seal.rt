@@ -31,7 +31,8 @@ pub fn block_is_framed(ptt: &Ptt, b: u64) -> bool
 pub fn seal_blocks(btt: &mut Btt, ptt: &Ptt, few: bool)
     ensures { btt.new ≡ mapped (sealed_in few ptt.now) btt.old }
 {
-    for i in 0..btt.size() {
+    let end = btt.live_end();
+    for i in 0..end {
         seal_block(btt, i, ptt, few);
     }
 }
@@ -61,7 +62,8 @@ fn seal_listed(ptt: &mut Ptt, counts: &Counts)
     requires { ptt.old.numbers ≡ length counts.now.counts }
     ensures { ptt.new ≡ mapped (sealed_as_counted counts.now) ptt.old }
 {
-    for j in 0..ptt.size() {
+    let end = ptt.live_end();
+    for j in 0..end {
         seal_page(ptt, j, counts);
     }
 }

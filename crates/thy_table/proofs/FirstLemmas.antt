@@ -9,7 +9,8 @@ use Rattle.std.proofs.lemmas.List.Quantifiers.{position-Some}
 use Rattle.thy_table.specs.Listing.{first_from}
 
 module _ {X : Type 0} (p : X → Bool) (d : X) where
-  pub position-first : (xs : List X) (i : ℕ) → i < length xs → p (get_or xs i d) ≡ true → ((k : ℕ) → k < i → p (get_or xs k d) ≡ false) → position p xs ≡ Some i
+  pub position-first : (xs : List X) (i : ℕ) → i < length xs → p (get_or xs i d) ≡ true → ((k : ℕ) → k < i → p (get_or xs k d) ≡ false)
+      → position p xs ≡ Some i
   position-first xs i inside here before =
       let e : position_or_len p xs ≡ i = position_or_len_is p xs i d (omega arith) before (λ _. here) in
       ap (λ n. cond (nat_lt n (length xs)) (Some n) None) e ∙ ap (λ t. cond t (Some i) None) (lt-ltb i (length xs) inside)
@@ -22,12 +23,14 @@ module _ {X : Type 0} (p : X → Bool) (d : X) where
   -- if no first place is found, no element passes
   pub none-position : (xs : List X) → position p xs ≡ None → (k : ℕ) → k < length xs → p (get_or xs k d) ≡ false
   none-position xs e k inside = elim (cases_lt (position_or_len p xs) (length xs)) as (λ _. p (get_or xs k d) ≡ false) [
-    | inl l ↦ let some : position p xs ≡ Some (position_or_len p xs) = ap (λ t. cond t (Some (position_or_len p xs)) None) (lt-ltb (position_or_len p xs) (length xs) l) in
+    | inl l ↦ let some : position p xs ≡ Some (position_or_len p xs) =
+        ap (λ t. cond t (Some (position_or_len p xs)) None) (lt-ltb (position_or_len p xs) (length xs) l) in
         let both : Some (position_or_len p xs) ≡ None = sym some ∙ e in cc
     | inr l ↦ fails_before_first p xs k d (omega arith)
   ]
 
-  pub first_from-is : (xs : List X) (from i : ℕ) → from ≤ i → i < length xs → p (get_or xs i d) ≡ true → ((k : ℕ) → from ≤ k → k < i → p (get_or xs k d) ≡ false)
+  pub first_from-is : (xs : List X) (from i : ℕ) → from ≤ i → i < length xs → p (get_or xs i d) ≡ true
+      → ((k : ℕ) → from ≤ k → k < i → p (get_or xs k d) ≡ false)
       → first_from p from xs ≡ Some i
   first_from-is xs from i above inside here before =
       let there : position p (drop from xs) ≡ Some (i - from) = position-first (drop from xs) (i - from)
@@ -37,7 +40,8 @@ module _ {X : Type 0} (p : X → Bool) (d : X) where
       let same : from + (i - from) ≡ i = omega arith in
       ap (option_map (λ k. from + k)) there ∙ ap Some same
 
-  pub first_from-none : (xs : List X) (from : ℕ) → ((k : ℕ) → from ≤ k → k < length xs → p (get_or xs k d) ≡ false) → first_from p from xs ≡ None
+  pub first_from-none : (xs : List X) (from : ℕ) → ((k : ℕ) → from ≤ k → k < length xs → p (get_or xs k d) ≡ false)
+      → first_from p from xs ≡ None
   first_from-none xs from none =
       ap (option_map (λ k. from + k)) (position-none (drop from xs)
       (λ k l. ap p (get_or-drop from xs k d) ∙ none (from + k) (omega arith) (omega (arith, l, length-drop from xs))))
@@ -49,41 +53,42 @@ module _ {X : Type 0} (p : X → Bool) (d : X) where
     pub here : p (get_or xs i d) ≡ true
     pub before : (k : ℕ) → from ≤ k → k < i → p (get_or xs k d) ≡ false
 
-  private_some : (xs : List X) (from i : ℕ) (o : Option ℕ) → position p (drop from xs) ≡ o → option_map (λ k. from + k) o ≡ Some i → IsFirst xs from i
-  private_some xs from i None e h = cc
-  private_some xs from i (Some k) e h =
-      let same : from + k ≡ i = cc in
-      let first = position-Some p (drop from xs) k d e in
-      record {
-        above = omega arith;
-        inside = omega (arith, first.0, length-drop from xs, same);
-        here = ap p (sym (get_or-drop from xs k d ∙ ap (λ n. get_or xs n d) same)) ∙ first.1;
-        before = λ j a l.
-            let back : from + (j - from) ≡ j = omega arith in
-            ap p (sym (get_or-drop from xs (j - from) d ∙ ap (λ n. get_or xs n d) back)) ∙ first.2 (j - from) (omega (arith, same));
-      }
+  module _ (xs : List X) (from : ℕ) where
+    private_some : (i : ℕ) (o : Option ℕ) → position p (drop from xs) ≡ o → option_map (λ k. from + k) o ≡ Some i → IsFirst xs from i
+    private_some i None e h = cc
+    private_some i (Some k) e h =
+        let same : from + k ≡ i = cc in
+        let first = position-Some p (drop from xs) k d e in
+        record {
+          above = omega arith;
+          inside = omega (arith, first.0, length-drop from xs, same);
+          here = ap p (sym (get_or-drop from xs k d ∙ ap (λ n. get_or xs n d) same)) ∙ first.1;
+          before = λ j a l.
+              let back : from + (j - from) ≡ j = omega arith in
+              ap p (sym (get_or-drop from xs (j - from) d ∙ ap (λ n. get_or xs n d) back)) ∙ first.2 (j - from) (omega (arith, same));
+        }
 
-  pub first_from-first : (xs : List X) (from i : ℕ) → first_from p from xs ≡ Some i → IsFirst xs from i
-  first_from-first xs from i h = private_some xs from i (position p (drop from xs)) refl h
+    pub first_from-first : (i : ℕ) → first_from p from xs ≡ Some i → IsFirst xs from i
+    first_from-first i h = private_some i (position p (drop from xs)) refl h
 
-  private_none : (xs : List X) (from : ℕ) (o : Option ℕ) → position p (drop from xs) ≡ o → option_map (λ k. from + k) o ≡ None → position p (drop from xs) ≡ None
-  private_none xs from None e h = e
-  private_none xs from (Some k) e h = cc
+    private_none : (o : Option ℕ) → position p (drop from xs) ≡ o → option_map (λ k. from + k) o ≡ None → position p (drop from xs) ≡ None
+    private_none None e h = e
+    private_none (Some k) e h = cc
 
-  -- if no place from one on is found, no element from there on passes
-  pub none-first_from : (xs : List X) (from : ℕ) → first_from p from xs ≡ None → (k : ℕ) → from ≤ k → k < length xs → p (get_or xs k d) ≡ false
-  none-first_from xs from h k above inside =
-      let back : from + (k - from) ≡ k = omega arith in
-      ap p (sym (get_or-drop from xs (k - from) d ∙ ap (λ n. get_or xs n d) back))
-      ∙ none-position (drop from xs) (private_none xs from (position p (drop from xs)) refl h) (k - from) (omega (arith, inside, length-drop from xs))
+    -- if no place from one on is found, no element from there on passes
+    pub none-first_from : first_from p from xs ≡ None → (k : ℕ) → from ≤ k → k < length xs → p (get_or xs k d) ≡ false
+    none-first_from h k above inside =
+        let back : from + (k - from) ≡ k = omega arith in
+        ap p (sym (get_or-drop from xs (k - from) d ∙ ap (λ n. get_or xs n d) back))
+        ∙ none-position (drop from xs) (private_none (position p (drop from xs)) refl h) (k - from) (omega (arith, inside, length-drop from xs))
 
-  -- if no element below a place passes, the first from there on is the first of all
-  pub first_from-position : (xs : List X) (from : ℕ) → ((k : ℕ) → k < from → p (get_or xs k d) ≡ false) → first_from p from xs ≡ position p xs
-  first_from-position xs from below = by_answer (first_from p from xs) refl where
-    by_answer : (o : Option ℕ) → first_from p from xs ≡ o → first_from p from xs ≡ position p xs
-    by_answer (Some i) h = let first = first_from-first xs from i h in
-        h ∙ sym (position-first xs i first.inside first.here
-        (λ k l. elim (cases_lt k from) as (λ _. p (get_or xs k d) ≡ false) [ inl b ↦ below k b | inr a ↦ first.before k a l ]))
-    by_answer None h =
-        h ∙ sym (position-none xs
-        (λ k l. elim (cases_lt k from) as (λ _. p (get_or xs k d) ≡ false) [ inl b ↦ below k b | inr a ↦ none-first_from xs from h k a l ]))
+    -- if no element below a place passes, the first from there on is the first of all
+    pub first_from-position : ((k : ℕ) → k < from → p (get_or xs k d) ≡ false) → first_from p from xs ≡ position p xs
+    first_from-position below = by_answer (first_from p from xs) refl where
+      by_answer : (o : Option ℕ) → first_from p from xs ≡ o → first_from p from xs ≡ position p xs
+      by_answer (Some i) h = let first = first_from-first i h in
+          h ∙ sym (position-first xs i first.inside first.here
+          (λ k l. elim (cases_lt k from) as (λ _. p (get_or xs k d) ≡ false) [ inl b ↦ below k b | inr a ↦ first.before k a l ]))
+      by_answer None h =
+          h ∙ sym (position-none xs
+          (λ k l. elim (cases_lt k from) as (λ _. p (get_or xs k d) ≡ false) [ inl b ↦ below k b | inr a ↦ none-first_from h k a l ]))

@@ -19,6 +19,10 @@ pub is_none-not_some : {X : Type 0} (o : Option X) → is_some o ≡ true → is
 is_none-not_some None h = cc
 is_none-not_some (Some x) h = refl
 
+pub None-is_some : {X : Type 0} (o : Option X) → is_some o ≡ false → o ≡ None
+None-is_some None e = refl
+None-is_some (Some x) e = cc
+
 pub None-is_none : {X : Type 0} (o : Option X) → is_none o ≡ true → o ≡ None
 None-is_none None h = refl
 None-is_none (Some x) h = cc
@@ -81,7 +85,8 @@ module _ {E : Type 0} (key : E → ℕ) where
   ]
 
   -- the index of a table whose every entry is free is sound
-  pub IsSoundTable-empty : (size numbers : ℕ) → size ≤ 2 ^ 32 → IsSoundTable key (replicate size None) numbers (replicate (numbers / 16 + 1) 0) (replicate size (replicate 16 0)) 0 size
+  pub IsSoundTable-empty : (size numbers : ℕ) → size ≤ 2 ^ 32
+      → IsSoundTable key (replicate size None) numbers (replicate (numbers / 16 + 1) 0) (replicate size (replicate 16 0)) 0 size
   IsSoundTable-empty size numbers small =
       let es : List (Option E) = replicate size None in
       let all_none : (i : ℕ) → get_or es i None ≡ None = λ i. elim (cases_lt i size) as (λ _. get_or es i None ≡ None) [
@@ -95,14 +100,16 @@ module _ {E : Type 0} (key : E → ℕ) where
         led = λ i n h. absurd (omega (arith, none i n h));
         inside = λ i n h. absurd (omega (arith, none i n h));
         groups = omega (arith, length-replicate {A = ℕ} (numbers / 16 + 1) 0);
-        wide = λ i l. ap length (get_or-replicate {A = List ℕ} size i (replicate 16 0) [] (omega (arith, l, length-replicate {A = List ℕ} size (replicate 16 0)))) ∙ length-replicate {A = ℕ} 16 0;
+        wide = λ i l. ap length (get_or-replicate {A = List ℕ} size i (replicate 16 0) []
+            (omega (arith, l, length-replicate {A = List ℕ} size (replicate 16 0)))) ∙ length-replicate {A = ℕ} 16 0;
         as_many = length-replicate {A = List ℕ} size (replicate 16 0) ∙ sym (length-replicate {A = Option E} size None);
         full_below = λ i l. absurd (omega (arith, l));
         counted = omega (arith, sum_by-replicate (free_one {X = E}) size None);
         few = omega (arith, small, length-replicate {A = Option E} size None);
       }
 
-  module _ (es : List (Option E)) (numbers : ℕ) (leaders : List ℕ) (places : List (List ℕ)) (lowest free : ℕ) (sound : IsSoundTable key es numbers leaders places lowest free) where
+  module _ (es : List (Option E)) (numbers : ℕ) (leaders : List ℕ) (places : List (List ℕ)) (lowest free : ℕ)
+      (sound : IsSoundTable key es numbers leaders places lowest free) where
     -- a number is listed by no other entry than the one at which the index has it
     alone : (n k : ℕ) → k ≢ indexed_at leaders places n → lists key n (get_or es k None) ≡ false
     alone n k other = elim (cases_Bool (lists key n (get_or es k None))) as (λ _. lists key n (get_or es k None) ≡ false) [
@@ -111,7 +118,8 @@ module _ {E : Type 0} (key : E → ℕ) where
     ]
 
     -- a number is where the index has it, if the entry there lists it
-    pub position-indexed : (n : ℕ) → lists key n (get_or es (indexed_at leaders places n) None) ≡ true → position (lists key n) es ≡ Some (indexed_at leaders places n)
+    pub position-indexed : (n : ℕ) → lists key n (get_or es (indexed_at leaders places n) None) ≡ true
+        → position (lists key n) es ≡ Some (indexed_at leaders places n)
     position-indexed n here = let i = indexed_at leaders places n in
         position-first (lists key n) None es i (lists-inside es i n here) here (λ k l. alone n k (λ s. absurd (omega (arith, l, s))))
 
@@ -140,17 +148,20 @@ module _ {E : Type 0} (key : E → ℕ) where
     pub group-here : (i : ℕ) (e : E) → get_or es i None ≡ Some e → key e / 16 < length leaders
     group-here i e was = group-inside (key e) (sound.inside i (key e) (lists-key (key e) (get_or es i None) e was refl))
 
-    pub leader-read : (i : ℕ) (e : E) (n c : ℕ) → get_or es i None ≡ Some e → n ≡ key e → c ≡ get_or leaders (n / 16) c → get_or leaders (key e / 16) 0 ≡ c
+    pub leader-read : (i : ℕ) (e : E) (n c : ℕ) → get_or es i None ≡ Some e → n ≡ key e → c ≡ get_or leaders (n / 16) c
+        → get_or leaders (key e / 16) 0 ≡ c
     leader-read i e n c was is read = sym (get_or_read leaders (key e / 16) c (group-here i e was) (read ∙ ap (λ m. get_or leaders (m / 16) c) is) 0)
 
-    pub leads-here : (i : ℕ) (e : E) → get_or es i None ≡ Some e → leads key (key e / 16) (get_or es (get_or leaders (key e / 16) 0) None) ≡ true
+    pub leads-here : (i : ℕ) (e : E) → get_or es i None ≡ Some e
+        → leads key (key e / 16) (get_or es (get_or leaders (key e / 16) 0) None) ≡ true
     leads-here i e was = sound.led i (key e) (lists-key (key e) (get_or es i None) e was refl)
 
     pub leader-here : (i : ℕ) (e : E) → get_or es i None ≡ Some e → get_or leaders (key e / 16) 0 < length places
     leader-here i e was = omega (arith, leads-inside es (get_or leaders (key e / 16) 0) (key e / 16) (leads-here i e was), sound.as_many)
 
     -- the leader of a group with one more entry is inside the table
-    pub leader_with-inside : (i g q : ℕ) → i < length es → q ≡ (if leads key g (get_or es (get_or leaders g 0) None) then get_or leaders g 0 else i) → q < length places
+    pub leader_with-inside : (i g q : ℕ) → i < length es
+        → q ≡ (if leads key g (get_or es (get_or leaders g 0) None) then get_or leaders g 0 else i) → q < length places
     leader_with-inside i g q inside chosen =
         let c = get_or leaders g 0 in
         elim (cases_Bool (leads key g (get_or es c None))) as (λ _. q < length places) [
@@ -163,32 +174,40 @@ module _ {E : Type 0} (key : E → ℕ) where
         ]
 
     -- another leader of a group, with the places of the group's numbers; the other groups have theirs
-    module _ (now : List (Option E)) (g q : ℕ) (group : List ℕ) (room : g < length leaders) (inside : q < length places) (leading : leads key g (get_or now q None) ≡ true)
+    module _ (now : List (Option E)) (g q : ℕ) (group : List ℕ) (room : g < length leaders) (inside : q < length places)
+        (leading : leads key g (get_or now q None) ≡ true)
         (own : (j n : ℕ) → lists key n (get_or now j None) ≡ true → n / 16 ≡ g → get_or group (n % 16) 0 ≡ j)
         (old : (j n : ℕ) → lists key n (get_or now j None) ≡ true → n / 16 ≢ g → lists key n (get_or es j None) ≡ true)
-        (stays : (j n : ℕ) → lists key n (get_or now j None) ≡ true → n / 16 ≢ g → leads key (n / 16) (get_or now (get_or leaders (n / 16) 0) None) ≡ true) where
-      pub led-with : (j n : ℕ) → lists key n (get_or now j None) ≡ true → leads key (n / 16) (get_or now (get_or (slice_set leaders g q) (n / 16) 0) None) ≡ true
-      led-with j n h = elim (cases_eq (n / 16) g) as (λ _. leads key (n / 16) (get_or now (get_or (slice_set leaders g q) (n / 16) 0) None) ≡ true) [
-        | inl s ↦
-            let at : get_or (slice_set leaders g q) (n / 16) 0 ≡ q = ap (λ m. get_or (slice_set leaders g q) m 0) s ∙ get_or-set_same leaders g q 0 room in
-            ap (λ m. leads key m (get_or now (get_or (slice_set leaders g q) (n / 16) 0) None)) s ∙ ap (λ m. leads key g (get_or now m None)) at ∙ leading
-        | inr o ↦ ap (λ m. leads key (n / 16) (get_or now m None)) (get_or-set_other leaders g (n / 16) q 0 o) ∙ stays j n h o
-      ]
+        (stays : (j n : ℕ) → lists key n (get_or now j None) ≡ true → n / 16 ≢ g
+        → leads key (n / 16) (get_or now (get_or leaders (n / 16) 0) None) ≡ true) where
+      module _ (j n : ℕ) (h : lists key n (get_or now j None) ≡ true) where
+        pub led-with : leads key (n / 16) (get_or now (get_or (slice_set leaders g q) (n / 16) 0) None) ≡ true
+        led-with = elim (cases_eq (n / 16) g) as (λ _. leads key (n / 16) (get_or now (get_or (slice_set leaders g q) (n / 16) 0) None) ≡ true) [
+          | inl s ↦
+              let at : get_or (slice_set leaders g q) (n / 16) 0 ≡ q =
+              ap (λ m. get_or (slice_set leaders g q) m 0) s ∙ get_or-set_same leaders g q 0 room in
+              ap (λ m. leads key m (get_or now (get_or (slice_set leaders g q) (n / 16) 0) None)) s
+              ∙ ap (λ m. leads key g (get_or now m None)) at ∙ leading
+          | inr o ↦ ap (λ m. leads key (n / 16) (get_or now m None)) (get_or-set_other leaders g (n / 16) q 0 o) ∙ stays j n h o
+        ]
 
-      pub listed-with : (j n : ℕ) → lists key n (get_or now j None) ≡ true → indexed_at (slice_set leaders g q) (slice_set places q group) n ≡ j
-      listed-with j n h = elim (cases_eq (n / 16) g) as (λ _. indexed_at (slice_set leaders g q) (slice_set places q group) n ≡ j) [
-        | inl s ↦
-            let at : get_or (slice_set leaders g q) (n / 16) 0 ≡ q = ap (λ m. get_or (slice_set leaders g q) m 0) s ∙ get_or-set_same leaders g q 0 room in
-            ap (λ m. get_or (get_or (slice_set places q group) m []) (n % 16) 0) at
-            ∙ ap (λ ps. get_or ps (n % 16) 0) (get_or-set_same places q group [] inside) ∙ own j n h s
-        | inr o ↦
-            let c = get_or leaders (n / 16) 0 in
-            let other : c ≢ q = λ s. o (leads-one (n / 16) g (get_or now q None) (sym (ap (λ m. leads key (n / 16) (get_or now m None)) s) ∙ stays j n h o) leading) in
-            ap (λ m. get_or (get_or (slice_set places q group) m []) (n % 16) 0) (get_or-set_other leaders g (n / 16) q 0 o)
-            ∙ ap (λ ps. get_or ps (n % 16) 0) (get_or-set_other places q c group [] other) ∙ sound.listed j n (old j n h o)
-      ]
+        pub listed-with : indexed_at (slice_set leaders g q) (slice_set places q group) n ≡ j
+        listed-with = elim (cases_eq (n / 16) g) as (λ _. indexed_at (slice_set leaders g q) (slice_set places q group) n ≡ j) [
+          | inl s ↦
+              let at : get_or (slice_set leaders g q) (n / 16) 0 ≡ q =
+              ap (λ m. get_or (slice_set leaders g q) m 0) s ∙ get_or-set_same leaders g q 0 room in
+              ap (λ m. get_or (get_or (slice_set places q group) m []) (n % 16) 0) at
+              ∙ ap (λ ps. get_or ps (n % 16) 0) (get_or-set_same places q group [] inside) ∙ own j n h s
+          | inr o ↦
+              let c = get_or leaders (n / 16) 0 in
+              let other : c ≢ q = λ s. o (leads-one (n / 16) g (get_or now q None)
+              (sym (ap (λ m. leads key (n / 16) (get_or now m None)) s) ∙ stays j n h o) leading) in
+              ap (λ m. get_or (get_or (slice_set places q group) m []) (n % 16) 0) (get_or-set_other leaders g (n / 16) q 0 o)
+              ∙ ap (λ ps. get_or ps (n % 16) 0) (get_or-set_other places q c group [] other) ∙ sound.listed j n (old j n h o)
+        ]
 
-      pub wide-with : length group ≡ 16 → (i : ℕ) → i < length (slice_set places q group) → length (get_or (slice_set places q group) i []) ≡ 16
+      pub wide-with : length group ≡ 16 → (i : ℕ) → i < length (slice_set places q group)
+          → length (get_or (slice_set places q group) i []) ≡ 16
       wide-with sixteen i l = elim (cases_eq i q) as (λ _. length (get_or (slice_set places q group) i []) ≡ 16) [
         | inl s ↦ ap (λ m. length (get_or (slice_set places q group) m [])) s ∙ ap length (get_or-set_same places q group [] inside) ∙ sixteen
         | inr o ↦ ap length (get_or-set_other places q i group [] o) ∙ sound.wide i (omega (arith, l, length-set places q group))
@@ -207,7 +226,8 @@ module _ {E : Type 0} (key : E → ℕ) where
         ])
 
     -- after an entry was put in the place of one with its key
-    pub IsSoundTable-set : (i : ℕ) (e : E) → lists key (key e) (get_or es i None) ≡ true → IsSoundTable key (slice_set es i (Some e)) numbers leaders places lowest free
+    pub IsSoundTable-set : (i : ℕ) (e : E) → lists key (key e) (get_or es i None) ≡ true
+        → IsSoundTable key (slice_set es i (Some e)) numbers leaders places lowest free
     IsSoundTable-set i e was =
         let inside : i < length es = lists-inside es i (key e) was in
         let is = lists-some (key e) (get_or es i None) was in
@@ -260,10 +280,12 @@ module _ {E : Type 0} (key : E → ℕ) where
     some-free i inside was = omega (arith, sound.counted, get_or-le-sum_by free_one es i None inside, ap free_one was)
 
     -- after an entry was put in a free place, with the old leader of its group or that place as leader
-    pub IsSoundTable-put : (i : ℕ) (e : E) (raised q : ℕ) → i < length es → get_or es i None ≡ None → position (lists key (key e)) es ≡ None → key e < numbers
+    pub IsSoundTable-put : (i : ℕ) (e : E) (raised q : ℕ) → i < length es → get_or es i None ≡ None → position (lists key (key e)) es ≡ None
+        → key e < numbers
         → q ≡ (if leads key (key e / 16) (get_or es (get_or leaders (key e / 16) 0) None) then get_or leaders (key e / 16) 0 else i)
         → ((j : ℕ) → j < raised → j ≢ i → j < lowest)
-        → IsSoundTable key (slice_set es i (Some e)) numbers (slice_set leaders (key e / 16) q) (slice_set places q (slice_set (get_or places q []) (key e % 16) i)) raised (free - 1)
+        → IsSoundTable key (slice_set es i (Some e)) numbers (slice_set leaders (key e / 16) q)
+        (slice_set places q (slice_set (get_or places q []) (key e % 16) i)) raised (free - 1)
     IsSoundTable-put i e raised q inside was unlisted room chosen below =
         let g = key e / 16 in
         let now = slice_set es i (Some e) in
@@ -295,7 +317,8 @@ module _ {E : Type 0} (key : E → ℕ) where
               ap (λ m. get_or group (m % 16) 0) (sym is) ∙ get_or-set_same (get_or places q []) (key e % 16) i 0 (omega (arith, sixteen)) ∙ sym r
           | inr o ↦
               let before : lists key n (get_or es j None) ≡ true = back j n o h in
-              let other : n ≢ key e = λ r. (let both : None ≡ Some j = sym unlisted ∙ ap (λ m. position (lists key m) es) (sym r) ∙ position-listed j n before in cc) in
+              let other : n ≢ key e = λ r. (let both : None ≡ Some j =
+              sym unlisted ∙ ap (λ m. position (lists key m) es) (sym r) ∙ position-listed j n before in cc) in
               let apart : n % 16 ≢ key e % 16 = λ r. other (omega (arith, r, s)) in
               let leads_c : leads key g (get_or es c None) ≡ true
               = sym (ap (λ m. leads key m (get_or es (get_or leaders m 0) None)) s) ∙ sound.led j n before in
@@ -304,7 +327,8 @@ module _ {E : Type 0} (key : E → ℕ) where
         ] in
         let old : (j n : ℕ) → lists key n (get_or now j None) ≡ true → n / 16 ≢ g → lists key n (get_or es j None) ≡ true
         = λ j n h o. back j n (λ r. o (ap (λ m. m / 16) (sym (lists-key_of n _ e h (ap (λ k. get_or now k None) r ∙ here))))) h in
-        let stays : (j n : ℕ) → lists key n (get_or now j None) ≡ true → n / 16 ≢ g → leads key (n / 16) (get_or now (get_or leaders (n / 16) 0) None) ≡ true
+        let stays : (j n : ℕ) → lists key n (get_or now j None) ≡ true → n / 16 ≢ g
+        → leads key (n / 16) (get_or now (get_or leaders (n / 16) 0) None) ≡ true
         = λ j n h o. still (get_or leaders (n / 16) 0) (n / 16) (sound.led j n (old j n h o)) in
         let room_group : g < length leaders = group-inside (key e) room in
         record {
@@ -326,7 +350,8 @@ module _ {E : Type 0} (key : E → ℕ) where
         }
 
     -- after another entry took over to lead a group
-    pub IsSoundTable-led : (g q : ℕ) → leads key g (get_or es q None) ≡ true → leads key g (get_or es (get_or leaders g 0) None) ≡ true → g < length leaders
+    pub IsSoundTable-led : (g q : ℕ) → leads key g (get_or es q None) ≡ true → leads key g (get_or es (get_or leaders g 0) None) ≡ true
+        → g < length leaders
         → IsSoundTable key es numbers (slice_set leaders g q) (slice_set places q (get_or places (get_or leaders g 0) [])) lowest free
     IsSoundTable-led g q leading leads_c room =
         let c = get_or leaders g 0 in
@@ -336,7 +361,8 @@ module _ {E : Type 0} (key : E → ℕ) where
         let own : (j n : ℕ) → lists key n (get_or es j None) ≡ true → n / 16 ≡ g → get_or group (n % 16) 0 ≡ j
         = λ j n h s. ap (λ m. get_or (get_or places (get_or leaders m 0) []) (n % 16) 0) (sym s) ∙ sound.listed j n h in
         let old : (j n : ℕ) → lists key n (get_or es j None) ≡ true → n / 16 ≢ g → lists key n (get_or es j None) ≡ true = λ j n h o. h in
-        let stays : (j n : ℕ) → lists key n (get_or es j None) ≡ true → n / 16 ≢ g → leads key (n / 16) (get_or es (get_or leaders (n / 16) 0) None) ≡ true
+        let stays : (j n : ℕ) → lists key n (get_or es j None) ≡ true → n / 16 ≢ g
+        → leads key (n / 16) (get_or es (get_or leaders (n / 16) 0) None) ≡ true
         = λ j n h o. sound.led j n h in
         record {
           listed = listed-with es g q group room in_places leading own old stays;
@@ -397,15 +423,18 @@ module _ {E : Type 0} (key : E → ℕ) where
         = sym none ∙ ap (λ m. lists key m (get_or es (get_or group (n % 16) 0) None)) number ∙ ap (λ k. lists key n (get_or es k None)) at ∙ h in cc
 
   -- after an entry was cleared, and another leads its group if any lists a number of it
-  pub IsSoundTable-cleared : (es : List (Option E)) (numbers : ℕ) (leaders : List ℕ) (places : List (List ℕ)) (lowest free : ℕ) → IsSoundTable key es numbers leaders places lowest free
+  pub IsSoundTable-cleared : (es : List (Option E)) (numbers : ℕ) (leaders : List ℕ) (places : List (List ℕ)) (lowest free : ℕ)
+      → IsSoundTable key es numbers leaders places lowest free
       → (i : ℕ) (e : E) (q : ℕ) → get_or es i None ≡ Some e → leads key (key e / 16) (get_or es q None) ≡ true
       → (q ≡ i → IsLastOf key (key e / 16) es (get_or places (get_or leaders (key e / 16) 0) []) (get_or leaders (key e / 16) 0) i)
-      → IsSoundTable key (slice_set es i None) numbers (slice_set leaders (key e / 16) q) (slice_set places q (get_or places (get_or leaders (key e / 16) 0) [])) (min lowest i) (free + 1)
+      → IsSoundTable key (slice_set es i None) numbers (slice_set leaders (key e / 16) q)
+      (slice_set places q (get_or places (get_or leaders (key e / 16) 0) [])) (min lowest i) (free + 1)
   IsSoundTable-cleared es numbers leaders places lowest free sound i e q was leading last =
       let g = key e / 16 in
       let room : g < length leaders = group-here es numbers leaders places lowest free sound i e was in
       IsSoundTable-clear es numbers (slice_set leaders g q) (slice_set places q (get_or places (get_or leaders g 0) [])) lowest free
-      (IsSoundTable-led es numbers leaders places lowest free sound g q leading (leads-here es numbers leaders places lowest free sound i e was) room) i e was
+      (IsSoundTable-led es numbers leaders places lowest free sound g q leading
+      (leads-here es numbers leaders places lowest free sound i e was) room) i e was
       (λ j n other h s r.
       let same : q ≡ i = sym (get_or-set_same leaders g q 0 room) ∙ r in
       none-follows es numbers leaders places lowest free sound i g (last same) j n other h s)

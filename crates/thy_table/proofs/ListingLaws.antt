@@ -95,7 +95,8 @@ module _ {E : Type 0} (key : E → ℕ) where
   }
 
   -- two entries that list one number are one
-  pub found-once : (t : Listing E) → IsListing key t → (i j n : ℕ) → lists key n (entry_at t i) ≡ true → lists key n (entry_at t j) ≡ true → i ≡ j
+  pub found-once : (t : Listing E) → IsListing key t → (i j n : ℕ) → lists key n (entry_at t i) ≡ true → lists key n (entry_at t j) ≡ true
+      → i ≡ j
   found-once t listing i j n here there = let both : Some i ≡ Some j = sym (listing.found i n here) ∙ listing.found j n there in cc
 
   -- entries are a listing if no number is listed twice and each is below the limit
@@ -111,7 +112,8 @@ module _ {E : Type 0} (key : E → ℕ) where
   }
 
   -- a number that is listed as before is found as before
-  pub index_of-as : (t u : Listing E) (n : ℕ) → IsListing key u → ((i : ℕ) → lists key n (entry_at u i) ≡ lists key n (entry_at t i)) → index_of key n u ≡ index_of key n t
+  pub index_of-as : (t u : Listing E) (n : ℕ) → IsListing key u → ((i : ℕ) → lists key n (entry_at u i) ≡ lists key n (entry_at t i))
+      → index_of key n u ≡ index_of key n t
   index_of-as t u n listing same = by_place (index_of key n t) refl where
     by_place : (o : Option ℕ) → index_of key n t ≡ o → index_of key n u ≡ index_of key n t
     by_place (Some i) e = listing.found i n (same i ∙ index_of-lists t n i e) ∙ sym e
@@ -119,10 +121,12 @@ module _ {E : Type 0} (key : E → ℕ) where
 
   -- one entry was written, and what it lists is listed nowhere else
   pub IsListing-with : (t : Listing E) (i : ℕ) (o : Option E) → IsListing key t → i < length t.entries
-      → ((n : ℕ) → lists key n o ≡ true → (n < t.numbers) × ((j : ℕ) → j ≢ i → lists key n (entry_at t j) ≡ false)) → IsListing key (with_entry i o t)
+      → ((n : ℕ) → lists key n o ≡ true → (n < t.numbers) × ((j : ℕ) → j ≢ i → lists key n (entry_at t j) ≡ false))
+      → IsListing key (with_entry i o t)
   IsListing-with t i o listing inside alone =
       let u = with_entry i o t in
-      let here : (n : ℕ) → lists key n (entry_at u i) ≡ true → lists key n o ≡ true = λ n h. sym (ap (lists key n) (entry_at-with_same t i o inside)) ∙ h in
+      let here : (n : ℕ) → lists key n (entry_at u i) ≡ true → lists key n o ≡ true =
+      λ n h. sym (ap (lists key n) (entry_at-with_same t i o inside)) ∙ h in
       let there : (j n : ℕ) → j ≢ i → lists key n (entry_at u j) ≡ true → lists key n (entry_at t j) ≡ true
       = λ j n other h. sym (ap (lists key n) (entry_at-with_other t i j o other)) ∙ h in
       IsListing-once u
@@ -159,18 +163,21 @@ module _ {E : Type 0} (key : E → ℕ) where
           ],
         ))
 
-    -- one entry more, of a number that was not listed
-    pub IsListing-put : (i : ℕ) (e : E) → i < length t.entries → index_of key (key e) t ≡ None → key e < t.numbers → IsListing key (with_entry i (Some e) t)
-    IsListing-put i e inside unlisted room = IsListing-with t i (Some e) listing inside
-        (λ n h.
-        let is : key e ≡ n = lists-key_of key n (Some e) e h refl in
-        (omega arith, λ j _. ap (λ m. lists key m (entry_at t j)) (sym is) ∙ none-lists t (key e) unlisted j))
+    module _ (i : ℕ) (e : E) (inside : i < length t.entries) (unlisted : index_of key (key e) t ≡ None) (room : key e < t.numbers) where
+      -- one entry more, of a number that was not listed
+      pub IsListing-put : IsListing key (with_entry i (Some e) t)
+      IsListing-put = IsListing-with t i (Some e) listing inside
+          (λ n h.
+          let is : key e ≡ n = lists-key_of key n (Some e) e h refl in
+          (omega arith, λ j _. ap (λ m. lists key m (entry_at t j)) (sym is) ∙ none-lists t (key e) unlisted j))
 
-    pub index_of-put : (i : ℕ) (e : E) → i < length t.entries → index_of key (key e) t ≡ None → key e < t.numbers → index_of key (key e) (with_entry i (Some e) t) ≡ Some i
-    index_of-put i e inside unlisted room =
-        (IsListing-put i e inside unlisted room).found i (key e) (lists-key key (key e) (entry_at (with_entry i (Some e) t) i) e (entry_at-with_same t i (Some e) inside) refl)
+      pub index_of-put : index_of key (key e) (with_entry i (Some e) t) ≡ Some i
+      index_of-put =
+          (IsListing-put).found i (key e)
+          (lists-key key (key e) (entry_at (with_entry i (Some e) t) i) e (entry_at-with_same t i (Some e) inside) refl)
 
-    pub index_of-put_other : (i : ℕ) (e : E) (n : ℕ) → i < length t.entries → entry_at t i ≡ None → index_of key (key e) t ≡ None → key e < t.numbers → n ≢ key e
+    pub index_of-put_other : (i : ℕ) (e : E) (n : ℕ) → i < length t.entries → entry_at t i ≡ None → index_of key (key e) t ≡ None
+        → key e < t.numbers → n ≢ key e
         → index_of key n (with_entry i (Some e) t) ≡ index_of key n t
     index_of-put_other i e n inside was unlisted room other = index_of-as t (with_entry i (Some e) t) n (IsListing-put i e inside unlisted room)
         (λ j. elim (cases_eq j i) as (λ _. lists key n (entry_at (with_entry i (Some e) t) j) ≡ lists key n (entry_at t j)) [
@@ -198,7 +205,8 @@ module _ {E : Type 0} (key : E → ℕ) where
               ]
         ])
 
-    pub index_of-cleared_other : (i : ℕ) (e : E) (n : ℕ) → entry_at t i ≡ Some e → n ≢ key e → index_of key n (with_entry i None t) ≡ index_of key n t
+    pub index_of-cleared_other : (i : ℕ) (e : E) (n : ℕ) → entry_at t i ≡ Some e → n ≢ key e
+        → index_of key n (with_entry i None t) ≡ index_of key n t
     index_of-cleared_other i e n was other =
         let inside : i < length t.entries = lists-inside key t.entries i (key e) (lists-key key (key e) (entry_at t i) e was refl) in
         index_of-as t (with_entry i None t) n (IsListing-cleared i inside)
@@ -231,9 +239,11 @@ module _ {E : Type 0} (key : E → ℕ) where
       index_of-mapped_cleared i e was goes = index_of-none (mapped rule t) (key e)
           (λ j. elim (cases_Bool (lists key (key e) (entry_at (mapped rule t) j))) as (λ _. lists key (key e) (entry_at (mapped rule t) j) ≡ false) [
             | inl s ↦
-                let old : lists key (key e) (entry_at t j) ≡ true = lists-mapped (entry_at t j) (key e) (sym (ap (lists key (key e)) (entry_at-mapped rule t j)) ∙ s) in
+                let old : lists key (key e) (entry_at t j) ≡ true =
+                lists-mapped (entry_at t j) (key e) (sym (ap (lists key (key e)) (entry_at-mapped rule t j)) ∙ s) in
                 let same : j ≡ i = found-once t listing j i (key e) old (lists-key key (key e) (entry_at t i) e was refl) in
-                let none : entry_at (mapped rule t) j ≡ None = entry_at-mapped rule t j ∙ ap (λ k. option_and_then rule (entry_at t k)) same ∙ ap (option_and_then rule) was ∙ goes in
+                let none : entry_at (mapped rule t) j ≡ None =
+                entry_at-mapped rule t j ∙ ap (λ k. option_and_then rule (entry_at t k)) same ∙ ap (option_and_then rule) was ∙ goes in
                 let both : false ≡ true = sym (ap (lists key (key e)) none) ∙ s in cc
             | inr s ↦ s
           ])
@@ -243,7 +253,8 @@ module _ {E : Type 0} (key : E → ℕ) where
       index_of-mapped_none n unlisted = index_of-none (mapped rule t) n
           (λ j. elim (cases_Bool (lists key n (entry_at (mapped rule t) j))) as (λ _. lists key n (entry_at (mapped rule t) j) ≡ false) [
             | inl s ↦
-                let old : lists key n (entry_at t j) ≡ true = lists-mapped (entry_at t j) n (sym (ap (lists key n) (entry_at-mapped rule t j)) ∙ s) in
+                let old : lists key n (entry_at t j) ≡ true =
+                lists-mapped (entry_at t j) n (sym (ap (lists key n) (entry_at-mapped rule t j)) ∙ s) in
                 let both : false ≡ true = sym (none-lists t n unlisted j) ∙ old in cc
             | inr s ↦ s
           ])

@@ -13,24 +13,25 @@ abbrev pub mapped_to : {E : Type 0} → (E → Option E) → ℕ → Listing E �
 mapped_to rule i t = listing (mapped_below (option_and_then rule) i t.entries) t.numbers
 
 module _ {X : Type 0} (f : X → X) (d : X) where
-  front : (xs : List X) (i : ℕ) → i < length xs → length (map f (take i xs)) ≡ i
-  front xs i l = length-map (take i xs) f ∙ length-take-le i xs (omega arith)
+  module _ (xs : List X) (i : ℕ) (l : i < length xs) where
+    front : length (map f (take i xs)) ≡ i
+    front = length-map (take i xs) f ∙ length-take-le i xs (omega arith)
 
-  here : (xs : List X) (i : ℕ) → i < length xs → mapped_below f i xs ≡ map f (take i xs) ++ get_or xs i d ∷ drop (i + 1) xs
-  here xs i l = ap (λ ys. map f (take i xs) ++ ys) (drop_more xs i d l)
+    here : mapped_below f i xs ≡ map f (take i xs) ++ get_or xs i d ∷ drop (i + 1) xs
+    here = ap (λ ys. map f (take i xs) ++ ys) (drop_more xs i d l)
 
-  next : (xs : List X) (i : ℕ) → i < length xs → mapped_below f (i + 1) xs ≡ map f (take i xs) ++ f (get_or xs i d) ∷ drop (i + 1) xs
-  next xs i l = ap (λ ys. ys ++ drop (i + 1) xs) (map_more f xs i d l) ∙ append_assoc (map f (take i xs)) (f (get_or xs i d) ∷ []) (drop (i + 1) xs)
+    next : mapped_below f (i + 1) xs ≡ map f (take i xs) ++ f (get_or xs i d) ∷ drop (i + 1) xs
+    next = ap (λ ys. ys ++ drop (i + 1) xs) (map_more f xs i d l) ∙ append_assoc (map f (take i xs)) (f (get_or xs i d) ∷ []) (drop (i + 1) xs)
 
-  pub get_or-mapped_below : (xs : List X) (i : ℕ) → i < length xs → get_or (mapped_below f i xs) i d ≡ get_or xs i d
-  get_or-mapped_below xs i l =
-      ap (λ ys. get_or ys i d) (here xs i l) ∙ get_or_at (map f (take i xs)) (get_or xs i d) (drop (i + 1) xs) d i (front xs i l)
+    pub get_or-mapped_below : get_or (mapped_below f i xs) i d ≡ get_or xs i d
+    get_or-mapped_below =
+        ap (λ ys. get_or ys i d) here ∙ get_or_at (map f (take i xs)) (get_or xs i d) (drop (i + 1) xs) d i front
 
-  -- one element more
-  pub mapped_below-more : (xs : List X) (i : ℕ) → i < length xs → slice_set (mapped_below f i xs) i (f (get_or xs i d)) ≡ mapped_below f (i + 1) xs
-  mapped_below-more xs i l =
-      ap (λ ys. slice_set ys i (f (get_or xs i d))) (here xs i l)
-      ∙ set_at (map f (take i xs)) (get_or xs i d) (drop (i + 1) xs) (f (get_or xs i d)) i (front xs i l) ∙ sym (next xs i l)
+    -- one element more
+    pub mapped_below-more : slice_set (mapped_below f i xs) i (f (get_or xs i d)) ≡ mapped_below f (i + 1) xs
+    mapped_below-more =
+        ap (λ ys. slice_set ys i (f (get_or xs i d))) here
+        ∙ set_at (map f (take i xs)) (get_or xs i d) (drop (i + 1) xs) (f (get_or xs i d)) i front ∙ sym next
 
   pub mapped_below-all : (xs : List X) (i : ℕ) → length xs ≤ i → mapped_below f i xs ≡ map f xs
   mapped_below-all xs i l =
@@ -39,19 +40,20 @@ module _ {X : Type 0} (f : X → X) (d : X) where
   pub length-mapped_below : (xs : List X) (i : ℕ) → i ≤ length xs → length (mapped_below f i xs) ≡ length xs
   length-mapped_below xs i l = grind (arith, length-append {A = X}, length-map (take i xs) f, length-take-le i xs l, length-drop i xs)
 
--- a table after a rule was applied to the entries below a place, one place further
-pub mapped_to-more : {E : Type 0} (rule : E → Option E) (t now : Listing E) (i : ℕ) → i < length t.entries → now ≡ mapped_to rule i t
-    → with_entry i (option_and_then rule (entry_at now i)) now ≡ mapped_to rule (i + 1) t
-mapped_to-more rule t now i l e =
-    let f = option_and_then rule in
-    ap (λ u. with_entry i (f (entry_at u i)) u) e
-    ∙ ap (λ o. listing (slice_set (mapped_below f i t.entries) i (f o)) t.numbers) (get_or-mapped_below f None t.entries i l)
-    ∙ ap (λ es. listing es t.numbers) (mapped_below-more f None t.entries i l)
+module _ {E : Type 0} (rule : E → Option E) (t : Listing E) where
+  -- a table after a rule was applied to the entries below a place, one place further
+  pub mapped_to-more : (now : Listing E) (i : ℕ) → i < length t.entries → now ≡ mapped_to rule i t
+      → with_entry i (option_and_then rule (entry_at now i)) now ≡ mapped_to rule (i + 1) t
+  mapped_to-more now i l e =
+      let f = option_and_then rule in
+      ap (λ u. with_entry i (f (entry_at u i)) u) e
+      ∙ ap (λ o. listing (slice_set (mapped_below f i t.entries) i (f o)) t.numbers) (get_or-mapped_below f None t.entries i l)
+      ∙ ap (λ es. listing es t.numbers) (mapped_below-more f None t.entries i l)
 
--- a table in which a rule was applied below a place past the last entry is one in which it was applied to all
-pub mapped_to-all : {E : Type 0} (rule : E → Option E) (t : Listing E) (i : ℕ) → length t.entries ≤ i → mapped_to rule i t ≡ mapped rule t
-mapped_to-all rule t i l = ap (λ es. listing es t.numbers) (mapped_below-all (option_and_then rule) None t.entries i l)
+  -- a table in which a rule was applied below a place past the last entry is one in which it was applied to all
+  pub mapped_to-all : (i : ℕ) → length t.entries ≤ i → mapped_to rule i t ≡ mapped rule t
+  mapped_to-all i l = ap (λ es. listing es t.numbers) (mapped_below-all (option_and_then rule) None t.entries i l)
 
--- a rule leaves the number of entries
-pub length-mapped_to : {E : Type 0} (rule : E → Option E) (t : Listing E) (i : ℕ) → i ≤ length t.entries → length (mapped_to rule i t).entries ≡ length t.entries
-length-mapped_to rule t i l = length-mapped_below (option_and_then rule) None t.entries i l
+  -- a rule leaves the number of entries
+  pub length-mapped_to : (i : ℕ) → i ≤ length t.entries → length (mapped_to rule i t).entries ≡ length t.entries
+  length-mapped_to i l = length-mapped_below (option_and_then rule) None t.entries i l

@@ -15,7 +15,8 @@ use Rattle.thy_table.specs.Devices.{Devices, AreSized, NoMoreAt, read_at, writte
 use Rattle.thy_table.specs.DeviceLaws.{ReadsTheSame}
 
 -- two places of one device have two numbers
-pub numbers_apart : (p : Parameters) (x y : Place) → IsPlace p x → IsPlace p y → in_dram x ≡ in_dram y → y ≢ x → number_of p y ≢ number_of p x
+pub numbers_apart : (p : Parameters) (x y : Place) → IsPlace p x → IsPlace p y → in_dram x ≡ in_dram y → y ≢ x
+    → number_of p y ≢ number_of p x
 numbers_apart p x y px py same other e = other (sym (numbers_name p x y px py same (sym e)))
 
 -- a place of the NVM is within its image
@@ -71,7 +72,8 @@ read_at-written_other p d place other block here there sized ne =
     (λ side. numbers_apart p place other here there side ne)
     (λ side. let l : number_of p other < image_blocks p = within_image p other there side in omega (arith, sized.nvm))
 
-no_more-on : (side : Bool) (at x : ℕ) (block : Block) (d : Devices) → (side ≡ false → x ≢ at) → NoMoreAt x d.nvm (written_on side at block d).nvm
+no_more-on : (side : Bool) (at x : ℕ) (block : Block) (d : Devices) → (side ≡ false → x ≢ at)
+    → NoMoreAt x d.nvm (written_on side at block d).nvm
 no_more-on true at x block d other = record { no_more = λ b h. h }
 no_more-on false at x block d other = record { no_more = λ b h. no_more-written_to_other d.nvm at block x b (other refl) h }
 
@@ -98,7 +100,8 @@ sized-on p true at block d s = record { nvm = s.nvm; dram = length-set d.dram.bl
 sized-on p false at block d s = record { nvm = length-written_to d.nvm at block ∙ s.nvm; dram = s.dram }
 
 -- a write leaves both devices as long as they were
-pub AreSized-written_at : (p : Parameters) (d : Devices) (place : Place) (block : Block) → AreSized p d → AreSized p (written_at p place block d)
+pub AreSized-written_at : (p : Parameters) (d : Devices) (place : Place) (block : Block) → AreSized p d
+    → AreSized p (written_at p place block d)
 AreSized-written_at p d place block s = sized-on p (in_dram place) (number_of p place) block d s
 
 read_on-nvm : (side : Bool) (x : ℕ) (d : Devices) (nvm : Device) → (side ≡ false → newest nvm x ≡ newest d.nvm x)
@@ -106,30 +109,36 @@ read_on-nvm : (side : Bool) (x : ℕ) (d : Devices) (nvm : Device) → (side ≡
 read_on-nvm true x d nvm same = refl
 read_on-nvm false x d nvm same = same refl
 
--- if every place of the NVM reads as before, every place of both devices does
-pub reads_the_same : (p : Parameters) (d : Devices) (nvm : Device) → AreSized p d → length nvm.image ≡ length d.nvm.image
-    → ((x : ℕ) → x < length d.nvm.image → newest nvm x ≡ newest d.nvm x) → ReadsTheSame p d (record d { nvm = nvm })
-reads_the_same p d nvm sized long each = record {
-  same = λ place there. read_on-nvm (in_dram place) (number_of p place) d nvm
-      (λ side. let l : number_of p place < image_blocks p = within_image p place there side in each (number_of p place) (omega (arith, sized.nvm)));
-  sized = record { nvm = long ∙ sized.nvm; dram = sized.dram };
-}
+module _ (p : Parameters) (d : Devices) where
+  -- if every place of the NVM reads as before, every place of both devices does
+  pub reads_the_same : (nvm : Device) → AreSized p d → length nvm.image ≡ length d.nvm.image
+      → ((x : ℕ) → x < length d.nvm.image → newest nvm x ≡ newest d.nvm x) → ReadsTheSame p d (record d { nvm = nvm })
+  reads_the_same nvm sized long each = record {
+    same = λ place there. read_on-nvm (in_dram place) (number_of p place) d nvm
+        (λ side. let l : number_of p place < image_blocks p = within_image p place there side in
+        each (number_of p place) (omega (arith, sized.nvm)));
+    sized = record { nvm = long ∙ sized.nvm; dram = sized.dram };
+  }
 
--- a drain moves nothing that is read
-pub ReadsTheSame-drained : (p : Parameters) (d : Devices) → AreSized p d → ReadsTheSame p d (record d { nvm = drained d.nvm })
-ReadsTheSame-drained p d sized = reads_the_same p d (drained d.nvm) sized (length-drained d.nvm) (newest-drained d.nvm)
+  -- a drain moves nothing that is read
+  pub ReadsTheSame-drained : AreSized p d → ReadsTheSame p d (record d { nvm = drained d.nvm })
+  ReadsTheSame-drained sized = reads_the_same (drained d.nvm) sized (length-drained d.nvm) (newest-drained d.nvm)
 
--- a barrier changes nothing that is read
-pub ReadsTheSame-settled : (p : Parameters) (d : Devices) (count : ℕ) → AreSized p d → ReadsTheSame p d (record d { nvm = settled count d.nvm })
-ReadsTheSame-settled p d count sized = reads_the_same p d (settled count d.nvm) sized (length-settled count d.nvm) (newest-settled count d.nvm)
+  -- a barrier changes nothing that is read
+  pub ReadsTheSame-settled : (count : ℕ) → AreSized p d → ReadsTheSame p d (record d { nvm = settled count d.nvm })
+  ReadsTheSame-settled count sized = reads_the_same (settled count d.nvm) sized (length-settled count d.nvm) (newest-settled count d.nvm)
 
--- a drain of the DRAM changes nothing that is read
-pub ReadsTheSame-dram_drained : (p : Parameters) (d : Devices) → AreSized p d → ReadsTheSame p d (record d { dram = dram_drained d.dram })
-ReadsTheSame-dram_drained p d sized = record { same = λ place there. refl; sized = record { nvm = sized.nvm; dram = sized.dram } }
+  -- a drain of the DRAM changes nothing that is read
+  pub ReadsTheSame-dram_drained : AreSized p d → ReadsTheSame p d (record d { dram = dram_drained d.dram })
+  ReadsTheSame-dram_drained sized = record { same = λ place there. refl; sized = record { nvm = sized.nvm; dram = sized.dram } }
 
 -- a write at a place leaves the NVM up or down as it was
 pub down-written : (p : Parameters) (x : Place) (block : Block) (d : Devices) → (written_at p x block d).nvm.down ≡ d.nvm.down
 down-written p x block d = by_side (in_dram x) where
-  by_side : (side : Bool) → (if side then record d { dram = written d.dram (number_of p x) block } else record d { nvm = written_to d.nvm (number_of p x) block }).nvm.down ≡ d.nvm.down
+  by_side : (side : Bool)
+      → (if side then record d { dram = written d.dram (number_of p x) block } else record d {
+        nvm =
+            written_to d.nvm (number_of p x) block;
+      }).nvm.down ≡ d.nvm.down
   by_side true = refl
   by_side false = refl

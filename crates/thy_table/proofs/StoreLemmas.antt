@@ -35,7 +35,8 @@ facts_of_buffer framed busy w agrees Settled n = (λ e. cc, n)
 facts_of_buffer framed busy w agrees FromAlternate n = (λ e. cc, n)
 facts_of_buffer framed busy w agrees FromBuffer n = refl
 
-facts_of : (framed busy : Bool) (w : Working) (agrees : Bool) (pend : Pending) → Facts (rule_of framed busy w agrees pend) framed busy w agrees pend
+facts_of : (framed busy : Bool) (w : Working) (agrees : Bool) (pend : Pending)
+    → Facts (rule_of framed busy w agrees pend) framed busy w agrees pend
 facts_of true false NoWork agrees pend = (refl, refl, refl)
 facts_of true false InNvm agrees pend = facts_of_buffer true false InNvm agrees pend (λ a b e. cc)
 facts_of true false InBuffer agrees pend = facts_of_buffer true false InBuffer agrees pend (λ a b e. cc)

@@ -104,3 +104,8 @@ module _ {E : Type 0} where
     pub full_below : (i : ℕ) → i < lowest → is_some (slice_index_or entries i None) ≡ true
     pub counted : free ≡ count_by is_none entries
     pub few : length entries ≤ 2 ^ 32
+
+  -- each live entry lies below this place
+  pub record AreLiveBelow (entries : List (Option E)) (end : ℕ) : Type 0 where
+    pub free : (i : ℕ) → end ≤ i → slice_index_or entries i None ≡ None
+    pub within : end ≤ length entries

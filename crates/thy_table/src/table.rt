@@ -1,6 +1,6 @@
 //! The table.
-ghost use Rattle.std.specs.Prelude.{ℕ, ◌≡◌, ◌≢◌, ◌<◌, ◌≤◌, ◌^◌, ◌++◌, [], ◌∷◌, Some, None, true, length, replicate, slice_index_or, is_none, is_some, position, option_and_then, IfOk, IsSome, IfSome, ◌↔◌, if◌then◌else◌};
-ghost use Rattle.thy_table.specs.Listing.{empty_table, entry_at, passes, lists, leads, IsLastOf, index_of, free_index, free_count, with_entry, added, mapped, first_from, next_from, indexed_at, IsListing};
+ghost use Rattle.std.specs.Prelude.{ℕ, ◌≡◌, ◌≢◌, ◌<◌, ◌≤◌, ◌+◌, ◌^◌, ◌++◌, [], ◌∷◌, Some, None, true, length, replicate, slice_index_or, is_none, is_some, position, option_and_then, IfOk, IsSome, IfSome, ◌↔◌, if◌then◌else◌};
+ghost use Rattle.thy_table.specs.Listing.{empty_table, entry_at, passes, lists, leads, IsLastOf, AreLiveBelow, index_of, free_index, free_count, with_entry, added, mapped, first_from, next_from, indexed_at, IsListing};
 
 use crate::keyed::Keyed;
 use crate::rules::{Rule, Test};
@@ -23,11 +23,13 @@ pub struct Table<E: Keyed> {
     places: Vec<[u32; GROUP]>,
     /// No entry below this place is free.
     lowest: usize,
+    /// Every entry from this place on is free: what goes over the live ones ends here.
+    live_end: usize,
     free: u64,
 }
 
 impl<E: Keyed> Model for Table<E> {
-    ghost use Rattle.thy_table.specs.Listing.{Listing, listing, listing_code, IsSoundTable};
+    ghost use Rattle.thy_table.specs.Listing.{Listing, listing, listing_code, IsSoundTable, AreLiveBelow};
 
     ghost Value = { Listing E };
 
@@ -36,7 +38,8 @@ impl<E: Keyed> Model for Table<E> {
     ghost view = { λ t. listing t.entries.items t.numbers };
 
     ghost invariant = { λ t.
-        IsSoundTable E.key t.entries.items t.numbers t.leaders.items t.places.items t.lowest t.free };
+        (IsSoundTable E.key t.entries.items t.numbers t.leaders.items t.places.items t.lowest t.free)
+        × (AreLiveBelow t.entries.items t.live_end) };
 }
 
 /// A list of this many copies of an element.
@@ -142,6 +145,31 @@ fn raised(lowest: usize, taken: usize) -> usize
     if lowest == taken { taken + 1 } else { lowest }
 }
 
+/// The end of the live entries once one more is taken, at a place.
+fn raised_end(end: usize, taken: usize) -> usize
+    requires { taken < 2 ^ 32 }
+    ensures kept { end ≤ result }
+    ensures over { taken < result }
+    ensures least { (n : ℕ) → end ≤ n → taken < n → result ≤ n }
+{
+    if taken < end { end } else { taken + 1 }
+}
+
+/// The end of the live entries, from a place which none of them lies at or above.
+fn lowered_end<E: Keyed>(entries: &[Option<E>], end: usize) -> usize
+    requires { AreLiveBelow entries.now end }
+    ensures live { AreLiveBelow entries.now result }
+    ensures last { (k : ℕ) → result ≡ k + 1 → is_some (slice_index_or entries.now k None) ≡ true }
+{
+    for past in 0..end {
+        let last = end - 1 - past;
+        if entries[last].is_some() {
+            return last + 1;
+        }
+    }
+    0
+}
+
 impl<E: Keyed> Table<E> {
     /// A table of `size` free entries, at most `2^32`, that can list the numbers below `numbers`.
     pub fn new(alloc: Global, size: u64, numbers: u64) -> Result<Table<E>, AllocError>
@@ -157,6 +185,7 @@ impl<E: Keyed> Table<E> {
             leaders,
             places,
             lowest: 0,
+            live_end: 0,
             free: size,
         })
     }
@@ -174,6 +203,14 @@ impl<E: Keyed> Table<E> {
         ensures { result ≡ free_count self.now }
     {
         self.free
+    }
+
+    /// A place that each live entry lies below: what goes over them can end there.
+    pub fn live_end(&self) -> usize
+        ensures free { (i : ℕ) → result ≤ i → entry_at self.now i ≡ None }
+        ensures within { result ≤ length self.now.entries }
+    {
+        self.live_end
     }
 
     /// The place of the entry that lists a number.
@@ -249,6 +286,7 @@ impl<E: Keyed> Table<E> {
         self.entries[place] = Some(entry);
         self.places[leader][(number % GROUP as u64) as usize] = place as u32;
         self.lowest = raised(self.lowest, place);
+        self.live_end = raised_end(self.live_end, place);
         self.free -= 1;
     }
 
@@ -274,6 +312,7 @@ impl<E: Keyed> Table<E> {
             self.leaders[group as usize] = next as u32;
             self.entries[i] = None;
             self.lowest = self.lowest.min(i);
+            self.live_end = lowered_end(&self.entries, self.live_end);
             self.free += 1;
         }
     }
@@ -282,7 +321,8 @@ impl<E: Keyed> Table<E> {
     pub fn map_entries<R: Rule<E>>(&mut self, rule: &R)
         ensures { self.new ≡ mapped (R.gives rule.now) self.old }
     {
-        for i in 0..self.size() {
+        let end = self.live_end();
+        for i in 0..end {
             self.map_entry(i, rule);
         }
     }
@@ -305,7 +345,7 @@ impl<E: Keyed> Table<E> {
         ensures place { result ≡ next_from (T.holds test.now) from self.now }
         ensures inside { IfSome result (λ i. i < length self.now.entries) }
     {
-        for i in from..self.entries.len() {
+        for i in from..self.live_end {
             if let Some(entry) = self.entries[i]
                 && test.test(&entry)
             {

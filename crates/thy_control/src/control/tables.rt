@@ -1,8 +1,9 @@
 //! The tables of the checkpoint under way, and the counts of the epoch before, as blocks.
-ghost use Rattle.std.specs.Prelude.{◌≡◌, ◌+◌, ◌-◌, ◌<◌, ◌≤◌, ◌++◌, length, map, option_and_then};
+ghost use Rattle.std.specs.Prelude.{◌≡◌, ℕ, None, ◌+◌, ◌-◌, ◌<◌, ◌≤◌, ◌++◌, length, map, option_and_then};
 ghost use Rattle.thy_record.specs.TableBlocks.{table_block_of};
 ghost use Rattle.thy_layout.specs.Entries.{entry_at as listed_at};
 ghost use Rattle.thy_table.specs.LastBlocks.{last_block_of};
+ghost use Rattle.thy_table.specs.Listing.{entry_at};
 ghost use Rattle.thy_table.specs.Places.{table_blocks, count_blocks};
 ghost use Rattle.thy_control.specs.TableBlocks.{block_due, page_due};
 
@@ -51,6 +52,22 @@ fn listed_by(btt: &Btt, ptt: &Ptt, n: usize) -> Option<u64>
     }
 }
 
+/// How many of the eight entries from this place on can list something: each one after them is a free entry of the block table.
+fn live_among(btt: &Btt, first: usize) -> usize
+    ensures few { result ≤ 8 }
+    ensures free { (i : ℕ) → result ≤ i → i < 8 → (first + i < length btt.now.entries) × (entry_at btt.now (first + i) ≡ None) }
+{
+    let left = btt.size().saturating_sub(first);
+    let live = btt.live_end().saturating_sub(first);
+    if left < 8 {
+        8
+    } else if live < 8 {
+        live
+    } else {
+        8
+    }
+}
+
 impl Control {
     ghost use Rattle.thy_control.specs.CheckpointTables.{tables1};
     ghost use Rattle.thy_control.specs.TableBlocks.{entries_of};
@@ -87,15 +104,17 @@ impl Control {
         table_block(&self.listed_in(k))
     }
 
-    /// The eight entries of a block of the tables.
+    /// The eight entries of a block of the tables. Most blocks are of free entries alone.
     fn listed_in(&self, k: u64) -> [Option<u64>; 8]
         requires { k < table_blocks self.now.p }
         ensures { result ≡ entries_of (tables1 self.now) k }
     {
         self.recall_tables();
         let mut entries = [None; 8];
-        for i in 0..8 {
-            entries[i] = listed_by(&self.btt, &self.ptt, 8 * k as usize + i);
+        let first = 8 * k as usize;
+        let live = live_among(&self.btt, first);
+        for i in 0..live {
+            entries[i] = listed_by(&self.btt, &self.ptt, first + i);
         }
         entries
     }

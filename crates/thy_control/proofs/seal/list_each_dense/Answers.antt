@@ -13,6 +13,7 @@ loop-page-preserved c = record {
       ∙ with_pages-more c.args.counts.now c.loop-page.page t;
   numbers =
       ap (λ t. t.numbers) c.list_if_dense.ensures
-      ∙ with_dense-numbers c.args.counts.now c.loop-page.page c.loop-page.ptt (omega (arith, c.loop-page.invariant.numbers, c.requires.numbers, c.requires.inside))
+      ∙ with_dense-numbers c.args.counts.now c.loop-page.page c.loop-page.ptt
+      (omega (arith, c.loop-page.invariant.numbers, c.requires.numbers, c.requires.inside))
       ∙ c.loop-page.invariant.numbers;
 }

@@ -7,7 +7,8 @@ pub returns-then-is_none : goal.returns-then-is_none
 returns-then-is_none g c =
     let es = c.args.entries.now in
     let none : is_none (get_or es c.loop-i.i None) ≡ true
-    = ap is_none (sym (get_or_read es c.loop-i.i c.index-entries-i.result c.loop-i-test.true c.index-entries-i.is None)) ∙ ap not c.if-is_none.ensures in
+    = ap is_none (sym (get_or_read es c.loop-i.i c.index-entries-i.result c.loop-i-test.true c.index-entries-i.is None))
+    ∙ ap not c.if-is_none.ensures in
     sym (first_from-is is_none None es c.args.from c.loop-i.i c.loop-i.auto.i c.loop-i-test.true none c.loop-i.invariant)
 
 pub returns : goal.returns

@@ -8,7 +8,8 @@ use Rattle.thy_control.proofs.StoreLemmas.{ready-whole, stored_by, up-stored, on
 use Rattle.thy_control.proofs.block_store.ControlBlockStore.store.Goals as goal
 
 pub store-requires-clause-block : goal.store-requires-clause-block
-store-requires-clause-block g c = (c.blocks_are_works.ensures.works c.args.self.now (g.N.Nvm.device c.args.nvm.now) c.args.b c.requires.inside).inside
+store-requires-clause-block g c =
+    (c.blocks_are_works.ensures.works c.args.self.now (g.N.Nvm.device c.args.nvm.now) c.args.b c.requires.inside).inside
 
 pub store-requires-clause-sized : goal.store-requires-clause-sized
 store-requires-clause-sized g c = (c.blocks_are_works.ensures.works c.args.self.now (g.N.Nvm.device c.args.nvm.now) c.args.b c.requires.inside).sized
@@ -33,7 +34,8 @@ returns-clause-once g c =
     let m : Device = g.N.Nvm.device c.args.nvm.now in
     let inside = (c.blocks_are_works.ensures.works s m c.args.b c.requires.inside).inside in
     once_stored c.args.b c.args.block.now s m c.store.new.self (g.N.Nvm.device c.store.new.nvm) c.store.result
-    c.store.ensures.state c.store.ensures.nvm c.store.ensures.kept c.store.ensures.err c.recall_tables.ensures inside c.requires.room c.store.ensures.free c.store.ensures.frame c.store.ensures.stays
+    c.store.ensures.state c.store.ensures.nvm c.store.ensures.kept c.store.ensures.err c.recall_tables.ensures inside c.requires.room
+    c.store.ensures.free c.store.ensures.frame c.store.ensures.stays
 
 pub returns-clause-cause : goal.returns-clause-cause
 returns-clause-cause g c =

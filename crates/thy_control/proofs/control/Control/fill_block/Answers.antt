@@ -26,7 +26,8 @@ move_to_dram-requires-clause-from g c =
 pub marks_after-self-inside-requires : goal.marks_after-self-inside-requires
 marks_after-self-inside-requires g c =
     let s : State = c.args.self.now in
-    let before : AreWorkCounts s.ptt s.btt c.self.inside.marks = subst (λ (t : State). AreWorkCounts t.ptt t.btt c.self.inside.marks) c.self.view_is c.self.invariant.marks in
+    let before : AreWorkCounts s.ptt s.btt c.self.inside.marks =
+    subst (λ (t : State). AreWorkCounts t.ptt t.btt c.self.inside.marks) c.self.view_is c.self.invariant.marks in
     omega (arith, before.promoted_is, some-promoted c.args.b s c.requires.fresh c.requires.unframed)
 
 pub returns-clause-fills : goal.returns-clause-fills

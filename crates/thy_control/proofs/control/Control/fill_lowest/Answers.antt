@@ -30,7 +30,8 @@ pub returns-in-Some-clause-side : goal.returns-in-Some-clause-side
 returns-in-Some-clause-side g c =
     let s : State = c.args.self.now in
     let next : next_promotion s ≡ Some c.in-Some.j = sym c.seek_promotion.ensures.place ∙ c.in-Some.is in
-    let block : c.block_unfilled-b.result ≡ block_to_fill c.in-Some.j s = c.block_unfilled-b.ensures ∙ ap (block_to_fill c.in-Some.j) c.seek_promotion.ensures.same in
+    let block : c.block_unfilled-b.result ≡ block_to_fill c.in-Some.j s =
+    c.block_unfilled-b.ensures ∙ ap (block_to_fill c.in-Some.j) c.seek_promotion.ensures.same in
     subst (λ (o : Option ℕ). OnErr c.fill_block.result (ReadsNvm o s)) (sym next)
     (subst (λ (b : ℕ). OnErr c.fill_block.result (in_dram (work (cell_of s b)) ≡ false)) block
     (subst (λ (t : State). OnErr c.fill_block.result (in_dram (work (cell_of t c.block_unfilled-b.result)) ≡ false)) c.seek_promotion.ensures.same c.fill_block.ensures.side))

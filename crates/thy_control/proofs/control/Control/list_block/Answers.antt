@@ -7,7 +7,8 @@ use Rattle.thy_control.proofs.control.Control.list_block.Goals as goal
 
 pub returns-clause-booting : goal.returns-clause-booting
 returns-clause-booting c =
-    subst (λ (t : State). IsBooting t) (sym c.put_block.ensures) (IsBooting-block c.args.i c.args.b c.args.self.now c.recall_tables.ensures c.requires.booting c.requires.may)
+    subst (λ (t : State). IsBooting t) (sym c.put_block.ensures)
+    (IsBooting-block c.args.i c.args.b c.args.self.now c.recall_tables.ensures c.requires.booting c.requires.may)
 
 pub returns-clause-tables : goal.returns-clause-tables
 returns-clause-tables c =

@@ -7,7 +7,8 @@ use Rattle.thy_control.proofs.control.Control.list_page.Goals as goal
 
 pub returns-clause-booting : goal.returns-clause-booting
 returns-clause-booting c =
-    subst (λ (t : State). IsBooting t) (sym c.put_page.ensures) (IsBooting-page c.args.j c.args.page c.args.self.now c.recall_tables.ensures c.requires.booting c.requires.may)
+    subst (λ (t : State). IsBooting t) (sym c.put_page.ensures)
+    (IsBooting-page c.args.j c.args.page c.args.self.now c.recall_tables.ensures c.requires.booting c.requires.may)
 
 pub returns-clause-tables : goal.returns-clause-tables
 returns-clause-tables c =

@@ -16,4 +16,5 @@ read-requires-clause-place g c =
 
 pub returns-clause-stays : goal.returns-clause-stays
 returns-clause-stays g c =
-    stays_read c.args.self.now (g.N.Nvm.device c.args.nvm.now) (g.N.Nvm.device c.read.new.nvm) c.read.result c.read.ensures.same c.read.ensures.err c.read.ensures.frame
+    stays_read c.args.self.now (g.N.Nvm.device c.args.nvm.now)
+    (g.N.Nvm.device c.read.new.nvm) c.read.result c.read.ensures.same c.read.ensures.err c.read.ensures.frame

@@ -11,7 +11,8 @@ invariant_of-self c =
       tables = c.self.invariant.tables;
       marks = c.self.invariant.marks;
       cursors = record {
-        merges = NoneBelow-sought (is_overlaid c.self.inside.ptt) c.self.inside.btt c.self.inside.cursors.merges below.merges c.next-next.result c.goes_on-place.result
+        merges = NoneBelow-sought (is_overlaid c.self.inside.ptt) c.self.inside.btt c.self.inside.cursors.merges below.merges
+            c.next-next.result c.goes_on-place.result
             (sym c.next-next.ensures.place)
             (c.goes_on-place.ensures ∙ ap (unwrap_or c.next-next.result) c.size.ensures.size);
         copies = below.copies;

@@ -11,7 +11,8 @@ invariant_of-self c =
       tables = c.self.invariant.tables;
       marks = c.self.invariant.marks;
       cursors = record {
-        promotions = NoneBelow-sought is_promoted c.self.inside.ptt c.self.inside.cursors.promotions below.promotions c.next-next.result c.goes_on-place.result
+        promotions = NoneBelow-sought is_promoted c.self.inside.ptt c.self.inside.cursors.promotions below.promotions
+            c.next-next.result c.goes_on-place.result
             (sym c.next-next.ensures.place)
             (c.goes_on-place.ensures ∙ ap (unwrap_or c.next-next.result) c.size.ensures.size);
         copies = below.copies;

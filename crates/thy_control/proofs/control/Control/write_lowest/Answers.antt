@@ -30,7 +30,8 @@ returns-in_err-write_block-in-Some-clause-writes g c =
     let m : Device = g.N.Nvm.device c.args.nvm.now in
     let n : Device = g.N.Nvm.device c.write_block.new.nvm in
     let next : next_page s ≡ Some c.in-Some.j = sym c.seek_page.ensures.place ∙ c.in-Some.is in
-    let block : c.block_due-b.result ≡ block_to_write c.in-Some.j s = c.block_due-b.ensures ∙ ap (block_to_write c.in-Some.j) c.seek_page.ensures.same in
+    let block : c.block_due-b.result ≡ block_to_write c.in-Some.j s =
+    c.block_due-b.ensures ∙ ap (block_to_write c.in-Some.j) c.seek_page.ensures.same in
     let ends = c.in_err-write_block-in-Some.ensures in
     record {
       state = search rules;

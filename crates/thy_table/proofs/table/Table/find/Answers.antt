@@ -12,8 +12,10 @@ returns-then-lists-clause-place g c =
     = c.indexed-place.ensures ∙ ap (λ leaders. indexed_at leaders c.deref-2.result.now n) c.deref.ensures.value
     ∙ ap (λ places. indexed_at c.self.inside.leaders.items places n) c.deref-2.ensures.value in
     let here : lists key n (get_or es c.indexed-place.result None) ≡ true
-    = ap (λ (xs : List _). lists key n (get_or xs c.indexed-place.result None)) (sym c.deref-3.ensures.value) ∙ sym c.lists.ensures ∙ c.if-lists.true in
-    ap Some at ∙ sym (position-indexed key _ _ _ _ _ _ c.self.invariant n (ap (λ i. lists key n (get_or es i None)) (sym at) ∙ here)) ∙ ap (index_of key n) c.self.view_is
+    = ap (λ (xs : List _). lists key n (get_or xs c.indexed-place.result None)) (sym c.deref-3.ensures.value) ∙ sym c.lists.ensures
+    ∙ c.if-lists.true in
+    ap Some at ∙ sym (position-indexed key _ _ _ _ _ _ c.self.invariant.0 n (ap (λ i. lists key n (get_or es i None)) (sym at) ∙ here))
+    ∙ ap (index_of key n) c.self.view_is
 
 pub returns-else-lists-clause-place : goal.returns-else-lists-clause-place
 returns-else-lists-clause-place g c =
@@ -24,5 +26,7 @@ returns-else-lists-clause-place g c =
     = c.indexed-place.ensures ∙ ap (λ leaders. indexed_at leaders c.deref-2.result.now n) c.deref.ensures.value
     ∙ ap (λ places. indexed_at c.self.inside.leaders.items places n) c.deref-2.ensures.value in
     let here : lists key n (get_or es c.indexed-place.result None) ≡ false
-    = ap (λ (xs : List _). lists key n (get_or xs c.indexed-place.result None)) (sym c.deref-3.ensures.value) ∙ sym c.lists.ensures ∙ c.if-lists.false in
-    sym (position-unindexed key _ _ _ _ _ _ c.self.invariant n (ap (λ i. lists key n (get_or es i None)) (sym at) ∙ here)) ∙ ap (index_of key n) c.self.view_is
+    = ap (λ (xs : List _). lists key n (get_or xs c.indexed-place.result None)) (sym c.deref-3.ensures.value) ∙ sym c.lists.ensures
+    ∙ c.if-lists.false in
+    sym (position-unindexed key _ _ _ _ _ _ c.self.invariant.0 n (ap (λ i. lists key n (get_or es i None)) (sym at) ∙ here))
+    ∙ ap (index_of key n) c.self.view_is
