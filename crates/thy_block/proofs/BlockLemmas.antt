@@ -18,19 +18,19 @@ pub block_bytes-long : (b : Block) → length b.0 ≡ 64 → block_bytes b ≡ b
 unfolding block_bytes
 block_bytes-long b h = take_at b.0 (replicate 64 0) 64 h
 
--- a piece written over a block changes those bytes, and gives a block that has 64
-pub length-overwritten : (j : ℕ) (piece : List ℕ) (b : Block) → j + length piece ≤ 64 → length (overwritten j piece b).0 ≡ 64
-length-overwritten j piece b l =
-    let all = length-block_bytes b in
-    length-written (block_bytes b) j piece (omega (arith, all)) ∙ all
+module _ (j : ℕ) (piece : List ℕ) (b : Block) where
+  -- a piece written over a block changes those bytes, and gives a block that has 64
+  pub length-overwritten : j + length piece ≤ 64 → length (overwritten j piece b).0 ≡ 64
+  length-overwritten l =
+      let all = length-block_bytes b in
+      length-written (block_bytes b) j piece (omega (arith, all)) ∙ all
 
-pub block_bytes-overwritten : (j : ℕ) (piece : List ℕ) (b : Block) → j + length piece ≤ 64
-    → block_bytes (overwritten j piece b) ≡ written (block_bytes b) j piece
-block_bytes-overwritten j piece b l = block_bytes-long (overwritten j piece b) (length-overwritten j piece b l)
+  pub block_bytes-overwritten : j + length piece ≤ 64 → block_bytes (overwritten j piece b) ≡ written (block_bytes b) j piece
+  block_bytes-overwritten l = block_bytes-long (overwritten j piece b) (length-overwritten l)
 
--- over a block that has 64 bytes it is written over its own
-pub overwritten-long : (j : ℕ) (piece : List ℕ) (b : Block) → length b.0 ≡ 64 → overwritten j piece b ≡ record { 0 = written b.0 j piece }
-overwritten-long j piece b h = ap (λ (bytes : List ℕ). let c : Block = record { 0 = written bytes j piece } in c) (block_bytes-long b h)
+  -- over a block that has 64 bytes it is written over its own
+  pub overwritten-long : length b.0 ≡ 64 → overwritten j piece b ≡ record { 0 = written b.0 j piece }
+  overwritten-long h = ap (λ (bytes : List ℕ). let c : Block = record { 0 = written bytes j piece } in c) (block_bytes-long b h)
 
 -- each byte of a block of zeros is 0
 pub zero_block-at : (j : ℕ) → slice_index_or zero_block.0 j 0 ≡ 0

@@ -11,7 +11,8 @@ pub Contains-stands : (n : Device) (x : ℕ) → Contains (possible n x) (block_
 Contains-stands n x = Contains-append_left (block_at n.image x ∷ []) (queued_for n.queue x) _ (Contains-push [] (block_at n.image x))
 
 -- each choice of whole blocks is a choice of words
-pub Crash-of_blocks : (n : Device) (g : List Block) → length g ≡ length n.image → ((x : ℕ) → Contains (possible n x) (block_at g x)) → Crash n g
+pub Crash-of_blocks : (n : Device) (g : List Block) → length g ≡ length n.image → ((x : ℕ) → Contains (possible n x) (block_at g x))
+    → Crash n g
 Crash-of_blocks n g same each = record { same_length = same; each = λ x. CrashAt-possible n x (block_at g x) (each x) }
 
 -- a device whose blocks land whole leaves no other
@@ -27,7 +28,8 @@ pub Crash-applied : (n : Device) → Crash n (applied n.image n.queue)
 Crash-applied n = Crash-of_blocks n (applied n.image n.queue) (length-applied n.image n.queue) (Contains-applied n.image n.queue)
 
 -- what a cut may leave if no place holds more, it might have left before
-pub Crash-no_more : {old new : Device} {g : List Block} → HoldsNoMore old new → length new.image ≡ length old.image → Crash new g → Crash old g
+pub Crash-no_more : {old new : Device} {g : List Block} → HoldsNoMore old new → length new.image ≡ length old.image → Crash new g
+    → Crash old g
 Crash-no_more {old} {new} {g} no_more same c = record {
   same_length = c.same_length ∙ same;
   each = λ x. no_more x (block_at g x) (c.each x);

@@ -49,27 +49,32 @@ same_as_only only b h = elim (Contains-push_cases [] only b h) as (λ _. only �
 pub Contains-newest_over : (block : Block) (ws : List Write) (x : ℕ) → Contains (block ∷ queued_for ws x) (newest_over block ws x)
 Contains-newest_over block [] x = Contains-push [] block
 Contains-newest_over block (w ∷ ws) x =
-    elim (w.at == x) as (λ t. Contains (block ∷ (if t then w.block ∷ queued_for ws x else queued_for ws x)) (newest_over (if t then w.block else block) ws x)) [
+    elim (w.at == x) as (λ t. Contains (block ∷ (if t then w.block ∷ queued_for ws x else queued_for ws x))
+    (newest_over (if t then w.block else block) ws x)) [
       | true ↦ Contains-append_right (block ∷ []) (w.block ∷ queued_for ws x) _ (Contains-newest_over w.block ws x)
       | false ↦ Contains-newest_over block ws x
     ]
 
 -- writes applied in order leave at each place, past the end too, a block that was possible there
-pub Contains-applied : (image : List Block) (ws : List Write) (x : ℕ) → Contains (block_at image x ∷ queued_for ws x) (block_at (applied image ws) x)
-Contains-applied image ws x = elim (cases_lt x (length image)) as (λ _. Contains (block_at image x ∷ queued_for ws x) (block_at (applied image ws) x)) [
-  | inl l ↦ rw (block_at-applied image ws x l) (Contains-newest_over (block_at image x) ws x)
-  | inr l ↦
-      let past : length (applied image ws) ≤ x = omega (arith, length-applied image ws) in
-      let e : block_at (applied image ws) x ≡ block_at image x = get_or_past (applied image ws) x zero_block past ∙ sym (get_or_past image x zero_block l) in
-      rw e (Contains-append_left (block_at image x ∷ []) (queued_for ws x) _ (Contains-push [] (block_at image x)))
-]
+pub Contains-applied : (image : List Block) (ws : List Write) (x : ℕ)
+    → Contains (block_at image x ∷ queued_for ws x) (block_at (applied image ws) x)
+Contains-applied image ws x =
+    elim (cases_lt x (length image)) as (λ _. Contains (block_at image x ∷ queued_for ws x) (block_at (applied image ws) x)) [
+      | inl l ↦ rw (block_at-applied image ws x l) (Contains-newest_over (block_at image x) ws x)
+      | inr l ↦
+          let past : length (applied image ws) ≤ x = omega (arith, length-applied image ws) in
+          let e : block_at (applied image ws) x ≡ block_at image x =
+          get_or_past (applied image ws) x zero_block past ∙ sym (get_or_past image x zero_block l) in
+          rw e (Contains-append_left (block_at image x ∷ []) (queued_for ws x) _ (Contains-push [] (block_at image x)))
+    ]
 
 -- if the first of two lists of writes has landed, nothing more is possible
 pub Contains-landed : (image : List Block) (ws vs : List Write) (x : ℕ) (b : Block)
     → Contains (block_at (applied image ws) x ∷ queued_for vs x) b → Contains (block_at image x ∷ queued_for (ws ++ vs) x) b
 Contains-landed image ws vs x b h =
     rw (queued_for-append ws vs x)
-    (elim (Contains-append_cases (block_at (applied image ws) x ∷ []) (queued_for vs x) b h) as (λ _. Contains (block_at image x ∷ (queued_for ws x ++ queued_for vs x)) b) [
+    (elim (Contains-append_cases (block_at (applied image ws) x ∷ []) (queued_for vs x) b h)
+    as (λ _. Contains (block_at image x ∷ (queued_for ws x ++ queued_for vs x)) b) [
       | inl here ↦ Contains-append_left (block_at image x ∷ queued_for ws x) (queued_for vs x) b
           (subst (Contains (block_at image x ∷ queued_for ws x)) (same_as_only _ b here) (Contains-applied image ws x))
       | inr later ↦ Contains-append_right (block_at image x ∷ queued_for ws x) (queued_for vs x) b later
@@ -117,7 +122,8 @@ no_more-drained n = no_more-landed 1 n
 pub no_more-settled : (count : ℕ) (n : Device) → HoldsNoMore n (settled count n)
 no_more-settled count n x b left =
     CrashAt-more n (settled count n) x x b refl
-    (λ c h. subst (λ (q : List Write). Contains (block_at n.image x ∷ queued_for q x) c) (append-nil n.queue) (Contains-landed n.image n.queue [] x c h))
+    (λ c h. subst (λ (q : List Write). Contains (block_at n.image x ∷ queued_for q x) c) (append-nil n.queue)
+    (Contains-landed n.image n.queue [] x c h))
     left
 
 -- one write is queued for its own place alone
@@ -146,22 +152,23 @@ possible-with_queued n at block x b h =
       | inr this ↦ inr (Contains-queued_for_one at block x b this)
     ]
 
--- what is possible without it is possible with it
-pub possible-before_queued : (n : Device) (at : ℕ) (block : Block) (x : ℕ) (b : Block) → Contains (possible n x) b → Contains (possible (with_queued at block n) x) b
-possible-before_queued n at block x b h =
-    subst (λ (q : List Block). Contains (block_at n.image x ∷ q) b) (sym (queued_for-append n.queue (write_of at block ∷ []) x))
-    (Contains-append_left (possible n x) (queued_for (write_of at block ∷ []) x) b h)
+module _ (n : Device) (at : ℕ) (block : Block) where
+  -- what is possible without it is possible with it
+  pub possible-before_queued : (x : ℕ) (b : Block) → Contains (possible n x) b → Contains (possible (with_queued at block n) x) b
+  possible-before_queued x b h =
+      subst (λ (q : List Block). Contains (block_at n.image x ∷ q) b) (sym (queued_for-append n.queue (write_of at block ∷ []) x))
+      (Contains-append_left (possible n x) (queued_for (write_of at block ∷ []) x) b h)
 
-pub no_more-with_queued : (n : Device) (at : ℕ) (block : Block) → HoldsNoMore (with_queued at block n) n
-no_more-with_queued n at block x b left = CrashAt-more (with_queued at block n) n x x b refl (possible-before_queued n at block x) left
+  pub no_more-with_queued : HoldsNoMore (with_queued at block n) n
+  no_more-with_queued x b left = CrashAt-more (with_queued at block n) n x x b refl (possible-before_queued x) left
 
--- the block of the write is possible
-pub possible-queued : (n : Device) (at : ℕ) (block : Block) → Contains (possible (with_queued at block n) at) block
-possible-queued n at block =
-    let queued : queued_for (n.queue ++ write_of at block ∷ []) at ≡ queued_for n.queue at ++ block ∷ []
-    = queued_for-append n.queue (write_of at block ∷ []) at
-    ∙ ap (λ t. queued_for n.queue at ++ (if t then block ∷ [] else [])) (eq-eqb at at refl) in
-    subst (λ (q : List Block). Contains (block_at n.image at ∷ q) block) (sym queued) (Contains-push (possible n at) block)
+  -- the block of the write is possible
+  pub possible-queued : Contains (possible (with_queued at block n) at) block
+  possible-queued =
+      let queued : queued_for (n.queue ++ write_of at block ∷ []) at ≡ queued_for n.queue at ++ block ∷ []
+      = queued_for-append n.queue (write_of at block ∷ []) at
+      ∙ ap (λ t. queued_for n.queue at ++ (if t then block ∷ [] else [])) (eq-eqb at at refl) in
+      subst (λ (q : List Block). Contains (block_at n.image at ∷ q) block) (sym queued) (Contains-push (possible n at) block)
 
 -- ---- the laws of whole blocks imply the laws of words
 
@@ -184,32 +191,32 @@ HoldsNoMore-but_block old new at block same each x b left =
     ])
     left
 
--- at every place other than the write's nothing more may be left
-pub CrashAt-elsewhere : (n : Device) (at : ℕ) (block : Block) (x : ℕ) (b : Block) → x ≢ at → CrashAt (with_queued at block n) x b → CrashAt n x b
-CrashAt-elsewhere n at block x b other left =
-    CrashAt-more n (with_queued at block n) x x b refl
-    (λ c h. elim (possible-with_queued n at block x c h) as (λ _. Contains (possible n x) c) [
-      | inl before ↦ before
-      | inr this ↦ absurd (other this.0)
-    ])
-    left
+module _ (n : Device) (at : ℕ) (block : Block) where
+  -- at every place other than the write's nothing more may be left
+  pub CrashAt-elsewhere : (x : ℕ) (b : Block) → x ≢ at → CrashAt (with_queued at block n) x b → CrashAt n x b
+  CrashAt-elsewhere x b other left =
+      CrashAt-more n (with_queued at block n) x x b refl
+      (λ c h. elim (possible-with_queued n at block x c h) as (λ _. Contains (possible n x) c) [
+        | inl before ↦ before
+        | inr this ↦ absurd (other this.0)
+      ])
+      left
 
--- a write makes no more possible than if it were queued and nothing had landed
-pub no_more-written_to : (n : Device) (at : ℕ) (block : Block) → HoldsNoMore (with_queued at block n) (written_to n at block)
-no_more-written_to n at block x b left =
-    let k : ℕ = surplus n in
-    let queue : take k n.queue ++ (drop k n.queue ++ write_of at block ∷ []) ≡ n.queue ++ write_of at block ∷ []
-    = sym (append_assoc (take k n.queue) (drop k n.queue) (write_of at block ∷ []))
-    ∙ ap (λ (q : List Write). q ++ write_of at block ∷ []) (take-append-drop k n.queue) in
-    CrashAt-more (with_queued at block n) (written_to n at block) x x b refl
-    (λ c h. subst (λ (q : List Write). Contains (block_at n.image x ∷ queued_for q x) c) queue
-    (Contains-landed n.image (take k n.queue) (drop k n.queue ++ write_of at block ∷ []) x c h))
-    left
+  -- a write makes no more possible than if it were queued and nothing had landed
+  pub no_more-written_to : HoldsNoMore (with_queued at block n) (written_to n at block)
+  no_more-written_to x b left =
+      let k : ℕ = surplus n in
+      let queue : take k n.queue ++ (drop k n.queue ++ write_of at block ∷ []) ≡ n.queue ++ write_of at block ∷ []
+      = sym (append_assoc (take k n.queue) (drop k n.queue) (write_of at block ∷ []))
+      ∙ ap (λ (q : List Write). q ++ write_of at block ∷ []) (take-append-drop k n.queue) in
+      CrashAt-more (with_queued at block n) (written_to n at block) x x b refl
+      (λ c h. subst (λ (q : List Write). Contains (block_at n.image x ∷ queued_for q x) c) queue
+      (Contains-landed n.image (take k n.queue) (drop k n.queue ++ write_of at block ∷ []) x c h))
+      left
 
--- at every other place a write makes nothing more possible
-pub no_more-written_to_other : (n : Device) (at : ℕ) (block : Block) (x : ℕ) (b : Block) → x ≢ at
-    → CrashAt (written_to n at block) x b → CrashAt n x b
-no_more-written_to_other n at block x b other left = CrashAt-elsewhere n at block x b other (no_more-written_to n at block x b left)
+  -- at every other place a write makes nothing more possible
+  pub no_more-written_to_other : (x : ℕ) (b : Block) → x ≢ at → CrashAt (written_to n at block) x b → CrashAt n x b
+  no_more-written_to_other x b other left = CrashAt-elsewhere x b other (no_more-written_to x b left)
 
 -- reads are as before if writes have landed
 pub newest-landed : (k : ℕ) (n : Device) (x : ℕ) → x < length n.image → newest (landed k n) x ≡ newest n x
@@ -254,7 +261,8 @@ pub length-written_to : (n : Device) (at : ℕ) (block : Block) → length (writ
 length-written_to n at block = length-landed (surplus n) n
 
 -- functions that agree below a size make the same list of blocks
-pub map-agree : (f g : ℕ → Block) (size : ℕ) → ((b : ℕ) → b < size → f b ≡ g b) → map f (range_with_len 0 size) ≡ map g (range_with_len 0 size)
+pub map-agree : (f g : ℕ → Block) (size : ℕ) → ((b : ℕ) → b < size → f b ≡ g b)
+    → map f (range_with_len 0 size) ≡ map g (range_with_len 0 size)
 map-agree f g size same =
     ext_get_or zero_block (map f (range_with_len 0 size)) (map g (range_with_len 0 size))
     (length-map-range_with_len f 0 size ∙ sym (length-map-range_with_len g 0 size))

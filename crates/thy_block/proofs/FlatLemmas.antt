@@ -72,24 +72,26 @@ flat_part (b ∷ bs) zero j n l small =
 flat_part (b ∷ bs) (suc k) j n l small =
     let e : 64 * suc k + j ≡ 64 + (64 * k + j) = omega arith in
     ap (λ x. take n (drop x (block_bytes b ++ flat bs))) e
-    ∙ ap (take n) (sym (drop-drop (64 * k + j) 64 (block_bytes b ++ flat bs)) ∙ ap (drop (64 * k + j)) (drop_at (block_bytes b) (flat bs) 64 (length-block_bytes b)))
+    ∙ ap (take n) (sym (drop-drop (64 * k + j) 64 (block_bytes b ++ flat bs))
+    ∙ ap (drop (64 * k + j)) (drop_at (block_bytes b) (flat bs) 64 (length-block_bytes b)))
     ∙ flat_part bs k j n (omega arith) small
 
 -- ---- the first blocks, and the rest
 
-flat_parts : (k : ℕ) (blocks : List Block) → flat (take k blocks) ++ flat (drop k blocks) ≡ flat blocks
-flat_parts k blocks = sym (flat-append (take k blocks) (drop k blocks)) ∙ ap flat (take-append-drop k blocks)
+module _ (k : ℕ) (blocks : List Block) where
+  flat_parts : flat (take k blocks) ++ flat (drop k blocks) ≡ flat blocks
+  flat_parts = sym (flat-append (take k blocks) (drop k blocks)) ∙ ap flat (take-append-drop k blocks)
 
-length-flat_take : (k : ℕ) (blocks : List Block) → k ≤ length blocks → length (flat (take k blocks)) ≡ 64 * k
-length-flat_take k blocks l = length-flat (take k blocks) ∙ ap (λ n. 64 * n) (length-take-le k blocks l)
+  length-flat_take : k ≤ length blocks → length (flat (take k blocks)) ≡ 64 * k
+  length-flat_take l = length-flat (take k blocks) ∙ ap (λ n. 64 * n) (length-take-le k blocks l)
 
-pub flat-take : (k : ℕ) (blocks : List Block) → k ≤ length blocks → flat (take k blocks) ≡ take (64 * k) (flat blocks)
-flat-take k blocks l =
-    sym (ap (take (64 * k)) (sym (flat_parts k blocks)) ∙ take_at (flat (take k blocks)) (flat (drop k blocks)) (64 * k) (length-flat_take k blocks l))
+  pub flat-take : k ≤ length blocks → flat (take k blocks) ≡ take (64 * k) (flat blocks)
+  flat-take l =
+      sym (ap (take (64 * k)) (sym flat_parts) ∙ take_at (flat (take k blocks)) (flat (drop k blocks)) (64 * k) (length-flat_take l))
 
-pub flat-drop : (k : ℕ) (blocks : List Block) → k ≤ length blocks → flat (drop k blocks) ≡ drop (64 * k) (flat blocks)
-flat-drop k blocks l =
-    sym (ap (drop (64 * k)) (sym (flat_parts k blocks)) ∙ drop_at (flat (take k blocks)) (flat (drop k blocks)) (64 * k) (length-flat_take k blocks l))
+  pub flat-drop : k ≤ length blocks → flat (drop k blocks) ≡ drop (64 * k) (flat blocks)
+  flat-drop l =
+      sym (ap (drop (64 * k)) (sym flat_parts) ∙ drop_at (flat (take k blocks)) (flat (drop k blocks)) (64 * k) (length-flat_take l))
 
 -- the bytes of one block alone
 pub flat-one : (b : Block) → flat (b ∷ []) ≡ block_bytes b
@@ -97,7 +99,8 @@ unfolding flat
 flat-one b = append-nil (block_bytes b)
 
 -- the bytes of one block more
-pub flat_more : (blocks : List Block) (i : ℕ) (d : Block) → i < length blocks → flat (take (i + 1) blocks) ≡ flat (take i blocks) ++ block_bytes (get_or blocks i d)
+pub flat_more : (blocks : List Block) (i : ℕ) (d : Block) → i < length blocks
+    → flat (take (i + 1) blocks) ≡ flat (take i blocks) ++ block_bytes (get_or blocks i d)
 flat_more blocks i d l =
     ap flat (take_more blocks i d l)
     ∙ flat-append (take i blocks) (get_or blocks i d ∷ [])

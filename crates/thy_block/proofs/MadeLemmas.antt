@@ -35,16 +35,17 @@ same_words a b same =
 pub IsMadeOf-one : (blocks : List Block) (b : Block) → Contains blocks b → IsMadeOf blocks b
 IsMadeOf-one blocks b inside = λ i. (b, inside, refl)
 
--- what is made of some blocks is made of more blocks
-pub IsMadeOf-more : (few many : List Block) (b : Block) → ((c : Block) → Contains few c → Contains many c) → IsMadeOf few b → IsMadeOf many b
-IsMadeOf-more few many b among made = λ i. let of = made i in (of.0, among of.0 of.1, of.2)
+module _ (few many : List Block) (b : Block) where
+  -- what is made of some blocks is made of more blocks
+  pub IsMadeOf-more : ((c : Block) → Contains few c → Contains many c) → IsMadeOf few b → IsMadeOf many b
+  IsMadeOf-more among made = λ i. let of = made i in (of.0, among of.0 of.1, of.2)
 
--- what is made of blocks that are made of others is made of those
-pub IsMadeOf-made : (few many : List Block) (b : Block) → ((c : Block) → Contains few c → IsMadeOf many c) → IsMadeOf few b → IsMadeOf many b
-IsMadeOf-made few many b each made = λ i.
-    let of = made i in
-    let within = each of.0 of.1 i in
-    (within.0, within.1, of.2 ∙ within.2)
+  -- what is made of blocks that are made of others is made of those
+  pub IsMadeOf-made : ((c : Block) → Contains few c → IsMadeOf many c) → IsMadeOf few b → IsMadeOf many b
+  IsMadeOf-made each made = λ i.
+      let of = made i in
+      let within = each of.0 of.1 i in
+      (within.0, within.1, of.2 ∙ within.2)
 
 -- what is made of one block alone is that block
 pub IsMadeOf-only : (blocks : List Block) (c b : Block) → ((d : Block) → Contains blocks d → d ≡ c) → IsMadeOf blocks b → b ≡ c
@@ -100,7 +101,8 @@ pub IsOneWordApart-block_of : (k : ℕ) (ws vs : List ℕ) → length vs ≡ len
 IsOneWordApart-block_of k ws vs same others = record {
   word = k;
   others = λ i ne. elim (cases_lt i (length ws)) as (λ _. word_bytes (block_of ws) i ≡ word_bytes (block_of vs) i) [
-    | inl l ↦ word_bytes-block_of ws i l (slice_index vs i) (others i ne) ∙ sym (word_bytes-block_of vs i (omega (arith, l, same)) (slice_index vs i) refl)
+    | inl l ↦ word_bytes-block_of ws i l (slice_index vs i) (others i ne)
+        ∙ sym (word_bytes-block_of vs i (omega (arith, l, same)) (slice_index vs i) refl)
     | inr l ↦ word_bytes-block_of_past ws i l ∙ sym (word_bytes-block_of_past vs i (omega (arith, l, same)))
   ];
 }

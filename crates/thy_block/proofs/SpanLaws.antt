@@ -45,17 +45,26 @@ first_inside blocks s some l = omega arith
 
 pub length-head_in : (block : Block) (s : Span) → length (head_in block s) ≡ head_len s
 length-head_in block s =
-    length-take-le (head_len s) (drop (first_byte s) (block_bytes block)) (omega (arith, length-drop (first_byte s) (block_bytes block), length-block_bytes block, head_len-inside s))
+    length-take-le (head_len s) (drop (first_byte s) (block_bytes block))
+    (omega (arith, length-drop (first_byte s) (block_bytes block), length-block_bytes block, head_len-inside s))
 
 pub length-gathered : (blocks : List Block) (s : Span) → s.len ≤ 64 → length (gathered blocks s) ≡ s.len
 unfolding gathered
 length-gathered blocks s h =
-    omega (arith, length-append (head_read blocks s) (head_read blocks (rest_of s)), length-head_in (block_at blocks (first_block s)) s, length-head_in (block_at blocks (first_block (rest_of s))) (rest_of s), head_len-rest s h, head_len-most s)
+    omega (
+      arith,
+      length-append (head_read blocks s) (head_read blocks (rest_of s)),
+      length-head_in (block_at blocks (first_block s)) s,
+      length-head_in (block_at blocks (first_block (rest_of s))) (rest_of s),
+      head_len-rest s h,
+      head_len-most s,
+    )
 
 take_none : (n : ℕ) (xs ys : List ℕ) → n ≡ 0 → take n xs ≡ take n ys
 take_none n xs ys h = ap (λ k. take k xs) h ∙ ap (λ k. take k ys) (sym h)
 
-head_read-flat : (blocks : List Block) (s : Span) → s.at + s.len ≤ 64 * length blocks → head_read blocks s ≡ take (head_len s) (drop s.at (flat blocks))
+head_read-flat : (blocks : List Block) (s : Span) → s.at + s.len ≤ 64 * length blocks
+    → head_read blocks s ≡ take (head_len s) (drop s.at (flat blocks))
 head_read-flat blocks s l = elim (cases_lt 0 s.len) as (λ _. head_read blocks s ≡ take (head_len s) (drop s.at (flat blocks))) [
   | inl some ↦
       sym (flat_part blocks (first_block s) (first_byte s) (head_len s) (first_inside blocks s some l) (head_len-inside s))
@@ -88,7 +97,8 @@ unfolding gathered
 gathered-rest blocks s h =
     let r = rest_of s in
     let none : head_len (rest_of r) ≡ 0 = omega (arith, rest_of-rest s h, head_len-most (rest_of r)) in
-    let e : head_read blocks (rest_of r) ≡ [] = ap (λ k. take k (drop (first_byte (rest_of r)) (block_bytes (block_at blocks (first_block (rest_of r)))))) none in
+    let e : head_read blocks (rest_of r) ≡ [] =
+    ap (λ k. take k (drop (first_byte (rest_of r)) (block_bytes (block_at blocks (first_block (rest_of r)))))) none in
     ap (λ t. head_read blocks s ++ (head_read blocks r ++ t)) e ∙ ap (λ t. head_read blocks s ++ t) (append-nil (head_read blocks r))
 
 -- ---- writing
@@ -115,7 +125,8 @@ flat-head_put blocks s bytes l enough =
 pub length-head_put : (blocks : List Block) (s : Span) (bytes : List ℕ) → length (head_put blocks s bytes) ≡ length blocks
 length-head_put blocks s bytes =
     let b = overwritten (first_byte s) (take (head_len s) bytes) (block_at blocks (first_block s)) in
-    if_put (λ new. length new ≡ length blocks) (s.len == 0) blocks (slice_set blocks (first_block s) b) (λ _. refl) (λ _. length-set blocks (first_block s) b)
+    if_put (λ new. length new ≡ length blocks) (s.len == 0) blocks (slice_set blocks (first_block s) b) (λ _. refl)
+    (λ _. length-set blocks (first_block s) b)
 
 head_put-none : (blocks : List Block) (s : Span) (bytes : List ℕ) → s.len ≡ 0 → head_put blocks s bytes ≡ blocks
 head_put-none blocks s bytes h =
@@ -123,50 +134,50 @@ head_put-none blocks s bytes h =
     (λ _. refl)
     (λ e. absurd (omega (arith, not_zero s.len e)))
 
--- over a span without bytes nothing is written
-pub scattered-none : (blocks : List Block) (s : Span) (bytes : List ℕ) → s.len ≡ 0 → scattered blocks s bytes ≡ blocks
-unfolding scattered
-scattered-none blocks s bytes h =
-    head_put-none (head_put blocks s bytes) (rest_of s) (drop (head_len s) bytes) (omega arith) ∙ head_put-none blocks s bytes h
+module _ (blocks : List Block) (s : Span) (bytes : List ℕ) where
+  -- over a span without bytes nothing is written
+  pub scattered-none : s.len ≡ 0 → scattered blocks s bytes ≡ blocks
+  unfolding scattered
+  scattered-none h =
+      head_put-none (head_put blocks s bytes) (rest_of s) (drop (head_len s) bytes) (omega arith) ∙ head_put-none blocks s bytes h
 
--- the bytes of blocks, with others written over a span
-pub flat-scattered : (blocks : List Block) (s : Span) (bytes : List ℕ) → IsSpanOf (length blocks) s → length bytes ≡ s.len
-    → flat (scattered blocks s bytes) ≡ written (flat blocks) s.at bytes
-unfolding scattered
-flat-scattered blocks s bytes h is =
-    let n = head_len s in
-    let most = head_len-most s in
-    let one = take n bytes in
-    let two = drop n bytes in
-    let l : length one ≡ n = length-take-le n bytes (omega (arith, is)) in
-    let m : length two ≡ s.len - n = length-drop n bytes ∙ ap (λ k. k - n) is in
-    let r = head_len-rest s h.short in
-    let after = head_put blocks s bytes in
-    let same = length-head_put blocks s bytes in
-    flat-head_put after (rest_of s) two (omega (arith, same, h.inside)) (omega (arith, r, m))
-    ∙ ap (λ t. written (flat after) (s.at + n) t) (take_all (head_len (rest_of s)) two (omega (arith, r, m)))
-    ∙ ap (λ t. written t (s.at + n) two) (flat-head_put blocks s bytes h.inside (omega (arith, is)))
-    ∙ ap (λ k. written (written (flat blocks) s.at one) (s.at + k) two) (sym l)
-    ∙ written-written (flat blocks) s.at one two (omega (arith, l, length-flat blocks, h.inside))
-    ∙ ap (written (flat blocks) s.at) (take-append-drop n bytes)
+  -- the bytes of blocks, with others written over a span
+  pub flat-scattered : IsSpanOf (length blocks) s → length bytes ≡ s.len
+      → flat (scattered blocks s bytes) ≡ written (flat blocks) s.at bytes
+  unfolding scattered
+  flat-scattered h is =
+      let n = head_len s in
+      let most = head_len-most s in
+      let one = take n bytes in
+      let two = drop n bytes in
+      let l : length one ≡ n = length-take-le n bytes (omega (arith, is)) in
+      let m : length two ≡ s.len - n = length-drop n bytes ∙ ap (λ k. k - n) is in
+      let r = head_len-rest s h.short in
+      let after = head_put blocks s bytes in
+      let same = length-head_put blocks s bytes in
+      flat-head_put after (rest_of s) two (omega (arith, same, h.inside)) (omega (arith, r, m))
+      ∙ ap (λ t. written (flat after) (s.at + n) t) (take_all (head_len (rest_of s)) two (omega (arith, r, m)))
+      ∙ ap (λ t. written t (s.at + n) two) (flat-head_put blocks s bytes h.inside (omega (arith, is)))
+      ∙ ap (λ k. written (written (flat blocks) s.at one) (s.at + k) two) (sym l)
+      ∙ written-written (flat blocks) s.at one two (omega (arith, l, length-flat blocks, h.inside))
+      ∙ ap (written (flat blocks) s.at) (take-append-drop n bytes)
 
--- a span's first block and then the rest
-pub scattered-rest : (blocks : List Block) (s : Span) (bytes : List ℕ) → s.len ≤ 64
-    → scattered (head_put blocks s bytes) (rest_of s) (drop (head_len s) bytes) ≡ scattered blocks s bytes
-unfolding scattered
-scattered-rest blocks s bytes h =
-    let r = rest_of s in
-    let now = head_put (head_put blocks s bytes) r (drop (head_len s) bytes) in
-    let more = drop (head_len r) (drop (head_len s) bytes) in
-    if_put (λ new. new ≡ now) ((rest_of r).len == 0) now (block_written now (first_block (rest_of r)) (first_byte (rest_of r)) (take (head_len (rest_of r)) more))
-    (λ _. refl)
-    (λ e. absurd (omega (arith, not_zero (rest_of r).len e, rest_of-rest s h)))
+  -- a span's first block and then the rest
+  pub scattered-rest : s.len ≤ 64 → scattered (head_put blocks s bytes) (rest_of s) (drop (head_len s) bytes) ≡ scattered blocks s bytes
+  unfolding scattered
+  scattered-rest h =
+      let r = rest_of s in
+      let now = head_put (head_put blocks s bytes) r (drop (head_len s) bytes) in
+      let more = drop (head_len r) (drop (head_len s) bytes) in
+      if_put (λ new. new ≡ now) ((rest_of r).len == 0) now
+      (block_written now (first_block (rest_of r)) (first_byte (rest_of r)) (take (head_len (rest_of r)) more))
+      (λ _. refl)
+      (λ e. absurd (omega (arith, not_zero (rest_of r).len e, rest_of-rest s h)))
 
--- a block in which a span has no bytes at its start is as before
-pub head_put-others : (blocks : List Block) (s : Span) (bytes : List ℕ) (b : ℕ) → (0 < s.len → b ≡ first_block s → ⊥)
-    → block_at (head_put blocks s bytes) b ≡ block_at blocks b
-head_put-others blocks s bytes b other =
-    let c = overwritten (first_byte s) (take (head_len s) bytes) (block_at blocks (first_block s)) in
-    if_put (λ new. block_at new b ≡ block_at blocks b) (s.len == 0) blocks (slice_set blocks (first_block s) c)
-    (λ _. refl)
-    (λ e. get_or-set_other blocks (first_block s) b c zero_block (other (not_zero s.len e)))
+  -- a block in which a span has no bytes at its start is as before
+  pub head_put-others : (b : ℕ) → (0 < s.len → b ≡ first_block s → ⊥) → block_at (head_put blocks s bytes) b ≡ block_at blocks b
+  head_put-others b other =
+      let c = overwritten (first_byte s) (take (head_len s) bytes) (block_at blocks (first_block s)) in
+      if_put (λ new. block_at new b ≡ block_at blocks b) (s.len == 0) blocks (slice_set blocks (first_block s) c)
+      (λ _. refl)
+      (λ e. get_or-set_other blocks (first_block s) b c zero_block (other (not_zero s.len e)))

@@ -9,7 +9,8 @@ pub Grew-some : (had now more : List ℕ) → now ≡ had ++ more → Grew (Some
 Grew-some had now more e = λ before same. cc
 
 -- a sink took the first n bytes, then failed
-pub TookPart-take : (old new : Stream) (bytes : List ℕ) (n : ℕ) → Grew old.taken new.taken (take n bytes) → Rose old.faults new.faults → TookPart old new bytes
+pub TookPart-take : (old new : Stream) (bytes : List ℕ) (n : ℕ) → Grew old.taken new.taken (take n bytes) → Rose old.faults new.faults
+    → TookPart old new bytes
 TookPart-take old new bytes n grew rose =
     record { part = take n bytes; rest = drop n bytes; split = sym (take-append-drop n bytes); taken = grew; rose = rose }
 

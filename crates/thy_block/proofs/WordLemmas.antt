@@ -29,7 +29,8 @@ word_of-block_of ws i l fits =
     ∙ little_number-reads_back 8 (slice_index ws i) (flat_map (little_bytes 8) (drop (suc i) ws)) fits
 
 -- the bytes of a word that was written are its number's
-pub word_bytes-block_of : (ws : List ℕ) (i : ℕ) → i < length ws → (w : ℕ) → slice_index ws i ≡ w → word_bytes (block_of ws) i ≡ little_bytes 8 w
+pub word_bytes-block_of : (ws : List ℕ) (i : ℕ) → i < length ws → (w : ℕ) → slice_index ws i ≡ w
+    → word_bytes (block_of ws) i ≡ little_bytes 8 w
 unfolding block_of number_bytes
 word_bytes-block_of ws i l w is =
     ap (take 8) (drop-words ws i l)

@@ -5,9 +5,16 @@ use Rattle.std.proofs.Math.Seq.{take-add}
 use Rattle.thy_block.specs.Bytes.{written}
 
 -- a write keeps the length
-pub length-written : (bytes : List ℕ) (at : ℕ) (piece : List ℕ) → at + length piece ≤ length bytes → length (written bytes at piece) ≡ length bytes
+pub length-written : (bytes : List ℕ) (at : ℕ) (piece : List ℕ) → at + length piece ≤ length bytes
+    → length (written bytes at piece) ≡ length bytes
 length-written bytes at piece l =
-    omega (arith, length-append (take at bytes) (piece ++ drop (at + length piece) bytes), length-append piece (drop (at + length piece) bytes), length-take-le at bytes (omega arith), length-drop (at + length piece) bytes)
+    omega (
+      arith,
+      length-append (take at bytes) (piece ++ drop (at + length piece) bytes),
+      length-append piece (drop (at + length piece) bytes),
+      length-take-le at bytes (omega arith),
+      length-drop (at + length piece) bytes,
+    )
 
 -- a piece without bytes changes nothing
 pub written-none : (bytes : List ℕ) (at : ℕ) → written bytes at [] ≡ bytes
@@ -37,41 +44,38 @@ written-right xs ys piece n i h =
     ∙ ap (λ t. (xs ++ take i ys) ++ (piece ++ t)) back
     ∙ append_assoc xs (take i ys) (piece ++ drop (i + length piece) ys)
 
--- the first bytes with a piece written among them
-pub take-written : (bytes : List ℕ) (i s : ℕ) (piece : List ℕ) → i + length piece ≤ s → s ≤ length bytes
-    → take s (written bytes i piece) ≡ written (take s bytes) i piece
-take-written bytes i s piece l most =
-    let here = length-take-le s bytes most in
-    ap (λ t. take s (written t i piece)) (sym (take-append-drop s bytes))
-    ∙ ap (take s) (written-left (take s bytes) (drop s bytes) piece i (omega (arith, here)))
-    ∙ take_at (written (take s bytes) i piece) (drop s bytes) s (length-written (take s bytes) i piece (omega (arith, here)) ∙ here)
+module _ (bytes : List ℕ) (i s : ℕ) (piece : List ℕ) where
+  -- the first bytes with a piece written among them
+  pub take-written : i + length piece ≤ s → s ≤ length bytes → take s (written bytes i piece) ≡ written (take s bytes) i piece
+  take-written l most =
+      let here = length-take-le s bytes most in
+      ap (λ t. take s (written t i piece)) (sym (take-append-drop s bytes))
+      ∙ ap (take s) (written-left (take s bytes) (drop s bytes) piece i (omega (arith, here)))
+      ∙ take_at (written (take s bytes) i piece) (drop s bytes) s (length-written (take s bytes) i piece (omega (arith, here)) ∙ here)
 
--- what is after them stays
-pub drop-written : (bytes : List ℕ) (i s : ℕ) (piece : List ℕ) → i + length piece ≤ s → s ≤ length bytes
-    → drop s (written bytes i piece) ≡ drop s bytes
-drop-written bytes i s piece l most =
-    let here = length-take-le s bytes most in
-    ap (λ t. drop s (written t i piece)) (sym (take-append-drop s bytes))
-    ∙ ap (drop s) (written-left (take s bytes) (drop s bytes) piece i (omega (arith, here)))
-    ∙ drop_at (written (take s bytes) i piece) (drop s bytes) s (length-written (take s bytes) i piece (omega (arith, here)) ∙ here)
+  -- what is after them stays
+  pub drop-written : i + length piece ≤ s → s ≤ length bytes → drop s (written bytes i piece) ≡ drop s bytes
+  drop-written l most =
+      let here = length-take-le s bytes most in
+      ap (λ t. drop s (written t i piece)) (sym (take-append-drop s bytes))
+      ∙ ap (drop s) (written-left (take s bytes) (drop s bytes) piece i (omega (arith, here)))
+      ∙ drop_at (written (take s bytes) i piece) (drop s bytes) s (length-written (take s bytes) i piece (omega (arith, here)) ∙ here)
 
--- a piece written after the first s bytes leaves those
-pub take-written_behind : (bytes : List ℕ) (i s : ℕ) (piece : List ℕ) → s ≤ length bytes
-    → take s (written bytes (s + i) piece) ≡ take s bytes
-take-written_behind bytes i s piece most =
-    let here = length-take-le s bytes most in
-    ap (λ t. take s (written t (s + i) piece)) (sym (take-append-drop s bytes))
-    ∙ ap (take s) (written-right (take s bytes) (drop s bytes) piece s i here)
-    ∙ take_at (take s bytes) (written (drop s bytes) i piece) s here
+  -- a piece written after the first s bytes leaves those
+  pub take-written_behind : s ≤ length bytes → take s (written bytes (s + i) piece) ≡ take s bytes
+  take-written_behind most =
+      let here = length-take-le s bytes most in
+      ap (λ t. take s (written t (s + i) piece)) (sym (take-append-drop s bytes))
+      ∙ ap (take s) (written-right (take s bytes) (drop s bytes) piece s i here)
+      ∙ take_at (take s bytes) (written (drop s bytes) i piece) s here
 
--- a piece written after the first s bytes is written among the bytes after them
-pub drop-written_behind : (bytes : List ℕ) (i s : ℕ) (piece : List ℕ) → s ≤ length bytes
-    → drop s (written bytes (s + i) piece) ≡ written (drop s bytes) i piece
-drop-written_behind bytes i s piece most =
-    let here = length-take-le s bytes most in
-    ap (λ t. drop s (written t (s + i) piece)) (sym (take-append-drop s bytes))
-    ∙ ap (drop s) (written-right (take s bytes) (drop s bytes) piece s i here)
-    ∙ drop_at (take s bytes) (written (drop s bytes) i piece) s here
+  -- a piece written after the first s bytes is written among the bytes after them
+  pub drop-written_behind : s ≤ length bytes → drop s (written bytes (s + i) piece) ≡ written (drop s bytes) i piece
+  drop-written_behind most =
+      let here = length-take-le s bytes most in
+      ap (λ t. drop s (written t (s + i) piece)) (sym (take-append-drop s bytes))
+      ∙ ap (drop s) (written-right (take s bytes) (drop s bytes) piece s i here)
+      ∙ drop_at (take s bytes) (written (drop s bytes) i piece) s here
 
 -- two pieces, one after the other, are one
 pub written-written : (bytes : List ℕ) (at : ℕ) (one two : List ℕ) → at + length one ≤ length bytes
@@ -82,7 +86,8 @@ written-written bytes at one two l =
     let n : length (front ++ one) ≡ at + length one = omega (arith, length-append front one, length-take-le at bytes (omega arith)) in
     let e : at + length one + 0 ≡ at + length one = omega arith in
     let all : at + length one + length two ≡ at + length (one ++ two) = omega (arith, length-append one two) in
-    let behind : drop (length two) rest ≡ drop (at + length (one ++ two)) bytes = drop-drop (length two) (at + length one) bytes ∙ ap (λ k. drop k bytes) all in
+    let behind : drop (length two) rest ≡ drop (at + length (one ++ two)) bytes =
+    drop-drop (length two) (at + length one) bytes ∙ ap (λ k. drop k bytes) all in
     ap (λ t. written t (at + length one) two) (sym (append_assoc front one rest))
     ∙ ap (λ k. written ((front ++ one) ++ rest) k two) (sym e)
     ∙ written-right (front ++ one) rest two (at + length one) 0 n

@@ -1,5 +1,5 @@
 //! Bytes that contracts see as a list.
-ghost use Rattle.std.specs.Prelude.{◌≡◌, ◌==◌, ◌+◌, ◌-◌, ◌<◌, ◌≤◌, ◌++◌, [], length, take, drop, slice_index, slice_set, vec_capacity, IfOk, OnOk, OnErr};
+ghost use Rattle.std.specs.Prelude.{◌≡◌, ◌==◌, ◌+◌, ◌-◌, ◌<◌, ◌≤◌, ◌++◌, [], ◌∷◌, length, take, drop, slice_index, slice_set, vec_capacity, IfOk, OnOk, OnErr};
 ghost use Rattle.thy_block.specs.Bytes.{bytes_of, room_of, written};
 
 use std::alloc::{AllocError, Global};
@@ -93,6 +93,16 @@ impl Bytes {
         ensures full { OnErr result (room_of self.old < length (bytes_of self.old) + length piece.now) }
     {
         self.items.extend_from_slice(piece)
+    }
+
+    /// Adds a byte at the end, for which there is room. Allocates nothing.
+    #[inline(always)]
+    pub fn push(&mut self, byte: u8)
+        requires { length (bytes_of self.old) < room_of self.old }
+        ensures bytes { bytes_of self.new ≡ bytes_of self.old ++ byte ∷ [] }
+        ensures room { room_of self.new ≡ room_of self.old }
+    {
+        self.items.push_reserved(byte);
     }
 
     /// Gives up all bytes, and keeps the room.

@@ -79,9 +79,11 @@ module _ (o : Origin) (turns : List ℕ) (v : View) (p : Pressure) where
 
 -- ---- a step
 
-module _ {M : Type 0} (K : KindOf M) (laws : IsLawful K) (o : Origin) (w : World M) (fits : Fits (line o w) (seen K o w) (marks_of o w.events)) (said : says w.device.wear ≡ true) where
+module _ {M : Type 0} (K : KindOf M) (laws : IsLawful K) (o : Origin) (w : World M)
+    (fits : Fits (line o w) (seen K o w) (marks_of o w.events)) (said : says w.device.wear ≡ true) where
   abbrev actor_in : World M → Actor
-  actor_in x = actor_of (line o x) (mix_pick o.geometry.harts w.mix) (length w.device.queue) (K.view (line o x) w.machine w.device) (K.pressure w.machine)
+  actor_in x = actor_of (line o x) (mix_pick o.geometry.harts w.mix) (length w.device.queue) (K.view (line o x) w.machine w.device)
+      (K.pressure w.machine)
 
   -- whose turn it is
   actor_is : (x : World M) → TakesStep K o w x → actor_in x ≡ actor_in w
@@ -139,7 +141,8 @@ wear_kept : (down : Bool) (old new : Wear) → down ≡ false → CutsWear down 
 wear_kept false old new up left = left
 wear_kept true old new up left = absurd (true≢false up)
 
-module _ {M : Type 0} (K : KindOf M) (laws : IsLawful K) (o : Origin) (pick : ℕ) (w x y : World M) (a : IsCutOff K o pick w x) (b : IsCutOff K o pick w y)
+module _ {M : Type 0} (K : KindOf M) (laws : IsLawful K) (o : Origin) (pick : ℕ) (w x y : World M) (a : IsCutOff K o pick w x)
+    (b : IsCutOff K o pick w y)
     (up : w.device.down ≡ false) (alike : AreLeftAlike x.device.left y.device.left) where
   left_x : x.device.left ≡ w.device.left ++ x.device.image ∷ []
   left_x = ap (λ (n : Device). n.left) a.cut.device
@@ -211,7 +214,8 @@ alike_before : (a b x y : List (List Block)) → Leaves a x → Leaves b y → A
 alike_before a b x y h k alike i l m = sym (h.same i l) ∙ alike i (h.longer i l) (k.longer i m) ∙ k.same i m
 
 module _ {M : Type 0} (K : KindOf M) (laws : IsLawful K) (o : Origin) (cuts tears : List ℕ) (w x y : World M)
-    (fits : Fits (line o w) (seen K o w) (marks_of o w.events)) (said : says w.device.wear ≡ true) (a : Cycle K o cuts tears w x) (b : Cycle K o cuts tears w y) where
+    (fits : Fits (line o w) (seen K o w) (marks_of o w.events)) (said : says w.device.wear ≡ true) (a : Cycle K o cuts tears w x)
+    (b : Cycle K o cuts tears w y) where
   between_once : a.between ≡ b.between
   between_once = step_once K laws o w fits said a.between b.between a.steps b.steps
 
@@ -252,17 +256,20 @@ world m n mix passed cycles fresh events turns = record {
   turns = turns;
 }
 
-first_once : {M : Type 0} (K : KindOf M) → IsLawful K → (o : Origin) (given : Given) (v w : World M) → IsFirst K o given v → IsFirst K o given w → v ≡ w
+first_once : {M : Type 0} (K : KindOf M) → IsLawful K → (o : Origin) (given : Given) (v w : World M) → IsFirst K o given v
+    → IsFirst K o given w → v ≡ w
 first_once {M = M} K laws o given v w a b =
     ap₂ (λ (m : M) (n : Device). world m n v.mix v.passed v.cycles v.fresh v.events v.turns)
     (laws.powered_once o.geometry v.machine w.machine a.powered b.powered (a.dram ∙ sym b.dram)) (a.device ∙ sym b.device)
     ∙ ap (λ (mix : Mix). world w.machine w.device mix v.passed v.cycles v.fresh v.events v.turns) (a.mix ∙ sym b.mix)
-    ∙ ap₂ (λ (passed cycles : ℕ). world w.machine w.device w.mix passed cycles v.fresh v.events v.turns) (a.passed ∙ sym b.passed) (a.cycles ∙ sym b.cycles)
+    ∙ ap₂ (λ (passed cycles : ℕ). world w.machine w.device w.mix passed cycles v.fresh v.events v.turns) (a.passed ∙ sym b.passed)
+    (a.cycles ∙ sym b.cycles)
     ∙ ap (λ (fresh : Bool). world w.machine w.device w.mix w.passed w.cycles fresh v.events v.turns) (a.fresh ∙ sym b.fresh)
     ∙ ap₂ (λ (events : List Event) (turns : List ℕ). world w.machine w.device w.mix w.passed w.cycles w.fresh events turns)
     (a.events ∙ sym b.events) (a.unlisted ∙ sym b.unlisted)
 
-module _ {M : Type 0} (K : KindOf M) (laws : IsLawful K) (o : Origin) (given : Given) (origin : IsOrigin o) (rising : IsRising 0 given.config.cuts)
+module _ {M : Type 0} (K : KindOf M) (laws : IsLawful K) (o : Origin) (given : Given) (origin : IsOrigin o)
+    (rising : IsRising 0 given.config.cuts)
     (says_first : says given.fitted.wear ≡ true) where
   fits_ran : (k : ℕ) (w : World M) → Ran K o given k w → Fits (line o w) (seen K o w) (marks_of o w.events)
   fits_ran k w ran =
@@ -288,7 +295,8 @@ module _ {M : Type 0} (K : KindOf M) (laws : IsLawful K) (o : Origin) (given : G
   -- the cycles that were seen, along one world before the last of them
   more_once : (k : ℕ) (x y v w : World M) (earlier others : List Taken) (c : Cycle K o given.config.cuts given.config.tears x v)
       (d : Cycle K o given.config.cuts given.config.tears y w) → x ≡ y → v ≡ w → earlier ≡ others → Ran K o given k y
-      → earlier ++ taken_in K o given.config.cuts given.config.tears x v c ∷ [] ≡ others ++ taken_in K o given.config.cuts given.config.tears y w d ∷ []
+      → earlier ++ taken_in K o given.config.cuts given.config.tears x v c ∷ []
+      ≡ others ++ taken_in K o given.config.cuts given.config.tears y w d ∷ []
   more_once k x y v w earlier others c d before after lists ran =
       ap₂ (λ (ts : List Taken) (t : Taken). ts ++ t ∷ []) lists (taken_at x (sym before) c)
     where
@@ -316,4 +324,5 @@ pub two_runs_are_one : {M : Type 0} (K : KindOf M) → IsLawful K → TwoRunsAre
 two_runs_are_one K laws o given k v w origin rising said a b alike = runs_once K laws o given origin rising said k v w a b alike
 
 pub two_runs_show_one : {M : Type 0} (K : KindOf M) → IsLawful K → TwoRunsShowOne K
-two_runs_show_one K laws o given k v w list other origin rising said a b alike = lists_once K laws o given origin rising said k v w list other a b alike
+two_runs_show_one K laws o given k v w list other origin rising said a b alike =
+    lists_once K laws o given origin rising said k v w list other a b alike

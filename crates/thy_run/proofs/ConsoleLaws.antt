@@ -67,17 +67,20 @@ grown o (Some k) b g =
     let later = g k refl in
     let more = console-grows o k.count later.0.count later.2 in
     let is : console_shown o b ≡ console_at o k.count ++ more.0 = ap (console_shown o) later.1 ∙ more.1 in
-    is ∙ ap (λ (l : List ℕ). console_at o k.count ++ l) (sym (ap (drop (length (console_at o k.count))) is ∙ drop-append_seam (console_at o k.count) more.0))
+    is ∙ ap (λ (l : List ℕ). console_at o k.count ++ l)
+    (sym (ap (drop (length (console_at o k.count))) is ∙ drop-append_seam (console_at o k.count) more.0))
 
 -- ---- what was done
 
 module _ (o : Origin) (v next : View) (m : Marks) (h : Fits o v m) where
   -- the marks that a step's event leaves keep the committed one, or a later one
-  pub Grows-reported : (did : Did) (cycle : ℕ) → CoreStep o v did next → Grows m.kept (marks_from o.start.count m (did_events o v did cycle)).kept
+  pub Grows-reported : (did : Did) (cycle : ℕ) → CoreStep o v did next
+      → Grows m.kept (marks_from o.start.count m (did_events o v did cycle)).kept
   Grows-reported Boot cycle s = grows_same m.kept m.kept refl
   Grows-reported Loaded cycle s = grows_none m.kept m.sealed ((Covers-sealed o v m h).nothing s.none)
   Grows-reported (Restarted epoch count) cycle s = λ k kept.
-      elim ((Covers-sealed o v m h).of_done (mark epoch count) s.done) as (λ _. (later : Mark) × (Some (mark epoch count) ≡ Some later) × (k.count ≤ later.count)) [
+      elim ((Covers-sealed o v m h).of_done (mark epoch count) s.done)
+      as (λ _. (later : Mark) × (Some (mark epoch count) ≡ Some later) × (k.count ≤ later.count)) [
         | inl same ↦ (mark epoch count, refl, (let e : k ≡ mark epoch count = some_same k (mark epoch count) (sym kept ∙ same) in let c : k.count ≡ count = ap (λ (x : Mark). x.count) e in omega arith))
         | inr sealed ↦ (mark epoch count, refl, Rises-fits o v m h k (mark epoch count) kept sealed)
       ]
@@ -106,7 +109,8 @@ module _ (o : Origin) (v next : View) (m : Marks) (h : Fits o v m) where
       ]
 
   -- after what shows a console the committed mark is the view's, after anything else it is the one before
-  pub kept-reported : (did : Did) (cycle : ℕ) → CoreStep o v did next → (marks_from o.start.count m (did_events o v did cycle)).kept ≡ (if shows_console did then next.done else m.kept)
+  pub kept-reported : (did : Did) (cycle : ℕ) → CoreStep o v did next
+      → (marks_from o.start.count m (did_events o v did cycle)).kept ≡ (if shows_console did then next.done else m.kept)
   kept-reported Boot cycle s = refl
   kept-reported Loaded cycle s = loading_sealed s.none s.phase ∙ sym (ap (λ w. w.done) s.becomes)
   kept-reported (Restarted epoch count) cycle s = sym s.done ∙ sym (ap (λ w. w.done) s.becomes)
@@ -144,12 +148,14 @@ of_mark : (o : Origin) (t turns : List ℕ) (kept : Option Mark) → ((k : Mark)
 of_mark o t turns None leads = refl
 of_mark o t turns (Some k) leads = ap (λ (x : State). x.console) (state_there (with_turns o t) turns k.count (leads k refl))
 
-released_if : (o : Origin) (t : List ℕ) (b : Bool) (m : Marks) → ((k : Mark) → m.kept ≡ Some k → LeadsTo (with_turns o t) m.kept_turns k.count)
+released_if : (o : Origin) (t : List ℕ) (b : Bool) (m : Marks)
+    → ((k : Mark) → m.kept ≡ Some k → LeadsTo (with_turns o t) m.kept_turns k.count)
     → (if b then console_kept (console_by o) m else []) ≡ console_shown (with_turns o t) (mark_if b m.kept)
 released_if o t true m leads = of_mark o t m.kept_turns m.kept leads
 released_if o t false m leads = refl
 
-released_marks : (o : Origin) (t : List ℕ) (events : List Event) → ((k : Mark) → (marks_of o events).kept ≡ Some k → LeadsTo (with_turns o t) (marks_of o events).kept_turns k.count)
+released_marks : (o : Origin) (t : List ℕ) (events : List Event)
+    → ((k : Mark) → (marks_of o events).kept ≡ Some k → LeadsTo (with_turns o t) (marks_of o events).kept_turns k.count)
     → released_of o events ≡ console_shown (with_turns o t) (shown_of o events)
 released_marks o t events leads = released_if o t (list_any shows events) (marks_of o events) leads
 
@@ -189,7 +195,8 @@ end_shows : (o : Origin) (next : View) (cycle : ℕ) (b : Bool)
 end_shows o next cycle true = refl
 end_shows o next cycle false = refl
 
-events_show : (o : Origin) (fresh : Bool) (v : View) (did : Did) (next : View) (cycle : ℕ) → list_any shows (events_of o fresh v did next cycle) ≡ shows_console did
+events_show : (o : Origin) (fresh : Bool) (v : View) (did : Did) (next : View) (cycle : ℕ)
+    → list_any shows (events_of o fresh v did next cycle) ≡ shows_console did
 events_show o fresh v did next cycle =
     list_any-append shows (reload_events fresh next ++ did_events o v did cycle) (end_events o v next cycle)
     ∙ ap (λ b. list_any shows (reload_events fresh next ++ did_events o v did cycle) || b) (end_shows o next cycle (halts v next))
@@ -206,9 +213,11 @@ mark_next w es true found before later shown is = ap (λ b. mark_if (w || b) lat
     or_true : (b : Bool) → (b || true) ≡ true
     or_true true = refl
     or_true false = refl
-mark_next w es false found before later shown is = ap (λ b. mark_if (w || b) later) shown ∙ ap (λ b. mark_if b later) (or_false w) ∙ ap (mark_if w) is
+mark_next w es false found before later shown is =
+    ap (λ b. mark_if (w || b) later) shown ∙ ap (λ b. mark_if b later) (or_false w) ∙ ap (mark_if w) is
 
-module _ {M : Type 0} (K : KindOf M) (o : Origin) (w next : World M) (least : 1 ≤ o.geometry.epoch) (h : Coheres K o w) (step : TakesStep K o w next) where
+module _ {M : Type 0} (K : KindOf M) (o : Origin) (w next : World M) (least : 1 ≤ o.geometry.epoch) (h : Coheres K o w)
+    (step : TakesStep K o w next) where
   core : CoreStep (line o next) (seen K o w) step.r.did (seen K o next)
   core = core_of K o w next step
 
@@ -222,8 +231,10 @@ module _ {M : Type 0} (K : KindOf M) (o : Origin) (w next : World M) (least : 1 
   marks_more part = marks_from-append o.start.count (first_marks o) w.events part
 
   -- the marks after the first of a cycle's events are those before it, or those that what was done leaves
-  behind_part : (P : Marks → Type 0) → P (marks_of o w.events) → P (marks_from o.start.count (marks_of o w.events) (did_events (line o next) (seen K o w) step.r.did (w.cycles + 1)))
-      → (part rest : List Event) → part ++ rest ≡ events_of (line o next) w.fresh (seen K o w) step.r.did (seen K o next) (w.cycles + 1) → P (marks_of o (w.events ++ part))
+  behind_part : (P : Marks → Type 0) → P (marks_of o w.events)
+      → P (marks_from o.start.count (marks_of o w.events) (did_events (line o next) (seen K o w) step.r.did (w.cycles + 1)))
+      → (part rest : List Event) → part ++ rest ≡ events_of (line o next) w.fresh (seen K o w) step.r.did (seen K o next) (w.cycles + 1)
+      → P (marks_of o (w.events ++ part))
   behind_part P stood done part rest e =
       subst P (sym (marks_more part))
       (elim (marks-part (line o next) (seen K o w) (seen K o next) (marks_of o w.events) step.r.did w.fresh (w.cycles + 1) least fits core part rest e)
@@ -232,36 +243,41 @@ module _ {M : Type 0} (K : KindOf M) (o : Origin) (w next : World M) (least : 1 
         | inr all ↦ subst P (sym all) done
       ])
 
-  report_grows : Grows (marks_of o w.events).kept (marks_from o.start.count (marks_of o w.events) (did_events (line o next) (seen K o w) step.r.did (w.cycles + 1))).kept
+  report_grows : Grows (marks_of o w.events).kept
+      (marks_from o.start.count (marks_of o w.events) (did_events (line o next) (seen K o w) step.r.did (w.cycles + 1))).kept
   report_grows = Grows-reported (line o next) (seen K o w) (seen K o next) (marks_of o w.events) fits step.r.did (w.cycles + 1) core
 
-  part_grows : (part rest : List Event) → part ++ rest ≡ events_of (line o next) w.fresh (seen K o w) step.r.did (seen K o next) (w.cycles + 1)
-      → Grows (marks_of o w.events).kept (marks_of o (w.events ++ part)).kept
-  part_grows part rest e =
-      behind_part (λ (x : Marks). Grows (marks_of o w.events).kept x.kept) (grows_same (marks_of o w.events).kept (marks_of o w.events).kept refl) report_grows part rest e
+  module _ (part rest : List Event)
+      (e : part ++ rest ≡ events_of (line o next) w.fresh (seen K o w) step.r.did (seen K o next) (w.cycles + 1)) where
+    part_grows : Grows (marks_of o w.events).kept (marks_of o (w.events ++ part)).kept
+    part_grows =
+        behind_part (λ (x : Marks). Grows (marks_of o w.events).kept x.kept)
+        (grows_same (marks_of o w.events).kept (marks_of o w.events).kept refl) report_grows part rest e
 
-  part_leads : (part rest : List Event) → part ++ rest ≡ events_of (line o next) w.fresh (seen K o w) step.r.did (seen K o next) (w.cycles + 1)
-      → (k : Mark) → (marks_of o (w.events ++ part)).kept ≡ Some k → LeadsTo (line o next) (marks_of o (w.events ++ part)).kept_turns k.count
-  part_leads part rest e =
-      behind_part (λ (x : Marks). (k : Mark) → x.kept ≡ Some k → LeadsTo (line o next) x.kept_turns k.count) leads.kept
-      (Leads-reported (line o next) (seen K o w) (seen K o next) (marks_of o w.events) fits leads step.r.did (w.cycles + 1) (reported_before K o w least h next step) core).kept
-      part rest e
+    part_leads : (k : Mark) → (marks_of o (w.events ++ part)).kept ≡ Some k
+        → LeadsTo (line o next) (marks_of o (w.events ++ part)).kept_turns k.count
+    part_leads =
+        behind_part (λ (x : Marks). (k : Mark) → x.kept ≡ Some k → LeadsTo (line o next) x.kept_turns k.count) leads.kept
+        (Leads-reported (line o next) (seen K o w) (seen K o next) (marks_of o w.events) fits leads step.r.did (w.cycles + 1)
+        (reported_before K o w least h next step) core).kept
+        part rest e
 
-  shown_grows : (part rest : List Event) → part ++ rest ≡ events_of (line o next) w.fresh (seen K o w) step.r.did (seen K o next) (w.cycles + 1)
-      → Grows (shown_of o w.events) (shown_of o (w.events ++ part))
-  shown_grows part rest e =
-      grows_if (list_any shows w.events) (list_any shows (w.events ++ part)) (marks_of o w.events).kept (marks_of o (w.events ++ part)).kept
-      (shown_on o w.events part) (part_grows part rest e)
+    shown_grows : Grows (shown_of o w.events) (shown_of o (w.events ++ part))
+    shown_grows =
+        grows_if (list_any shows w.events) (list_any shows (w.events ++ part)) (marks_of o w.events).kept (marks_of o (w.events ++ part)).kept
+        (shown_on o w.events part) part_grows
 
   -- what was released before is the console along the turns that are reported after the step
   before : released_of o w.events ≡ console_shown (line o next) (shown_of o w.events)
   before = released_marks o next.turns w.events leads.kept
 
   -- the first of a cycle's events release more, or nothing
-  pub released-part : (part rest : List Event) → part ++ rest ≡ events_of (line o next) w.fresh (seen K o w) step.r.did (seen K o next) (w.cycles + 1)
+  pub released-part : (part rest : List Event)
+      → part ++ rest ≡ events_of (line o next) w.fresh (seen K o w) step.r.did (seen K o next) (w.cycles + 1)
       → (more : List ℕ) × (released_of o (w.events ++ part) ≡ released_of o w.events ++ more)
   released-part part rest e =
-      let more : List ℕ = drop (length (console_shown (line o next) (shown_of o w.events))) (console_shown (line o next) (shown_of o (w.events ++ part))) in (
+      let more : List ℕ = drop (length (console_shown (line o next) (shown_of o w.events)))
+      (console_shown (line o next) (shown_of o (w.events ++ part))) in (
         more,
         released_marks o next.turns (w.events ++ part) (part_leads part rest e)
             ∙ grown (line o next) (shown_of o w.events) (shown_of o (w.events ++ part)) (shown_grows part rest e)
@@ -283,22 +299,27 @@ module _ {M : Type 0} (K : KindOf M) (o : Origin) (w next : World M) (least : 1 
   all_shown =
       let es : List Event = events_of (line o next) w.fresh (seen K o w) step.r.did (seen K o next) (w.cycles + 1) in
       ap (λ b. mark_if b (marks_of o next.events).kept) (ap (list_any shows) all_events ∙ list_any-append shows w.events es)
-      ∙ mark_next (list_any shows w.events) (list_any shows es) (shows_console step.r.did) (seen K o next).done (marks_of o w.events).kept (marks_of o next.events).kept
+      ∙ mark_next (list_any shows w.events) (list_any shows es) (shows_console step.r.did) (seen K o next).done (marks_of o w.events).kept
+      (marks_of o next.events).kept
       (events_show (line o next) w.fresh (seen K o w) step.r.did (seen K o next) (w.cycles + 1)) all_kept
 
   all_released : released_of o next.events ≡ console_shown (line o next) (shown_of o next.events)
   all_released = released_marks o next.turns next.events (Coheres-stepped K o w least h next step).leads.kept
 
   by_show : (b : Bool) → shows_console step.r.did ≡ b
-      → released_of o next.events ≡ released_of o w.events ++ (if b then drop (length (released_of o w.events)) (console_shown (line o next) (seen K o next).done) else [])
+      → released_of o next.events ≡ released_of o w.events
+      ++ (if b then drop (length (released_of o w.events)) (console_shown (line o next) (seen K o next).done) else [])
   by_show true shows_it =
       let es : List Event = events_of (line o next) w.fresh (seen K o w) step.r.did (seen K o next) (w.cycles + 1) in
-      let shown : shown_of o next.events ≡ (seen K o next).done = all_shown ∙ ap (λ b. if b then (seen K o next).done else shown_of o w.events) shows_it in
-      let grows : Grows (shown_of o w.events) (seen K o next).done = subst (Grows (shown_of o w.events)) (sym (ap (shown_of o) all_events) ∙ shown) (shown_grows es [] (append-nil es)) in
+      let shown : shown_of o next.events ≡ (seen K o next).done =
+      all_shown ∙ ap (λ b. if b then (seen K o next).done else shown_of o w.events) shows_it in
+      let grows : Grows (shown_of o w.events) (seen K o next).done =
+      subst (Grows (shown_of o w.events)) (sym (ap (shown_of o) all_events) ∙ shown) (shown_grows es [] (append-nil es)) in
       all_released ∙ ap (console_shown (line o next)) shown ∙ grown (line o next) (shown_of o w.events) (seen K o next).done grows
       ∙ ap (λ (l : List ℕ). l ++ drop (length l) (console_shown (line o next) (seen K o next).done)) (sym before)
   by_show false hides =
-      let shown : shown_of o next.events ≡ shown_of o w.events = all_shown ∙ ap (λ b. if b then (seen K o next).done else shown_of o w.events) hides in
+      let shown : shown_of o next.events ≡ shown_of o w.events =
+      all_shown ∙ ap (λ b. if b then (seen K o next).done else shown_of o w.events) hides in
       all_released ∙ ap (console_shown (line o next)) shown ∙ sym before ∙ sym (append-nil (released_of o w.events))
 
   -- a cycle's events release the bytes that it has to show
@@ -306,18 +327,21 @@ module _ {M : Type 0} (K : KindOf M) (o : Origin) (w next : World M) (least : 1 
   released-stepped = by_show (shows_console step.r.did) refl
 
 -- a cut releases nothing
-pub released-cut : (o : Origin) (events : List Event) (index cycle : ℕ) → released_of o (events ++ Cut index cycle ∷ []) ≡ released_of o events
+pub released-cut : (o : Origin) (events : List Event) (index cycle : ℕ)
+    → released_of o (events ++ Cut index cycle ∷ []) ≡ released_of o events
 released-cut o events index cycle =
     ap (λ b. if b then console_kept (console_by o) (marks_of o (events ++ Cut index cycle ∷ [])) else [])
     (list_any-append shows events (Cut index cycle ∷ []) ∙ or_false (list_any shows events))
-    ∙ ap (λ (x : Marks). if list_any shows events then console_kept (console_by o) x else []) (marks_from-append o.start.count (first_marks o) events (Cut index cycle ∷ []))
+    ∙ ap (λ (x : Marks). if list_any shows events then console_kept (console_by o) x else [])
+    (marks_from-append o.start.count (first_marks o) events (Cut index cycle ∷ []))
 
 -- ---- how much the console can be
 
 console-few : (o : Origin) (k : ℕ) → IsOrigin o → length (console_at o k) < 2 ^ 64
 console-few o k origin =
     let Roomy : State → Type 0 = λ t. length t.console ≤ (setting_of o).room in
-    let room : length (console_at o k) ≤ (setting_of o).room = at-holds Roomy o (record { steps = λ s h. step-room (setting_of o) s h; crosses = λ s h. h }) origin.recordable.console k in
+    let room : length (console_at o k) ≤ (setting_of o).room =
+    at-holds Roomy o (record { steps = λ s h. step-room (setting_of o) s h; crosses = λ s h. h }) origin.recordable.console k in
     omega (arith, room, console_most o.geometry origin.geometry)
 
 mark_few : (o : Origin) (turns : List ℕ) (kept : Option Mark) → IsOrigin o → length (console_of (console_by o) kept turns) < 2 ^ 64

@@ -38,7 +38,8 @@ covers_boot o v m f = elim f.boots as (λ _. Covers m.kept m.sealed v.done v.sea
   }
   | inr r ↦ record {
     nothing = λ none. none_some v.done r.mark none r.done;
-    of_done = λ d some. let same : r.mark ≡ d = (let e : Some r.mark ≡ Some d = sym r.done ∙ some in cc) in subst (IsEither m.kept m.sealed) same r.either;
+    of_done = λ d some. let same : r.mark ≡ d = (let e : Some r.mark ≡ Some d = sym r.done ∙ some in cc) in
+        subst (IsEither m.kept m.sealed) same r.either;
     of_doubt = λ d some. none_some v.sealed d r.sealed some;
   }
 ]
@@ -66,8 +67,10 @@ covers_in o v m Halt f = covers_halt o v m f
 pub Covers-sealed : (o : Origin) (v : View) (m : Marks) → Fits o v m → Covers m.kept m.sealed v.done v.sealed
 Covers-sealed o v m f = covers_in o v m v.phase f
 
-unsealed : (kept sealed done doubt : Option Mark) (written : Bool) → Covers kept sealed done doubt → Covers kept sealed done (if written then doubt else None)
-unsealed kept sealed last doubt written c = record { nothing = c.nothing; of_done = c.of_done; of_doubt = λ d some. c.of_doubt d (doubt_sealed written doubt d some) }
+unsealed : (kept sealed done doubt : Option Mark) (written : Bool) → Covers kept sealed done doubt
+    → Covers kept sealed done (if written then doubt else None)
+unsealed kept sealed last doubt written c =
+    record { nothing = c.nothing; of_done = c.of_done; of_doubt = λ d some. c.of_doubt d (doubt_sealed written doubt d some) }
 
 pub Covers-fits : (o : Origin) (v : View) (m : Marks) → Fits o v m → Covers m.kept m.sealed v.done (doubt_of v)
 Covers-fits o v m f = unsealed m.kept m.sealed v.done v.sealed v.written (Covers-sealed o v m f)
@@ -77,7 +80,8 @@ pub Covers-fault : (o : Origin) (v : View) (m : Marks) (a : Action) → Fits o v
 Covers-fault o v m a f = unsealed m.kept m.sealed v.done v.sealed (is_commit_write a || v.written) (Covers-sealed o v m f)
 
 -- a step's view, before its event is reported
-before_commit : (o : Origin) (v next : View) (m : Marks) (s : Mark) → RunFits o v m → v.sealed ≡ Some s → next.done ≡ v.sealed → next.sealed ≡ None
+before_commit : (o : Origin) (v next : View) (m : Marks) (s : Mark) → RunFits o v m → v.sealed ≡ Some s → next.done ≡ v.sealed
+    → next.sealed ≡ None
     → Covers m.kept m.sealed next.done next.sealed
 before_commit o v next m s f sealed done none = record {
   nothing = λ missing. none_some next.done s missing (done ∙ sealed);
@@ -96,7 +100,8 @@ module _ (o : Origin) (v next : View) (m : Marks) (least : 1 ≤ o.geometry.epoc
         of_doubt = λ d some. none_some next.sealed d (ap (λ w. w.sealed) s.becomes) some;
       }
 
-  before_sealed : (epoch count : ℕ) (cause : EndCause) (s : CoreStep o v (Sealed epoch count cause) next) → Covers m.kept m.sealed next.done (doubt_of next)
+  before_sealed : (epoch count : ℕ) (cause : EndCause) (s : CoreStep o v (Sealed epoch count cause) next)
+      → Covers m.kept m.sealed next.done (doubt_of next)
   before_sealed epoch count cause s =
       let c = Covers-sealed o v m h in
       let f : RunFits o v m = subst (FitsIn o v m) s.phase h in
@@ -106,7 +111,8 @@ module _ (o : Origin) (v next : View) (m : Marks) (least : 1 ≤ o.geometry.epoc
       record {
         nothing = λ none. c.nothing (sym done ∙ none);
         of_done = λ d some. c.of_done d (sym done ∙ some);
-        of_doubt = λ d some. absurd (let e : (if next.written then next.sealed else None) ≡ None = ap (λ b. if b then next.sealed else None) unwritten in cc);
+        of_doubt = λ d some. absurd (let e : (if next.written then next.sealed else None) ≡ None =
+            ap (λ b. if b then next.sealed else None) unwritten in cc);
       }
 
   -- the marks before a step's event cover the view after it
@@ -118,7 +124,11 @@ module _ (o : Origin) (v next : View) (m : Marks) (least : 1 ≤ o.geometry.epoc
       let done : next.done ≡ v.done = ap (λ w. w.done) s.becomes in
       let sealed : next.sealed ≡ v.sealed = ap (λ w. w.sealed) s.becomes in
       unsealed m.kept m.sealed next.done next.sealed next.written
-      (record { nothing = λ none. c.nothing (sym done ∙ none); of_done = λ d some. c.of_done d (sym done ∙ some); of_doubt = λ d some. c.of_doubt d (sym sealed ∙ some) })
+      (record {
+        nothing = λ none. c.nothing (sym done ∙ none);
+        of_done = λ d some. c.of_done d (sym done ∙ some);
+        of_doubt = λ d some. c.of_doubt d (sym sealed ∙ some);
+      })
   Covers-before (Refused bad) s = Covers-fits o next m (Fits-reported o v next m least h (Refused bad) 0 s)
   Covers-before Moved s = Covers-fits o next m (Fits-reported o v next m least h Moved 0 s)
   Covers-before (Retired hart) s = Covers-fits o next m (Fits-reported o v next m least h (Retired hart) 0 s)
@@ -169,7 +179,8 @@ part_of_none (p ∷ part) rest e = absurd (cc)
 
 part_of_short : (part rest vs : List Event) → IsShort vs → part ++ rest ≡ vs → (part ≡ []) ⊎ (part ≡ vs)
 part_of_short part rest vs (inl none) e = inl (part_of_none part rest (e ∙ none))
-part_of_short part rest vs (inr (v, one)) e = elim (part_of_one part rest v (e ∙ one)) as (λ _. (part ≡ []) ⊎ (part ≡ vs)) [ inl a ↦ inl a | inr b ↦ inr (b ∙ sym one) ]
+part_of_short part rest vs (inr (v, one)) e =
+    elim (part_of_one part rest v (e ∙ one)) as (λ _. (part ≡ []) ⊎ (part ≡ vs)) [ inl a ↦ inl a | inr b ↦ inr (b ∙ sym one) ]
 
 pub report_is_short : (o : Origin) (v : View) (did : Did) (cycle : ℕ) → IsShort (did_events o v did cycle)
 report_is_short o v Boot cycle = inl refl
@@ -199,10 +210,12 @@ end_kept o m next cycle part b (inl none) = ap (marks_from o.start.count m) none
 end_kept o m next cycle part true (inr all) = ap (marks_from o.start.count m) all
 end_kept o m next cycle part false (inr none) = ap (marks_from o.start.count m) none
 
-module _ (o : Origin) (v next : View) (m : Marks) (did : Did) (fresh : Bool) (cycle : ℕ) (least : 1 ≤ o.geometry.epoch) (h : Fits o v m) (s : CoreStep o v did next) where
+module _ (o : Origin) (v next : View) (m : Marks) (did : Did) (fresh : Bool) (cycle : ℕ) (least : 1 ≤ o.geometry.epoch) (h : Fits o v m)
+    (s : CoreStep o v did next) where
   -- some events leave the marks that stood, or those that what was done leaves
   abbrev pub LeavesEither : List Event → Type 0
-  LeavesEither part = (marks_from o.start.count m part ≡ m) ⊎ (marks_from o.start.count m part ≡ marks_from o.start.count m (did_events o v did cycle))
+  LeavesEither part = (marks_from o.start.count m part ≡ m)
+      ⊎ (marks_from o.start.count m part ≡ marks_from o.start.count m (did_events o v did cycle))
 
   reload_kept : marks_from o.start.count m (reload_events fresh next) ≡ m
   reload_kept = (Reloads-reported o v next m did fresh least h s).marks
@@ -211,16 +224,19 @@ module _ (o : Origin) (v next : View) (m : Marks) (did : Did) (fresh : Bool) (cy
   after_reload more = marks_from-append o.start.count m (reload_events fresh next) more ∙ ap (λ n. marks_from o.start.count n more) reload_kept
 
   of_reload : (part rest : List Event) → part ++ rest ≡ reload_events fresh next → LeavesEither part
-  of_reload part rest e = elim (part_of_short part rest (reload_events fresh next) (if_short (fresh && loads next) Reload) e) as (λ _. LeavesEither part) [
-    | inl none ↦ inl (ap (marks_from o.start.count m) none)
-    | inr all ↦ inl (ap (marks_from o.start.count m) all ∙ reload_kept)
-  ]
+  of_reload part rest e = elim (part_of_short part rest (reload_events fresh next) (if_short (fresh && loads next) Reload) e)
+      as (λ _. LeavesEither part) [
+        | inl none ↦ inl (ap (marks_from o.start.count m) none)
+        | inr all ↦ inl (ap (marks_from o.start.count m) all ∙ reload_kept)
+      ]
 
-  of_reported : (part more rest : List Event) → part ≡ reload_events fresh next ++ more → more ++ rest ≡ did_events o v did cycle → LeavesEither part
-  of_reported part more rest is e = elim (part_of_short more rest (did_events o v did cycle) (report_is_short o v did cycle) e) as (λ _. LeavesEither part) [
-    | inl none ↦ inl (ap (marks_from o.start.count m) is ∙ after_reload more ∙ ap (marks_from o.start.count m) none)
-    | inr all ↦ inr (ap (marks_from o.start.count m) is ∙ after_reload more ∙ ap (marks_from o.start.count m) all)
-  ]
+  of_reported : (part more rest : List Event) → part ≡ reload_events fresh next ++ more → more ++ rest ≡ did_events o v did cycle
+      → LeavesEither part
+  of_reported part more rest is e =
+      elim (part_of_short more rest (did_events o v did cycle) (report_is_short o v did cycle) e) as (λ _. LeavesEither part) [
+        | inl none ↦ inl (ap (marks_from o.start.count m) is ∙ after_reload more ∙ ap (marks_from o.start.count m) none)
+        | inr all ↦ inr (ap (marks_from o.start.count m) is ∙ after_reload more ∙ ap (marks_from o.start.count m) all)
+      ]
 
   of_both : (part rest : List Event) → part ++ rest ≡ reload_events fresh next ++ did_events o v did cycle → LeavesEither part
   of_both part rest e = elim (cutting part rest (reload_events fresh next) (did_events o v did cycle) e) as (λ _. LeavesEither part) [
@@ -228,7 +244,8 @@ module _ (o : Origin) (v next : View) (m : Marks) (did : Did) (fresh : Bool) (cy
     | beyond more r is f ↦ of_reported part more r is f
   ]
 
-  of_end : (part more rest : List Event) → part ≡ reload_events fresh next ++ did_events o v did cycle ++ more → more ++ rest ≡ end_events o v next cycle → LeavesEither part
+  of_end : (part more rest : List Event) → part ≡ reload_events fresh next ++ did_events o v did cycle ++ more
+      → more ++ rest ≡ end_events o v next cycle → LeavesEither part
   of_end part more rest is e =
       inr (
       ap (marks_from o.start.count m) is ∙ marks_from-append o.start.count m (reload_events fresh next ++ did_events o v did cycle) more
@@ -238,7 +255,8 @@ module _ (o : Origin) (v next : View) (m : Marks) (did : Did) (fresh : Bool) (cy
 
   -- the first of a cycle's events leave the marks that stood, or the marks that what was done leaves
   pub marks-part : (part rest : List Event) → part ++ rest ≡ events_of o fresh v did next cycle → LeavesEither part
-  marks-part part rest e = elim (cutting part rest (reload_events fresh next ++ did_events o v did cycle) (end_events o v next cycle) e) as (λ _. LeavesEither part) [
-    | within r f ↦ of_both part r f
-    | beyond more r is f ↦ of_end part more r is f
-  ]
+  marks-part part rest e = elim (cutting part rest (reload_events fresh next ++ did_events o v did cycle) (end_events o v next cycle) e)
+      as (λ _. LeavesEither part) [
+        | within r f ↦ of_both part r f
+        | beyond more r is f ↦ of_end part more r is f
+      ]

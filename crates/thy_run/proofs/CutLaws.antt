@@ -55,8 +55,10 @@ start_found : (p : Origin) → LeadsTo p (turns_of (loading_marks p.start.count)
 start_found p =
     subst (λ (l : List ℕ). LeadsTo p l p.start.count) (sym (turns_of-sealed (loading_marks p.start.count) 0 p.start.count refl)) (start_leads p)
 
-found_in : (p : Origin) (v : View) (m : Marks) (ph : Phase) → FitsIn p v m ph → ((k : Mark) → m.kept ≡ Some k → LeadsTo p m.kept_turns k.count)
-    → LeadsIn p v m ph → (k : Mark) → (v.done ≡ Some k) ⊎ (v.sealed ≡ Some k) → IsEither m.kept m.sealed k → LeadsTo p (turns_of m k.epoch k.count) k.count
+found_in : (p : Origin) (v : View) (m : Marks) (ph : Phase) → FitsIn p v m ph
+    → ((k : Mark) → m.kept ≡ Some k → LeadsTo p m.kept_turns k.count)
+    → LeadsIn p v m ph → (k : Mark) → (v.done ≡ Some k) ⊎ (v.sealed ≡ Some k) → IsEither m.kept m.sealed k
+    → LeadsTo p (turns_of m k.epoch k.count) k.count
 found_in p v m BootPhase f kept other k (inl done) either = other k done
 found_in p v m BootPhase f kept other k (inr sealed) either = elim f.boots as (λ _. LeadsTo p (turns_of m k.epoch k.count) k.count) [
   | inl l ↦
@@ -73,7 +75,8 @@ pub record Leaves (p : Origin) (m : Marks) (k : Mark) : Type 0 where
   pub either : IsEither m.kept m.sealed k
   pub leads : LeadsTo p (turns_of m k.epoch k.count) k.count
 
-pub leaves_one : (p : Origin) (v : View) (m : Marks) → Fits p v m → Leads p v m → (k : Mark) → (v.done ≡ Some k) ⊎ (v.sealed ≡ Some k) → Leaves p m k
+pub leaves_one : (p : Origin) (v : View) (m : Marks) → Fits p v m → Leads p v m → (k : Mark) → (v.done ≡ Some k) ⊎ (v.sealed ≡ Some k)
+    → Leaves p m k
 leaves_one p v m f l k which =
     let c = Covers-sealed p v m f in
     let either : IsEither m.kept m.sealed k = elim which as (λ _. IsEither m.kept m.sealed k) [
@@ -83,7 +86,8 @@ leaves_one p v m f l k which =
     record { either = either; leads = found_in p v m v.phase f l.kept l.other k which either }
 
 -- what is in doubt is sealed
-pub or_sealed : (written : Bool) (done sealed : Option Mark) (k : Mark) → (done ≡ Some k) ⊎ ((if written then sealed else None) ≡ Some k) → (done ≡ Some k) ⊎ (sealed ≡ Some k)
+pub or_sealed : (written : Bool) (done sealed : Option Mark) (k : Mark) → (done ≡ Some k) ⊎ ((if written then sealed else None) ≡ Some k)
+    → (done ≡ Some k) ⊎ (sealed ≡ Some k)
 or_sealed written last sealed k (inl is) = inl is
 or_sealed written last sealed k (inr doubt) = inr (doubt_sealed written sealed k doubt)
 
@@ -103,10 +107,12 @@ pub IsSafe-by : (read : Reading) (p : Origin) (done doubt : Option Mark) (m : Ma
 IsSafe-by read p done doubt m n nothing leaves safe =
     λ g crash. stands_by p done doubt m nothing leaves (read p.geometry ceiling g) (safe g crash)
 
-pub IsSafe-fits : (read : Reading) (p : Origin) (v : View) (m : Marks) (n : Device) → Fits p v m → Leads p v m → Safe read p v.done (doubt_of v) n
+pub IsSafe-fits : (read : Reading) (p : Origin) (v : View) (m : Marks) (n : Device) → Fits p v m → Leads p v m
+    → Safe read p v.done (doubt_of v) n
     → IsSafe read p m n
 IsSafe-fits read p v m n f l safe =
-    IsSafe-by read p v.done (doubt_of v) m n (Covers-fits p v m f).nothing (λ k which. leaves_one p v m f l k (or_sealed v.written v.done v.sealed k which)) safe
+    IsSafe-by read p v.done (doubt_of v) m n (Covers-fits p v m f).nothing
+    (λ k which. leaves_one p v m f l k (or_sealed v.written v.done v.sealed k which)) safe
 
 -- ---- a cut
 
@@ -167,11 +173,13 @@ leads_cut p t v m NothingLeft f l one agree = record {
 }
 leads_cut p t v m (RefusedImage bad) f l one agree = absurd one
 leads_cut p t v m (At epoch state) f l one agree =
-    let here : Leaves p m (mark epoch state.count) = leaves_one p v m f l (mark epoch state.count) (or_sealed v.written v.done v.sealed (mark epoch state.count) one.0) in
+    let here : Leaves p m (mark epoch state.count) =
+    leaves_one p v m f l (mark epoch state.count) (or_sealed v.written v.done v.sealed (mark epoch state.count) one.0) in
     record {
       kept = λ k is.
           let le : k.count ≤ state.count = elim here.either as (λ _. k.count ≤ state.count) [
-            | inl same ↦ (let e : k.count ≡ state.count = ap (λ (x : Mark). x.count) (some_same k (mark epoch state.count) (sym is ∙ same)) in omega (arith, e))
+            | inl same ↦ (let e : k.count ≡ state.count =
+                ap (λ (x : Mark). x.count) (some_same k (mark epoch state.count) (sym is ∙ same)) in omega (arith, e))
             | inr sealed ↦ Rises-fits p v m f k (mark epoch state.count) is sealed
           ] in
           leads_agreeing p t m.kept_turns k.count (AgreeBelow-less p t k.count state.count le agree) (l.kept k is);
@@ -181,7 +189,8 @@ leads_cut p t v m (At epoch state) f l one agree =
     }
 
 -- what the view after a cut finds is what was left
-pub found_cut : (p : Origin) (t : List ℕ) (v : View) (d : Decoded) → IsOneOf p v.done (doubt_of v) d → AgreeBelow p t (reach (view_of_image p.start.count d))
+pub found_cut : (p : Origin) (t : List ℕ) (v : View) (d : Decoded) → IsOneOf p v.done (doubt_of v) d
+    → AgreeBelow p t (reach (view_of_image p.start.count d))
     → IsFound (with_turns p t) (view_of_image p.start.count d) d
 found_cut p t v NothingLeft one agree = refl
 found_cut p t v (RefusedImage bad) one agree = absurd one

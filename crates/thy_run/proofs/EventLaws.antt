@@ -24,7 +24,8 @@ not_boot true e = absurd (cc)
 not_boot false e = absurd (cc)
 
 -- a boot that continues reports nothing but a reload
-pub reported-booting : (o : Origin) (v next : View) (did : Did) (cycle : ℕ) → CoreStep o v did next → next.phase ≡ BootPhase → did_events o v did cycle ≡ []
+pub reported-booting : (o : Origin) (v next : View) (did : Did) (cycle : ℕ) → CoreStep o v did next → next.phase ≡ BootPhase
+    → did_events o v did cycle ≡ []
 reported-booting o v next Boot cycle s boot = refl
 reported-booting o v next Loaded cycle s boot = absurd (let e : next.phase ≡ Run = ap (λ w. w.phase) s.becomes in cc)
 reported-booting o v next (Restarted epoch count) cycle s boot = not_boot (runs_at o count) (sym (ap (λ w. w.phase) s.becomes) ∙ boot)
@@ -34,7 +35,8 @@ reported-booting o v next (Retired hart) cycle s boot = refl
 reported-booting o v next Flushed cycle s boot = refl
 reported-booting o v next Merged cycle s boot = refl
 reported-booting o v next Promoted cycle s boot = refl
-reported-booting o v next (Sealed epoch count cause) cycle s boot = absurd (let e : next.phase ≡ v.phase = ap (λ w. w.phase) s.becomes in let r : v.phase ≡ Run = s.phase in cc)
+reported-booting o v next (Sealed epoch count cause) cycle s boot =
+    absurd (let e : next.phase ≡ v.phase = ap (λ w. w.phase) s.becomes in let r : v.phase ≡ Run = s.phase in cc)
 reported-booting o v next (Engine step) cycle s boot = refl
 reported-booting o v next (Committed epoch overlapped) cycle s boot = not_boot (runs_at o s.count) (sym (ap (λ w. w.phase) s.becomes) ∙ boot)
 reported-booting o v next NvmDrained cycle s boot = refl
@@ -85,33 +87,33 @@ pub record Reloads (o : Origin) (m : Marks) (reload : List Event) : Type 0 where
   pub lawful : AllLawful (course_of o) m reload
   pub marks : marks_from o.start.count m reload ≡ m
 
--- the marks that a reload leaves are those that stood
-pub Reloads-reported : (o : Origin) (v next : View) (m : Marks) (did : Did) (fresh : Bool) → 1 ≤ o.geometry.epoch → Fits o v m → CoreStep o v did next
-    → Reloads o m (reload_events fresh next)
-Reloads-reported o v next m did fresh least h s = by_test (fresh && loads next) refl
-  where
-    by_test : (b : Bool) → (fresh && loads next) ≡ b → Reloads o m (if b then Reload ∷ [] else [])
-    by_test false is = record { lawful = tt; marks = refl }
-    by_test true is =
-        let view = loads-view next (and_parts fresh (loads next) is).1 in
-        let after : Fits o next (marks_from o.start.count m (did_events o v did 0)) = Fits-reported o v next m least h did 0 s in
-        let now : Fits o next m = subst (λ vs. Fits o next (marks_from o.start.count m vs)) (reported-booting o v next did 0 s view.0) after in
-        let marks : m ≡ loading_marks o.start.count = loading_marks_of o next m now view.0 view.1 in
-        record { lawful = (ap (λ n. n.kept) marks, tt); marks = sym marks }
+module _ (o : Origin) (v next : View) (m : Marks) (did : Did) (fresh : Bool) where
+  -- the marks that a reload leaves are those that stood
+  pub Reloads-reported : 1 ≤ o.geometry.epoch → Fits o v m → CoreStep o v did next → Reloads o m (reload_events fresh next)
+  Reloads-reported least h s = by_test (fresh && loads next) refl
+    where
+      by_test : (b : Bool) → (fresh && loads next) ≡ b → Reloads o m (if b then Reload ∷ [] else [])
+      by_test false is = record { lawful = tt; marks = refl }
+      by_test true is =
+          let view = loads-view next (and_parts fresh (loads next) is).1 in
+          let after : Fits o next (marks_from o.start.count m (did_events o v did 0)) = Fits-reported o v next m least h did 0 s in
+          let now : Fits o next m = subst (λ vs. Fits o next (marks_from o.start.count m vs)) (reported-booting o v next did 0 s view.0) after in
+          let marks : m ≡ loading_marks o.start.count = loading_marks_of o next m now view.0 view.1 in
+          record { lawful = (ap (λ n. n.kept) marks, tt); marks = sym marks }
 
--- all events of a cycle leave the marks that what was done leaves
-pub marks-events : (o : Origin) (v next : View) (m : Marks) (did : Did) (fresh : Bool) (cycle : ℕ) → 1 ≤ o.geometry.epoch → Fits o v m → CoreStep o v did next
-    → marks_from o.start.count m (events_of o fresh v did next cycle) ≡ marks_from o.start.count m (did_events o v did cycle)
-marks-events o v next m did fresh cycle least h s =
-    let reload : List Event = reload_events fresh next in
-    let step : List Event = did_events o v did cycle in
-    let start : ℕ = o.start.count in
-    marks_from-append start m (reload ++ step) (end_events o v next cycle)
-    ∙ end_marks o (marks_from start m (reload ++ step)) next cycle (halts v next)
-    ∙ marks_from-append start m reload step ∙ ap (λ n. marks_from start n step) (Reloads-reported o v next m did fresh least h s).marks
+  -- all events of a cycle leave the marks that what was done leaves
+  pub marks-events : (cycle : ℕ) → 1 ≤ o.geometry.epoch → Fits o v m → CoreStep o v did next
+      → marks_from o.start.count m (events_of o fresh v did next cycle) ≡ marks_from o.start.count m (did_events o v did cycle)
+  marks-events cycle least h s =
+      let reload : List Event = reload_events fresh next in
+      let step : List Event = did_events o v did cycle in
+      let start : ℕ = o.start.count in
+      marks_from-append start m (reload ++ step) (end_events o v next cycle)
+      ∙ end_marks o (marks_from start m (reload ++ step)) next cycle (halts v next)
+      ∙ marks_from-append start m reload step ∙ ap (λ n. marks_from start n step) (Reloads-reported least h s).marks
 
--- all events of a cycle fit what the cycle did
-pub Fits-events : (o : Origin) (v next : View) (m : Marks) (did : Did) (fresh : Bool) (cycle : ℕ) → 1 ≤ o.geometry.epoch → Fits o v m → CoreStep o v did next
-    → Fits o next (marks_from o.start.count m (events_of o fresh v did next cycle))
-Fits-events o v next m did fresh cycle least h s =
-    subst (Fits o next) (sym (marks-events o v next m did fresh cycle least h s)) (Fits-reported o v next m least h did cycle s)
+  -- all events of a cycle fit what the cycle did
+  pub Fits-events : (cycle : ℕ) → 1 ≤ o.geometry.epoch → Fits o v m → CoreStep o v did next
+      → Fits o next (marks_from o.start.count m (events_of o fresh v did next cycle))
+  Fits-events cycle least h s =
+      subst (Fits o next) (sym (marks-events cycle least h s)) (Fits-reported o v next m least h did cycle s)

@@ -34,7 +34,8 @@ over_fits o retired count few = by_run (runs_at o count) refl
         if_equal (OverFits o (retired + 1) count) (retired + 1) o.geometry.epoch (Some Length) None
         (λ e. (r, e)) (λ d. omega (arith, d, few))
 
-    by_run : (b : Bool) → runs_at o count ≡ b → OverFits o (retired + 1) count (if b then (if retired + 1 == o.geometry.epoch then Some Length else None) else Some EndedCause)
+    by_run : (b : Bool) → runs_at o count ≡ b
+        → OverFits o (retired + 1) count (if b then (if retired + 1 == o.geometry.epoch then Some Length else None) else Some EndedCause)
     by_run true r = by_length r
     by_run false r = r
 
@@ -47,7 +48,8 @@ module _ (o : Origin) (v next : View) (m : Marks) (least : 1 ≤ o.geometry.epoc
   busy : v.phase ≡ Run → next ≡ busier v → Fits o next m
   busy phase e =
       let f : RunFits o v m = of_phase o v m Run phase h in
-      let now : RunFits o (busier v) m = record { mark = f.mark; done = f.done; kept = f.kept; sealed = f.sealed; follows = f.follows; few = f.few; over = f.over } in
+      let now : RunFits o (busier v) m =
+      record { mark = f.mark; done = f.done; kept = f.kept; sealed = f.sealed; follows = f.follows; few = f.few; over = f.over } in
       subst (λ w. Fits o w m) (sym e) (in_phase o (busier v) m Run phase now)
 
   -- the view fits the marks after a step of the boot
@@ -77,15 +79,18 @@ module _ (o : Origin) (v next : View) (m : Marks) (least : 1 ≤ o.geometry.epoc
       let w : View = record (busier v) { written = true } in
       let follows : Follows o w f.mark w.sealed =
       subst (Follows o w f.mark) (sym is) (let g : Follows o v f.mark (Some s) = subst (Follows o v f.mark) is f.follows in (g.0, g.1, g.2, g.3)) in
-      let now : RunFits o w m = record { mark = f.mark; done = f.done; kept = f.kept; sealed = f.sealed; follows = follows; few = f.few; over = f.over } in
+      let now : RunFits o w m =
+      record { mark = f.mark; done = f.done; kept = f.kept; sealed = f.sealed; follows = follows; few = f.few; over = f.over } in
       subst (λ w. Fits o w m) (sym e) (in_phase o w m Run phase now)
 
   -- the view fits the marks after an instruction more
   retires : v.phase ≡ Run → v.over ≡ None → runs_at o v.count ≡ true
-      → next ≡ record (busier v) { count = v.count + 1; retired = v.retired + 1; lap = v.lap + 1; over = over_at o (v.retired + 1) (v.count + 1) } → Fits o next m
+      → next ≡ record (busier v)
+      { count = v.count + 1; retired = v.retired + 1; lap = v.lap + 1; over = over_at o (v.retired + 1) (v.count + 1) } → Fits o next m
   retires phase over runs e =
       let f : RunFits o v m = of_phase o v m Run phase h in
-      let w : View = record (busier v) { count = v.count + 1; retired = v.retired + 1; lap = v.lap + 1; over = over_at o (v.retired + 1) (v.count + 1) } in
+      let w : View = record (busier v)
+      { count = v.count + 1; retired = v.retired + 1; lap = v.lap + 1; over = over_at o (v.retired + 1) (v.count + 1) } in
       let few : v.retired < o.geometry.epoch = subst (OverFits o v.retired v.count) over f.over in
       let follows : (sealed : Option Mark) → Follows o v f.mark sealed → Follows o w f.mark sealed = λ sealed g. later sealed g in
       let now : RunFits o w m = record {
@@ -99,7 +104,13 @@ module _ (o : Origin) (v next : View) (m : Marks) (least : 1 ≤ o.geometry.epoc
       } in
       subst (λ w. Fits o w m) (sym e) (in_phase o w m Run phase now)
     where
-      later : (sealed : Option Mark) → Follows o v (of_phase o v m Run phase h).mark sealed → Follows o (record (busier v) { count = v.count + 1; retired = v.retired + 1; lap = v.lap + 1; over = over_at o (v.retired + 1) (v.count + 1) }) (of_phase o v m Run phase h).mark sealed
+      later : (sealed : Option Mark) → Follows o v (of_phase o v m Run phase h).mark sealed
+          → Follows o (record (busier v) {
+            count = v.count + 1;
+            retired = v.retired + 1;
+            lap = v.lap + 1;
+            over = over_at o (v.retired + 1) (v.count + 1);
+          }) (of_phase o v m Run phase h).mark sealed
       later None g = (g.0, g.1, omega (arith, g.2))
       later (Some s) g = (
         g.0,
@@ -150,24 +161,29 @@ module _ (o : Origin) (v next : View) (m : Marks) (least : 1 ≤ o.geometry.epoc
   restarts epoch count cycle phase done none written e =
       let f : BootFits o v m = of_phase o v m BootPhase phase h in
       let now : Marks = marks_from o.start.count m (did_events o v (Restarted epoch count) cycle) in
-      let by_run : (b : Bool) → runs_at o count ≡ b → Fits o (record v { phase = if b then Run else Halt; epoch = epoch + 1; count = count; retired = 0; spent = 0; lap = 0 }) now = λ b runs. begun f b runs in
+      let by_run : (b : Bool) → runs_at o count ≡ b
+      → Fits o (record v { phase = if b then Run else Halt; epoch = epoch + 1; count = count; retired = 0; spent = 0; lap = 0 }) now =
+      λ b runs. begun f b runs in
       subst (λ w. Fits o w now) (sym e) (by_run (runs_at o count) refl)
     where
       begun : BootFits o v m → (b : Bool) → runs_at o count ≡ b
-          → Fits o (record v { phase = if b then Run else Halt; epoch = epoch + 1; count = count; retired = 0; spent = 0; lap = 0 }) (marks_from o.start.count m (did_events o v (Restarted epoch count) cycle))
+          → Fits o (record v { phase = if b then Run else Halt; epoch = epoch + 1; count = count; retired = 0; spent = 0; lap = 0 })
+          (marks_from o.start.count m (did_events o v (Restarted epoch count) cycle))
       begun f true runs = record {
         mark = mark epoch count;
         done = done;
         kept = refl;
         sealed = sym none;
-        follows = subst (Follows o (record v { phase = Run; epoch = epoch + 1; count = count; retired = 0; spent = 0; lap = 0 }) (mark epoch count)) (sym none) (written, refl, omega arith);
+        follows = subst (Follows o (record v { phase = Run; epoch = epoch + 1; count = count; retired = 0; spent = 0; lap = 0 })
+            (mark epoch count)) (sym none) (written, refl, omega arith);
         few = omega arith;
         over = subst (OverFits o 0 count) (sym f.over) (omega (arith, least));
       }
       begun f false runs = record { mark = mark epoch count; done = done; sealed = none; written = written; kept = refl; none = refl; count = refl; over = runs }
 
   -- the view fits the marks after a seal
-  seals : (epoch count cycle : ℕ) (cause : EndCause) → v.phase ≡ Run → v.sealed ≡ None → epoch ≡ v.epoch → count ≡ v.count → v.over ≡ Some cause
+  seals : (epoch count cycle : ℕ) (cause : EndCause) → v.phase ≡ Run → v.sealed ≡ None → epoch ≡ v.epoch → count ≡ v.count
+      → v.over ≡ Some cause
       → next ≡ record v { sealed = Some (mark epoch count); epoch = v.epoch + 1; retired = 0; spent = 0; lap = 0; over = None }
       → Fits o next (marks_from o.start.count m (did_events o v (Sealed epoch count cause) cycle))
   seals epoch count cycle cause phase none of at_count over e =
@@ -196,7 +212,8 @@ module _ (o : Origin) (v next : View) (m : Marks) (least : 1 ≤ o.geometry.epoc
       subst (λ w. Fits o w now) (sym e) (goes_on f g (runs_at o count) refl)
     where
       goes_on : (f : RunFits o v m) → Follows o v f.mark (Some (mark epoch count)) → (b : Bool) → runs_at o count ≡ b
-          → Fits o (record (busier v) { phase = if b then Run else Halt; done = v.sealed; sealed = None; written = false }) (marks_from o.start.count m (did_events o v (Committed epoch overlapped) cycle))
+          → Fits o (record (busier v) { phase = if b then Run else Halt; done = v.sealed; sealed = None; written = false })
+          (marks_from o.start.count m (did_events o v (Committed epoch overlapped) cycle))
       goes_on f g true runs = record {
         mark = mark epoch count;
         done = sealed;
@@ -211,7 +228,8 @@ module _ (o : Origin) (v next : View) (m : Marks) (least : 1 ≤ o.geometry.epoc
           record { mark = mark epoch count; done = sealed; sealed = refl; written = refl; kept = f.sealed ∙ sealed; none = refl; count = still; over = ap (runs_at o) still ∙ runs }
 
   -- a step that reports nothing
-  quiet : (did : Did) (cycle : ℕ) → did_events o v did cycle ≡ [] → Fits o next m → Fits o next (marks_from o.start.count m (did_events o v did cycle))
+  quiet : (did : Did) (cycle : ℕ) → did_events o v did cycle ≡ [] → Fits o next m
+      → Fits o next (marks_from o.start.count m (did_events o v did cycle))
   quiet did cycle none fits =
       subst (λ vs. Fits o next (marks_from o.start.count m vs)) (sym none) fits
 

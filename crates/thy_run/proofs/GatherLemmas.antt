@@ -26,7 +26,8 @@ between_if true = refl
 between_if false = refl
 
 -- a restored epoch is after the boot, and its state that at its count
-pub restores_some : (o : Origin) (v next : View) (did : Did) (epoch count : ℕ) (state : Box MachState Global) → did ≡ Restarted epoch count → CoreStep o v did next
+pub restores_some : (o : Origin) (v next : View) (did : Did) (epoch count : ℕ) (state : Box MachState Global) → did ≡ Restarted epoch count
+    → CoreStep o v did next
     → (is_between next ≡ true → IsSnapshot o next state.value) → Restores o did (Some state)
 restores_some o v next did epoch count state is step shot =
     let s = subst (λ d. CoreStep o v d next) is step in
@@ -43,11 +44,20 @@ never : {A : Type 0} → false ≡ true → A
 never e = absurd (cc)
 
 pub Shows-step : (o : Origin) (v next : View) (did : Did) → CoreStep o v did next → shows_console did ≡ true → Shows next
-Shows-step o v next Loaded s e = record { mark = mark 0 o.start.count; done = ap (λ w. w.done) s.becomes ∙ s.sealed; booted = ap (λ w. is_boot w.phase) s.becomes }
+Shows-step o v next Loaded s e =
+    record { mark = mark 0 o.start.count; done = ap (λ w. w.done) s.becomes ∙ s.sealed; booted = ap (λ w. is_boot w.phase) s.becomes }
 Shows-step o v next (Restarted epoch count) s e =
-    record { mark = mark epoch count; done = ap (λ w. w.done) s.becomes ∙ s.done; booted = ap (λ w. is_boot w.phase) s.becomes ∙ booted_if (runs_at o count) }
+    record {
+      mark = mark epoch count;
+      done = ap (λ w. w.done) s.becomes ∙ s.done;
+      booted = ap (λ w. is_boot w.phase) s.becomes ∙ booted_if (runs_at o count);
+    }
 Shows-step o v next (Committed epoch overlapped) s e =
-    record { mark = mark epoch s.count; done = ap (λ w. w.done) s.becomes ∙ s.sealed; booted = ap (λ w. is_boot w.phase) s.becomes ∙ booted_if (runs_at o s.count) }
+    record {
+      mark = mark epoch s.count;
+      done = ap (λ w. w.done) s.becomes ∙ s.sealed;
+      booted = ap (λ w. is_boot w.phase) s.becomes ∙ booted_if (runs_at o s.count);
+    }
 Shows-step o v next Boot s e = never e
 Shows-step o v next (Refused bad) s e = never e
 Shows-step o v next Moved s e = never e
@@ -62,8 +72,10 @@ Shows-step o v next DramDrained s e = never e
 Shows-step o v next Nothing s e = never e
 
 -- the part of the committed mark's console after the released bytes is what has to be shown
-pub due_shown : (o : Origin) (v next : View) (did : Did) (events : List Event) (from : ℕ) (bytes : List ℕ) → CoreStep o v did next → shows_console did ≡ true
-    → from ≡ length (released_of o events) → ((m : Mark) → is_boot next.phase ≡ false → next.done ≡ Some m → bytes ≡ drop from (at o m.count).console)
+pub due_shown : (o : Origin) (v next : View) (did : Did) (events : List Event) (from : ℕ) (bytes : List ℕ) → CoreStep o v did next
+    → shows_console did ≡ true
+    → from ≡ length (released_of o events)
+    → ((m : Mark) → is_boot next.phase ≡ false → next.done ≡ Some m → bytes ≡ drop from (at o m.count).console)
     → bytes ≡ due_of o events did next
 due_shown o v next did events from bytes step shown released console =
     let s = Shows-step o v next did step shown in
@@ -71,7 +83,8 @@ due_shown o v next did events from bytes step shown released console =
     ∙ sym (ap (λ (d : Option Mark). drop (length (released_of o events)) (console_shown o d)) s.done)
     ∙ sym (ap (λ b. if b then drop (length (released_of o events)) (console_shown o next.done) else []) shown)
 
-pub due_hidden : (o : Origin) (next : View) (did : Did) (events : List Event) (bytes : List ℕ) → shows_console did ≡ false → bytes ≡ [] → bytes ≡ due_of o events did next
+pub due_hidden : (o : Origin) (next : View) (did : Did) (events : List Event) (bytes : List ℕ) → shows_console did ≡ false → bytes ≡ []
+    → bytes ≡ due_of o events did next
 due_hidden o next did events bytes hidden none =
     none ∙ sym (ap (λ b. if b then drop (length (released_of o events)) (console_shown o next.done) else []) hidden)
 
@@ -84,5 +97,6 @@ pub halts_between : (v next : View) → halts v next ≡ true → is_between nex
 halts_between v next e = halt_between (is_halt next.phase) _ (and_parts (not (is_halt v.phase)) (is_halt next.phase) e).1
 
 -- the first step after a cut has read
-pub reload_is : (fresh read loads result : Bool) → (fresh ≡ true → read ≡ true) → result ≡ (read && loads) → fresh ≡ true → result ≡ (fresh && loads)
+pub reload_is : (fresh read loads result : Bool) → (fresh ≡ true → read ≡ true) → result ≡ (read && loads) → fresh ≡ true
+    → result ≡ (fresh && loads)
 reload_is fresh read loads result h is yes_fresh = is ∙ ap (λ x. x && loads) (h yes_fresh ∙ sym yes_fresh)

@@ -78,7 +78,8 @@ not_both true = refl
 not_both false = refl
 
 -- a step without an event does not halt
-halts-quiet : (o : Origin) (v next : View) (did : Did) (cycle : ℕ) → CoreStep o v did next → did_events o v did cycle ≡ [] → halts v next ≡ false
+halts-quiet : (o : Origin) (v next : View) (did : Did) (cycle : ℕ) → CoreStep o v did next → did_events o v did cycle ≡ []
+    → halts v next ≡ false
 halts-quiet o v next did cycle s none =
     ap (λ p. not (is_halt v.phase) && is_halt p) (Stays-quiet o v next did cycle s none).phase ∙ not_both (is_halt v.phase)
 
@@ -98,7 +99,8 @@ pub record ImagesFit (o : Origin) (cycles : ℕ) (fresh : Bool) (v : View) (s : 
   pub boot : v.phase ≡ BootPhase → IsFound o v s.means
   pub up : is_boot v.phase ≡ false → s.just ≡ None
 
-is_at : (epoch count : ℕ) (o : Origin) (d : Decoded) (v : View) → v.done ≡ Some (mark epoch count) → IsFound o v d → d ≡ At epoch (at o count)
+is_at : (epoch count : ℕ) (o : Origin) (d : Decoded) (v : View) → v.done ≡ Some (mark epoch count) → IsFound o v d
+    → d ≡ At epoch (at o count)
 is_at epoch count o NothingLeft v done h = absurd (cc)
 is_at epoch count o (RefusedImage bad) v done h = absurd h
 is_at epoch count o (At e state) v done h =
@@ -111,7 +113,8 @@ is_nothing o (RefusedImage bad) v none h = absurd h
 is_nothing o (At e state) v none h = absurd (let some : v.done ≡ Some (mark e state.count) = h.0 in cc)
 
 boot_none : (v : View) → v.phase ≡ BootPhase → loads v ≡ false → v.done ≡ None → {A : Type 0} → A
-boot_none v boot unloaded none = absurd (let loaded : loads v ≡ true = ap (λ p. is_boot p && is_none v.done) boot ∙ ap (λ (d : Option Mark). is_none d) none in cc)
+boot_none v boot unloaded none =
+    absurd (let loaded : loads v ≡ true = ap (λ p. is_boot p && is_none v.done) boot ∙ ap (λ (d : Option Mark). is_none d) none in cc)
 
 not_found : (o : Origin) (v next : View) (d : Decoded) → next.done ≡ v.done → IsFound o v d → IsFound o next d
 not_found o v next NothingLeft same h = same ∙ h
@@ -126,17 +129,22 @@ data Shape (o : Origin) (v next : View) (did : Did) (fresh : Bool) (cycle : ℕ)
   -- the file is loaded again
   reloads : (fresh && loads next) ≡ true → events_of o fresh v did next cycle ≡ Reload ∷ [] → Shape o v next did fresh cycle WithTurns
   -- the step has no event
-  nothing : (fresh && loads next) ≡ false → did_events o v did cycle ≡ [] → events_of o fresh v did next cycle ≡ [] → Shape o v next did fresh cycle WithTurns
+  nothing : (fresh && loads next) ≡ false → did_events o v did cycle ≡ [] → events_of o fresh v did next cycle ≡ []
+      → Shape o v next did fresh cycle WithTurns
   -- the step has events
-  something : WithTurns → events_of o fresh v did next cycle ≡ did_events o v did cycle ++ end_events o v next cycle → Shape o v next did fresh cycle WithTurns
+  something : WithTurns → events_of o fresh v did next cycle ≡ did_events o v did cycle ++ end_events o v next cycle
+      → Shape o v next did fresh cycle WithTurns
 
-shape_of : (o : Origin) (v next : View) (did : Did) (fresh : Bool) (cycle : ℕ) (WithTurns : Type 0) → CoreStep o v did next → (did_events o v did cycle ≡ []) ⊎ WithTurns → Shape o v next did fresh cycle WithTurns
+shape_of : (o : Origin) (v next : View) (did : Did) (fresh : Bool) (cycle : ℕ) (WithTurns : Type 0) → CoreStep o v did next
+    → (did_events o v did cycle ≡ []) ⊎ WithTurns → Shape o v next did fresh cycle WithTurns
 shape_of o v next did fresh cycle WithTurns c reports = by_test (fresh && loads next) refl
   where
     end_none : did_events o v did cycle ≡ [] → end_events o v next cycle ≡ []
-    end_none none = if_none (halts v next) (Ended (at o next.count).status next.count cycle (at o next.count) ∷ []) (halts-quiet o v next did cycle c none)
+    end_none none = if_none (halts v next) (Ended (at o next.count).status next.count cycle (at o next.count) ∷ [])
+        (halts-quiet o v next did cycle c none)
 
-    all : (r t e : List Event) → reload_events fresh next ≡ r → did_events o v did cycle ≡ t → end_events o v next cycle ≡ e → events_of o fresh v did next cycle ≡ r ++ t ++ e
+    all : (r t e : List Event) → reload_events fresh next ≡ r → did_events o v did cycle ≡ t → end_events o v next cycle ≡ e
+        → events_of o fresh v did next cycle ≡ r ++ t ++ e
     all r t e is_r is_t is_e =
         ap (λ (x : List Event). x ++ did_events o v did cycle ++ end_events o v next cycle) is_r
         ∙ ap (λ (x : List Event). r ++ x ++ end_events o v next cycle) is_t
@@ -148,10 +156,12 @@ shape_of o v next did fresh cycle WithTurns c reports = by_test (fresh && loads 
         reloads is (all (Reload ∷ []) [] [] (ap (λ b. if b then Reload ∷ [] else []) is) none (end_none none))
     by_test false is = elim reports as (λ _. Shape o v next did fresh cycle WithTurns) [
       | inl none ↦ nothing is none (all [] [] [] (if_none (fresh && loads next) (Reload ∷ []) is) none (end_none none))
-      | inr fits ↦ something fits (all [] (did_events o v did cycle) (end_events o v next cycle) (if_none (fresh && loads next) (Reload ∷ []) is) refl refl)
+      | inr fits ↦ something fits
+          (all [] (did_events o v did cycle) (end_events o v next cycle) (if_none (fresh && loads next) (Reload ∷ []) is) refl refl)
     ]
 
-module _ (read : List Block → Decoded) (o : Origin) (cycles : ℕ) (fresh : Bool) (v next : View) (s : Found) (f : ImagesFit o cycles fresh v s) where
+module _ (read : List Block → Decoded) (o : Origin) (cycles : ℕ) (fresh : Bool) (v next : View) (s : Found)
+    (f : ImagesFit o cycles fresh v s) where
   -- what holds after an event that is not a cut
   abbrev settled : Found
   settled = found s.means None
@@ -171,7 +181,8 @@ module _ (read : List Block → Decoded) (o : Origin) (cycles : ℕ) (fresh : Bo
   report_fits : (did : Did) (cycle : ℕ) → CoreStep o v did next → (did_events o v did cycle ≡ []) ⊎ ReportFits did cycle
   report_fits Boot cycle c = inl refl
   report_fits Loaded cycle c = inr (
-    just_since (λ is. let not_yet : v.written ≡ false = (f.fresh_boot is).1 in let written : v.written ≡ true = c.written in cc) (is_nothing o s.means v c.none (f.boot c.phase)) s.just refl,
+    just_since (λ is. let not_yet : v.written ≡ false = (f.fresh_boot is).1 in let written : v.written ≡ true = c.written in cc)
+        (is_nothing o s.means v c.none (f.boot c.phase)) s.just refl,
     (refl, refl),
   )
   report_fits (Restarted epoch count) cycle c = inr (is_at epoch count o s.means v c.done (f.boot c.phase), (refl, refl))
@@ -225,7 +236,9 @@ module _ (read : List Block → Decoded) (o : Origin) (cycles : ℕ) (fresh : Bo
     }
 
     -- the end after an event that is not a cut
-    end_fits : (b : Bool) → AllFit read (ImagesFit o (cycles + 1) false next) settled (if b then Ended (at o next.count).status next.count cycle (at o next.count) ∷ [] else []) []
+    end_fits : (b : Bool)
+        → AllFit read (ImagesFit o (cycles + 1) false next) settled
+        (if b then Ended (at o next.count).status next.count cycle (at o next.count) ∷ [] else []) []
     end_fits true = (refl, (refl, settled_images))
     end_fits false = (refl, settled_images)
 
@@ -241,7 +254,8 @@ module _ (read : List Block → Decoded) (o : Origin) (cycles : ℕ) (fresh : Bo
         subst Fits (sym is) ((is_nothing o s.means v (sym stays.done ∙ loading.1) (f.boot start.0), (cycles, start.2)), (refl, settled_images))
     by_shape (nothing unless none is) = subst Fits (sym is) (refl, quiet_images unless none)
     by_shape (something fits is) =
-        subst Fits (sym is) (AllFit-append read (λ t. t ≡ settled) (ImagesFit o (cycles + 1) false next) s (did_events o v did cycle) (end_events o v next cycle) [] []
+        subst Fits (sym is) (AllFit-append read (λ t. t ≡ settled) (ImagesFit o (cycles + 1) false next) s (did_events o v did cycle)
+        (end_events o v next cycle) [] []
         (λ t same. subst (λ x. AllFit read (ImagesFit o (cycles + 1) false next) x (end_events o v next cycle) []) (sym same) (end_fits (halts v next))) fits)
 
     -- a step's events, and what holds after them, fit what a restart can find

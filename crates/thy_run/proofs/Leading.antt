@@ -59,11 +59,13 @@ many_joined false turns own start i k late le many all =
 joined_none : (p : Origin) (turns : List ℕ) (n k : ℕ) → length turns ≡ 0 → length p.turns ≡ 0 → AgreeBelow p (turns ++ drop n p.turns) k
 joined_none p turns n k none all =
     let same : turns ++ drop n p.turns ≡ p.turns =
-    ap (λ (l : List ℕ). l ++ drop n p.turns) (nil_from_length turns none) ∙ drop_all n p.turns (omega (arith, all)) ∙ sym (nil_from_length p.turns all) in
+    ap (λ (l : List ℕ). l ++ drop n p.turns) (nil_from_length turns none) ∙ drop_all n p.turns (omega (arith, all))
+    ∙ sym (nil_from_length p.turns all) in
     subst (λ (l : List ℕ). AgreeBelow p l k) (sym same) (AgreeBelow-same p k)
 
 joined_by : (b : Bool) (p : Origin) (turns : List ℕ) (i k : ℕ) → length turns ≡ (if b then 0 else i - p.start.count)
-    → length p.turns ≡ (if b then 0 else k - p.start.count) → AgreeBelow p turns i → AgreeBelow p (turns ++ drop (i - p.start.count) p.turns) k
+    → length p.turns ≡ (if b then 0 else k - p.start.count) → AgreeBelow p turns i
+    → AgreeBelow p (turns ++ drop (i - p.start.count) p.turns) k
 joined_by true p turns i k many all agree = joined_none p turns (i - p.start.count) k many all
 joined_by false p turns i k many all agree = joined-agrees p turns i k many agree
 
@@ -82,11 +84,13 @@ pub state_there : (p : Origin) (turns : List ℕ) (count : ℕ) → LeadsTo p tu
 state_there p turns count l = at-agrees p turns count l.agree
 
 -- turns reach a count also along other turns that agree so far
-pub leads_agreeing : (p : Origin) (t turns : List ℕ) (count : ℕ) → AgreeBelow p t count → LeadsTo p turns count → LeadsTo (with_turns p t) turns count
+pub leads_agreeing : (p : Origin) (t turns : List ℕ) (count : ℕ) → AgreeBelow p t count → LeadsTo p turns count
+    → LeadsTo (with_turns p t) turns count
 leads_agreeing p t turns count agree l = record { late = l.late; many = l.many; agree = λ j less. l.agree j less ∙ sym (agree j less) }
 
 -- turns that reach a count, with the run's own after them, reach the state that these reach
-pub leads_joined : (p : Origin) (turns : List ℕ) (i k : ℕ) → i ≤ k → length p.turns ≡ turns_listed p.geometry.harts (k - p.start.count) → LeadsTo p turns i
+pub leads_joined : (p : Origin) (turns : List ℕ) (i k : ℕ) → i ≤ k → length p.turns ≡ turns_listed p.geometry.harts (k - p.start.count)
+    → LeadsTo p turns i
     → LeadsTo p (turns ++ drop (i - p.start.count) p.turns) k
 leads_joined p turns i k le all l = record {
   late = let late = l.late in omega (arith, late, le);

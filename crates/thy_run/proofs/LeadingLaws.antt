@@ -49,7 +49,8 @@ leads_stays p v next m s l = record {
 }
 
 -- if the program is loaded, none reach the start, which is sealed
-loading_leads : (p : Origin) (k : Mark) → (loading_marks p.start.count).sealed ≡ Some k → LeadsTo p (loading_marks p.start.count).sealed_turns k.count
+loading_leads : (p : Origin) (k : Mark) → (loading_marks p.start.count).sealed ≡ Some k
+    → LeadsTo p (loading_marks p.start.count).sealed_turns k.count
 loading_leads p k is = subst (λ (x : Mark). LeadsTo p [] x.count) (some_same (mark 0 p.start.count) k is) (start_leads p)
 
 module _ (p : Origin) (v next : View) (m : Marks) (h : Fits p v m) (l : Leads p v m) where
@@ -135,7 +136,8 @@ module _ (p : Origin) (v next : View) (m : Marks) (h : Fits p v m) (l : Leads p 
   -- ---- what was done
 
   -- the events of what was done are lawful
-  pub Lawful-reported : (did : Did) (cycle : ℕ) → (retires did ≡ 0 → HasItsTurns p v) → CoreStep p v did next → AllLawful (course_of p) m (did_events p v did cycle)
+  pub Lawful-reported : (did : Did) (cycle : ℕ) → (retires did ≡ 0 → HasItsTurns p v) → CoreStep p v did next
+      → AllLawful (course_of p) m (did_events p v did cycle)
   Lawful-reported Boot cycle all s = tt
   Lawful-reported Loaded cycle all s = ((p.start.count, ap (λ (x : Marks). x.sealed) (is_loading s.phase s.none)), tt)
   Lawful-reported (Restarted epoch count) cycle all s = (
@@ -160,9 +162,11 @@ module _ (p : Origin) (v next : View) (m : Marks) (h : Fits p v m) (l : Leads p 
   Lawful-reported DramDrained cycle all s = tt
   Lawful-reported Nothing cycle all s = tt
 
-  quiet : (did : Did) (cycle : ℕ) → did_events p v did cycle ≡ [] → CoreStep p v did next → Leads p next (marks_from p.start.count m (did_events p v did cycle))
+  quiet : (did : Did) (cycle : ℕ) → did_events p v did cycle ≡ [] → CoreStep p v did next
+      → Leads p next (marks_from p.start.count m (did_events p v did cycle))
   quiet did cycle none s =
-      subst (λ (vs : List Event). Leads p next (marks_from p.start.count m vs)) (sym none) (leads_stays p v next m (Stays-quiet p v next did cycle s none) l)
+      subst (λ (vs : List Event). Leads p next (marks_from p.start.count m vs)) (sym none)
+      (leads_stays p v next m (Stays-quiet p v next did cycle s none) l)
 
   -- what a step reports leaves turns that lead to the marks
   pub Leads-reported : (did : Did) (cycle : ℕ) → (retires did ≡ 0 → HasItsTurns p v) → CoreStep p v did next
@@ -218,7 +222,8 @@ end_lawful p v next m cycle h l true is =
     let there : LeadsTo p m.kept_turns next.count = l.kept (mark f.mark.epoch next.count) kept in
     ((record { epoch = f.mark.epoch; kept = kept; whole = sym (state_there p m.kept_turns next.count there); over = f.over }, refl), tt)
 
-module _ (p : Origin) (v next : View) (m : Marks) (did : Did) (fresh : Bool) (cycle : ℕ) (least : 1 ≤ p.geometry.epoch) (h : Fits p v m) (l : Leads p v m)
+module _ (p : Origin) (v next : View) (m : Marks) (did : Did) (fresh : Bool) (cycle : ℕ) (least : 1 ≤ p.geometry.epoch) (h : Fits p v m)
+    (l : Leads p v m)
     (all : retires did ≡ 0 → HasItsTurns p v) (s : CoreStep p v did next) where
   pub Leads-events : Leads p next (marks_from p.start.count m (events_of p fresh v did next cycle))
   Leads-events = subst (Leads p next) (sym (marks-events p v next m did fresh cycle least h s)) (Leads-reported p v next m h l did cycle all s)
@@ -230,11 +235,14 @@ module _ (p : Origin) (v next : View) (m : Marks) (did : Did) (fresh : Bool) (cy
       let end : List Event = end_events p v next cycle in
       let start : ℕ = p.start.count in
       let reloads = Reloads-reported p v next m did fresh least h s in
-      let after_step : marks_from start m (reload ++ step) ≡ marks_from start m step = marks_from-append start m reload step ∙ ap (λ n. marks_from start n step) reloads.marks in
+      let after_step : marks_from start m (reload ++ step) ≡ marks_from start m step =
+      marks_from-append start m reload step ∙ ap (λ n. marks_from start n step) reloads.marks in
       let lawful_step : AllLawful (course_of p) m (reload ++ step)
       = AllLawful-append (course_of p) m reload step reloads.lawful
       (subst (λ n. AllLawful (course_of p) n step) (sym reloads.marks) (Lawful-reported p v next m h l did cycle all s)) in
-      let fits_step : Fits p next (marks_from start m (reload ++ step)) = subst (Fits p next) (sym after_step) (Fits-reported p v next m least h did cycle s) in
-      let leads_step : Leads p next (marks_from start m (reload ++ step)) = subst (Leads p next) (sym after_step) (Leads-reported p v next m h l did cycle all s) in
+      let fits_step : Fits p next (marks_from start m (reload ++ step)) =
+      subst (Fits p next) (sym after_step) (Fits-reported p v next m least h did cycle s) in
+      let leads_step : Leads p next (marks_from start m (reload ++ step)) =
+      subst (Leads p next) (sym after_step) (Leads-reported p v next m h l did cycle all s) in
       AllLawful-append (course_of p) m (reload ++ step) end lawful_step
       (end_lawful p v next (marks_from start m (reload ++ step)) cycle fits_step leads_step (halts v next) refl)

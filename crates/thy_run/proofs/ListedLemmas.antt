@@ -50,7 +50,8 @@ further : (c n : ℕ) (ns : List ℕ) (p : ℕ) → n ≤ c → NextCut c ns p �
 further c n ns p le (inl (lt, e, f)) = inl (omega arith, e, up_true (c + 1) n ns (omega arith) ∙ ap (λ l. n ∷ l) f)
 further c n ns p le (inr (d, f)) = inr (λ lt e. d (omega arith) e, up_true (c + 1) n ns (omega arith) ∙ ap (λ l. n ∷ l) f)
 
-pub next_cut : (c before : ℕ) (cuts : List ℕ) (p : ℕ) → IsRising before cuts → p ≤ length cuts → cuts_up_to c cuts ≡ take p cuts → NextCut c cuts p
+pub next_cut : (c before : ℕ) (cuts : List ℕ) (p : ℕ) → IsRising before cuts → p ≤ length cuts → cuts_up_to c cuts ≡ take p cuts
+    → NextCut c cuts p
 next_cut c before [] zero rising few now = inr (λ lt e. omega arith, refl)
 next_cut c before [] (suc p) rising few now = absurd (omega arith)
 next_cut c before (n ∷ ns) zero rising few now = at_first c before n ns rising now
@@ -68,7 +69,8 @@ pub cuts_among-append : (vs ws : List Event) → cuts_among (vs ++ ws) ≡ cuts_
 cuts_among-append vs ws = filter-append is_cut vs ws
 
 -- the numbered cuts with one more
-pub numbered-take : (index : ℕ) (cuts : List ℕ) (p : ℕ) → p < length cuts → numbered index (take (suc p) cuts) ≡ numbered index (take p cuts) ++ Cut (index + p) (slice_index cuts p) ∷ []
+pub numbered-take : (index : ℕ) (cuts : List ℕ) (p : ℕ) → p < length cuts
+    → numbered index (take (suc p) cuts) ≡ numbered index (take p cuts) ++ Cut (index + p) (slice_index cuts p) ∷ []
 numbered-take index [] p lt = absurd (omega arith)
 numbered-take index (n ∷ ns) zero lt = ap (λ i. Cut i n ∷ []) (sym (add-zero index))
 numbered-take index (n ∷ ns) (suc p) lt =

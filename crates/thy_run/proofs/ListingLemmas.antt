@@ -73,7 +73,8 @@ boot_none p v m h is = let f : BootFits p v m = subst (FitsIn p v m) is h in f.r
 
 -- ---- one cycle
 
-module _ (o : Origin) (turns : List ℕ) (v next : View) (m : Marks) (l : List ℕ) (all : HasItsTurns (with_turns o turns) v) (h : Fits (with_turns o turns) v m)
+module _ (o : Origin) (turns : List ℕ) (v next : View) (m : Marks) (l : List ℕ) (all : HasItsTurns (with_turns o turns) v)
+    (h : Fits (with_turns o turns) v m)
     (listed : l ≡ last_turns v.retired turns) where
   -- with one hart no turn is listed
   one_hart : (o.geometry.harts == 1) ≡ true → turns ≡ []
@@ -114,7 +115,8 @@ module _ (o : Origin) (turns : List ℕ) (v next : View) (m : Marks) (l : List �
   -- ---- an epoch's end
 
   -- the list has the turns after the committed checkpoint
-  pub listed_behind : (epoch count : ℕ) (cause : EndCause) → Leads (with_turns o turns) v m → CoreStep (with_turns o turns) v (Sealed epoch count cause) next
+  pub listed_behind : (epoch count : ℕ) (cause : EndCause) → Leads (with_turns o turns) v m
+      → CoreStep (with_turns o turns) v (Sealed epoch count cause) next
       → turns_behind (with_turns o turns) v.done ≡ l
   listed_behind epoch count cause leads s = by_harts (o.geometry.harts == 1) refl
     where
@@ -122,7 +124,8 @@ module _ (o : Origin) (turns : List ℕ) (v next : View) (m : Marks) (l : List �
       f = subst (FitsIn (with_turns o turns) v m) s.phase h
 
       since : v.count ≡ f.mark.count + v.retired
-      since = let follows : Follows (with_turns o turns) v f.mark None = subst (Follows (with_turns o turns) v f.mark) s.unsealed f.follows in follows.2
+      since = let follows : Follows (with_turns o turns) v f.mark None =
+          subst (Follows (with_turns o turns) v f.mark) s.unsealed f.follows in follows.2
 
       from : o.start.count ≤ f.mark.count
       from = (leads.kept f.mark f.kept).late
@@ -170,7 +173,8 @@ retired_room p v m is none h =
     subst (OverFits p v.retired v.count) none f.over
 
 -- there is room for the turn of an instruction that retires
-pub list_room : (o : Origin) (turns t : List ℕ) (v next : View) (m : Marks) (l : List ℕ) (room : ℕ) (did : Did) → Fits (with_turns o turns) v m
+pub list_room : (o : Origin) (turns t : List ℕ) (v next : View) (m : Marks) (l : List ℕ) (room : ℕ) (did : Did)
+    → Fits (with_turns o turns) v m
     → l ≡ last_turns v.retired turns → (o.geometry.harts ≡ 1) ⊎ (o.geometry.epoch ≤ room) → CoreStep (with_turns o t) v did next
     → HasRoomToList o.geometry.harts l room did
 list_room o turns t v next m l room (Retired hart) h listed (inl one) s = inl one

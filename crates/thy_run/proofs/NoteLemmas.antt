@@ -43,7 +43,8 @@ end_due o v next cycle h = some_if (halts v next) _ h
 pub events_due : (o : Origin) (fresh : Bool) (v next : View) (did : Did) (cycle : ℕ) → (shows_console did ≡ true) ⊎ (halts v next ≡ true)
     → events_of o fresh v did next cycle ≢ []
 events_due o fresh v next did cycle (inl h) =
-    λ e. report_is_due o v did cycle h (none_behind (reload_events fresh next) (did_events o v did cycle) (none_before (reload_events fresh next ++ did_events o v did cycle) (end_events o v next cycle) e))
+    λ e. report_is_due o v did cycle h (none_behind (reload_events fresh next) (did_events o v did cycle)
+    (none_before (reload_events fresh next ++ did_events o v did cycle) (end_events o v next cycle) e))
 events_due o fresh v next did cycle (inr h) =
     λ e. end_due o v next cycle h (none_behind (reload_events fresh next ++ did_events o v did cycle) (end_events o v next cycle) e)
 
@@ -53,7 +54,8 @@ report_or_halts r h is (inl shown) = inl shown
 report_or_halts r h is (inr ended) = inr (sym is ∙ ended)
 
 -- the state of an end is there if the step halts
-pub ended_halts : (o : Origin) (v next : View) (ended : Option (Box MachState Global)) → IsEnding o v next ended → is_some ended ≡ true → halts v next ≡ true
+pub ended_halts : (o : Origin) (v next : View) (ended : Option (Box MachState Global)) → IsEnding o v next ended → is_some ended ≡ true
+    → halts v next ≡ true
 ended_halts o v next None ending h = absurd (cc)
 ended_halts o v next (Some state) ending h = ending.0
 
@@ -61,16 +63,19 @@ ended_halts o v next (Some state) ending h = ending.0
 
 -- all events of a cycle but the end were made
 pub made_but_end : (o : Origin) (fresh : Bool) (v next : View) (did : Did) (cycle : ℕ) (reload : Bool) (before one two : List Event)
-    → reload ≡ (fresh && loads next) → one ≡ before ++ (if reload then Reload ∷ [] else []) → two ≡ one ++ did_events o v did cycle → halts v next ≡ true
+    → reload ≡ (fresh && loads next) → one ≡ before ++ (if reload then Reload ∷ [] else []) → two ≡ one ++ did_events o v did cycle
+    → halts v next ≡ true
     → MadeSome two (events_of o fresh v did next cycle) before
 made_but_end o fresh v next did cycle reload before one two is first second ends =
     let r : (if reload then Reload ∷ [] else []) ≡ reload_events fresh next = ap (λ b. if b then Reload ∷ [] else []) is in
     record {
       part = reload_events fresh next ++ did_events o v did cycle;
       rest = end_events o v next cycle;
-      grew = second ∙ ap (λ (l : List Event). l ++ did_events o v did cycle) (first ∙ ap (λ (l : List Event). before ++ l) r) ∙ append_assoc before (reload_events fresh next) (did_events o v did cycle);
+      grew = second ∙ ap (λ (l : List Event). l ++ did_events o v did cycle) (first ∙ ap (λ (l : List Event). before ++ l) r)
+          ∙ append_assoc before (reload_events fresh next) (did_events o v did cycle);
       split = refl;
       some = end_due o v next cycle ends;
       unended = list_any-append is_end (reload_events fresh next) (did_events o v did cycle)
-          ∙ or_from (has_ended (reload_events fresh next)) (has_ended (did_events o v did cycle)) (reload_uncut (fresh && loads next)).1 (report_is_uncut o v did cycle).1;
+          ∙ or_from (has_ended (reload_events fresh next)) (has_ended (did_events o v did cycle)) (reload_uncut (fresh && loads next)).1
+          (report_is_uncut o v did cycle).1;
     }

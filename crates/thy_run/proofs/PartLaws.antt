@@ -62,7 +62,8 @@ module _ (p : Origin) (v next : View) (m : Marks) (did : Did) (h : Fits p v m) (
   by_kind (commits x) k (inr doubt) = absurd (let both : None ≡ Some k = sym x.sealed ∙ doubt_sealed next.written next.sealed k doubt in cc)
 
 -- the first of a cycle's events
-pub IsSafe-part : (read : Reading) (p : Origin) (v next : View) (m : Marks) (did : Did) (fresh : Bool) (cycle : ℕ) (n : Device) → 1 ≤ p.geometry.epoch
+pub IsSafe-part : (read : Reading) (p : Origin) (v next : View) (m : Marks) (did : Did) (fresh : Bool) (cycle : ℕ) (n : Device)
+    → 1 ≤ p.geometry.epoch
     → Fits p v m → Leads p v m → (retires did ≡ 0 → HasItsTurns p v) → CoreStep p v did next → Safe read p next.done (doubt_of next) n
     → (part rest : List Event) → part ++ rest ≡ events_of p fresh v did next cycle → IsSafe read p (marks_from p.start.count m part) n
 IsSafe-part read p v next m did fresh cycle n least h l all s safe part rest e =

@@ -33,41 +33,44 @@ StaysFitted-framed given passed old new f every h = record {
   every = every ∙ h.every;
 }
 
-pub StaysFitted-step : {M : Type 0} (K : KindOf M) (o : Origin) (given : Given) (w x : World M) → TakesStep K o w x → StaysFitted given w.passed w.device → StaysFitted given x.passed x.device
-StaysFitted-step {M = M} K o given w x step h =
-    subst (λ k. StaysFitted given k x.device) (sym (ap (λ (y : World M). y.passed) step.next_is))
-    (StaysFitted-framed given w.passed w.device x.device (TakesStep-framed K o w x step) (TakesStep-every K o w x step) h)
+module _ {M : Type 0} (K : KindOf M) (o : Origin) (given : Given) where
+  pub StaysFitted-step : (w x : World M) → TakesStep K o w x → StaysFitted given w.passed w.device → StaysFitted given x.passed x.device
+  StaysFitted-step w x step h =
+      subst (λ k. StaysFitted given k x.device) (sym (ap (λ (y : World M). y.passed) step.next_is))
+      (StaysFitted-framed given w.passed w.device x.device (TakesStep-framed K o w x step) (TakesStep-every K o w x step) h)
 
-keeps_by : {M : Type 0} (K : KindOf M) (o : Origin) (given : Given) (w x next : World M) → TakesStep K o w x → StaysFitted given w.passed w.device
-    → (b : Bool) → MatchBool b (IsCutOff K o (tear given.config.tears x.passed) x next) (next ≡ x) → StaysFitted given next.passed next.device
-keeps_by {M = M} K o given w x next step h true cut =
-    let here = StaysFitted-step K o given w x step h in
-    let device : next.device ≡ cut_to x.device (tear given.config.tears x.passed) next.device.image next.device.wear = cut.cut.device in
-    let passed : next.passed ≡ suc x.passed = ap (λ (y : World M). y.passed) cut.next_is ∙ (let more : x.passed + 1 ≡ suc x.passed = omega arith in more) in
-    record {
-      picks = ap (λ (n : Device). n.picks) device ∙ ap (λ (l : List ℕ). l ++ tear given.config.tears x.passed ∷ []) here.picks ∙ sym (ap (torn given.config.tears) passed);
-      fits = ap (λ (n : Device). n.fits) device ∙ here.fits;
-      blocks = cut.cut.crash.same_length ∙ here.blocks;
-      room = ap (λ (n : Device). n.left_room) device ∙ here.room;
-      queue_room = ap (λ (n : Device). n.queue_room) device ∙ here.queue_room;
-      lent = ap (λ (n : Device). n.lent) device ∙ here.lent;
-      whole = ap (λ (n : Device). n.whole) device ∙ here.whole;
-      every = every-cut x.device.down x.device.wear next.device.wear cut.cut.wear ∙ here.every;
-    }
-keeps_by {M = M} K o given w x next step h false is =
-    subst (λ (y : World M). StaysFitted given y.passed y.device) (sym is) (StaysFitted-step K o given w x step h)
+  keeps_by : (w x next : World M) → TakesStep K o w x → StaysFitted given w.passed w.device → (b : Bool)
+      → MatchBool b (IsCutOff K o (tear given.config.tears x.passed) x next) (next ≡ x) → StaysFitted given next.passed next.device
+  keeps_by w x next step h true cut =
+      let here = StaysFitted-step w x step h in
+      let device : next.device ≡ cut_to x.device (tear given.config.tears x.passed) next.device.image next.device.wear = cut.cut.device in
+      let passed : next.passed ≡ suc x.passed =
+      ap (λ (y : World M). y.passed) cut.next_is ∙ (let more : x.passed + 1 ≡ suc x.passed = omega arith in more) in
+      record {
+        picks = ap (λ (n : Device). n.picks) device ∙ ap (λ (l : List ℕ). l ++ tear given.config.tears x.passed ∷ []) here.picks
+            ∙ sym (ap (torn given.config.tears) passed);
+        fits = ap (λ (n : Device). n.fits) device ∙ here.fits;
+        blocks = cut.cut.crash.same_length ∙ here.blocks;
+        room = ap (λ (n : Device). n.left_room) device ∙ here.room;
+        queue_room = ap (λ (n : Device). n.queue_room) device ∙ here.queue_room;
+        lent = ap (λ (n : Device). n.lent) device ∙ here.lent;
+        whole = ap (λ (n : Device). n.whole) device ∙ here.whole;
+        every = every-cut x.device.down x.device.wear next.device.wear cut.cut.wear ∙ here.every;
+      }
+  keeps_by w x next step h false is =
+      subst (λ (y : World M). StaysFitted given y.passed y.device) (sym is) (StaysFitted-step w x step h)
 
--- the device stays fitted, and keeps the picks of the cuts, after any number of cycles
-pub StaysFitted-ran : {M : Type 0} (K : KindOf M) (o : Origin) (given : Given) (k : ℕ) (w : World M) → Ran K o given k w → StaysFitted given w.passed w.device
-StaysFitted-ran {M = M} K o given zero w first = record {
-  picks = first.picks ∙ sym (ap (torn given.config.tears) first.passed);
-  fits = ap (λ (n : Device). n.fits) first.device;
-  blocks = ap (λ (n : Device). length n.image) first.device;
-  room = ap (λ (n : Device). n.left_room) first.device;
-  queue_room = ap (λ (n : Device). n.queue_room) first.device;
-  lent = ap (λ (n : Device). n.lent) first.device;
-  whole = ap (λ (n : Device). n.whole) first.device;
-  every = ap (λ (n : Device). every_of n.wear) first.device;
-}
-StaysFitted-ran {M = M} K o given (suc k) w (before, ran, cycle) =
-    keeps_by K o given before cycle.between w cycle.steps (StaysFitted-ran K o given k before ran) (is_due K o given.config.cuts cycle.between) cycle.cut
+  -- the device stays fitted, and keeps the picks of the cuts, after any number of cycles
+  pub StaysFitted-ran : (k : ℕ) (w : World M) → Ran K o given k w → StaysFitted given w.passed w.device
+  StaysFitted-ran zero w first = record {
+    picks = first.picks ∙ sym (ap (torn given.config.tears) first.passed);
+    fits = ap (λ (n : Device). n.fits) first.device;
+    blocks = ap (λ (n : Device). length n.image) first.device;
+    room = ap (λ (n : Device). n.left_room) first.device;
+    queue_room = ap (λ (n : Device). n.queue_room) first.device;
+    lent = ap (λ (n : Device). n.lent) first.device;
+    whole = ap (λ (n : Device). n.whole) first.device;
+    every = ap (λ (n : Device). every_of n.wear) first.device;
+  }
+  StaysFitted-ran (suc k) w (before, ran, cycle) =
+      keeps_by before cycle.between w cycle.steps (StaysFitted-ran k before ran) (is_due K o given.config.cuts cycle.between) cycle.cut

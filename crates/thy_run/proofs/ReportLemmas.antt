@@ -17,34 +17,39 @@ use Rattle.thy_run.specs.Sending.{Sends}
 one_more : (reporting : Reporting) (events : List Event) (i : ℕ) (v : Event) → i < length events → slice_get events i ≡ Some v
     → report_of reporting (take (i + 1) events) ≡ report_of reporting (take i events) ++ line_of reporting v
 one_more reporting events i v within is =
-    ap (report_of reporting) (take_more events i Reload within ∙ ap (λ (x : Event). take i events ++ x ∷ []) (get_or_from_slice_get events i v Reload is))
+    ap (report_of reporting) (take_more events i Reload within
+    ∙ ap (λ (x : Event). take i events ++ x ∷ []) (get_or_from_slice_get events i v Reload is))
     ∙ report_of-more reporting (take i events) v
 
-pub lines_more : (reporting : Reporting) (events : List Event) (i : ℕ) (v : Event) (before : List ℕ) (a b c : Stream) → slice_get events i ≡ Some v
-    → Sends before (report_of reporting (take i events)) false a b → Took b c (line_of reporting v) → Sends before (report_of reporting (take (i + 1) events)) false a c
-lines_more reporting events i v before a b c is so_far took = let within = slice_get_within events i v is in record {
-  more = so_far.more ++ line_of reporting v;
-  grew = one_more reporting events i v within is ∙ ap (λ (l : List ℕ). l ++ line_of reporting v) so_far.grew ∙ append_assoc before so_far.more (line_of reporting v);
-  sent = Took-append a b c so_far.more (line_of reporting v) so_far.sent took;
-}
+module _ (reporting : Reporting) (events : List Event) (i : ℕ) (v : Event) (before : List ℕ) (a b c : Stream)
+    (is : slice_get events i ≡ Some v) (so_far : Sends before (report_of reporting (take i events)) false a b) where
+  pub lines_more : Took b c (line_of reporting v) → Sends before (report_of reporting (take (i + 1) events)) false a c
+  lines_more took = let within = slice_get_within events i v is in record {
+    more = so_far.more ++ line_of reporting v;
+    grew = one_more reporting events i v within is ∙ ap (λ (l : List ℕ). l ++ line_of reporting v) so_far.grew
+        ∙ append_assoc before so_far.more (line_of reporting v);
+    sent = Took-append a b c so_far.more (line_of reporting v) so_far.sent took;
+  }
 
--- the report failed at a line: it was to take all the rest too
-pub lines_failed : (reporting : Reporting) (events : List Event) (i : ℕ) (v : Event) (before : List ℕ) (a b c : Stream) → slice_get events i ≡ Some v
-    → Sends before (report_of reporting (take i events)) false a b → TookPart b c (line_of reporting v) → line_of reporting v ≢ [] → Sends before (report_of reporting events) true a c
-lines_failed reporting events i v before a b c is so_far took due =
-    let within = slice_get_within events i v is in
-    let rest : List ℕ = report_of reporting (drop (i + 1) events) in
-    let whole : report_of reporting events ≡ report_of reporting (take (i + 1) events) ++ rest =
-    ap (report_of reporting) (sym (take-append-drop (i + 1) events)) ∙ report_of-append reporting (take (i + 1) events) (drop (i + 1) events) in
-    record {
-      more = so_far.more ++ line_of reporting v ++ rest;
-      grew = whole ∙ ap (λ (l : List ℕ). l ++ rest) (one_more reporting events i v within is ∙ ap (λ (l : List ℕ). l ++ line_of reporting v) so_far.grew)
-          ∙ ap (λ (l : List ℕ). l ++ rest) (append_assoc before so_far.more (line_of reporting v)) ∙ append_assoc before (so_far.more ++ line_of reporting v) rest;
-      sent = (
-        TookPart-more a c (so_far.more ++ line_of reporting v) rest (TookPart-append a b c so_far.more (line_of reporting v) so_far.sent took),
-        λ none. due (first_empty (line_of reporting v) rest (last_empty so_far.more (line_of reporting v ++ rest) (sym (append_assoc so_far.more (line_of reporting v) rest) ∙ none))),
-      );
-    }
+  -- the report failed at a line: it was to take all the rest too
+  pub lines_failed : TookPart b c (line_of reporting v) → line_of reporting v ≢ [] → Sends before (report_of reporting events) true a c
+  lines_failed took due =
+      let within = slice_get_within events i v is in
+      let rest : List ℕ = report_of reporting (drop (i + 1) events) in
+      let whole : report_of reporting events ≡ report_of reporting (take (i + 1) events) ++ rest =
+      ap (report_of reporting) (sym (take-append-drop (i + 1) events)) ∙ report_of-append reporting (take (i + 1) events) (drop (i + 1) events) in
+      record {
+        more = so_far.more ++ line_of reporting v ++ rest;
+        grew = whole ∙ ap (λ (l : List ℕ). l ++ rest)
+            (one_more reporting events i v within is ∙ ap (λ (l : List ℕ). l ++ line_of reporting v) so_far.grew)
+            ∙ ap (λ (l : List ℕ). l ++ rest) (append_assoc before so_far.more (line_of reporting v))
+            ∙ append_assoc before (so_far.more ++ line_of reporting v) rest;
+        sent = (
+          TookPart-more a c (so_far.more ++ line_of reporting v) rest (TookPart-append a b c so_far.more (line_of reporting v) so_far.sent took),
+          λ none. due (first_empty (line_of reporting v) rest
+              (last_empty so_far.more (line_of reporting v ++ rest) (sym (append_assoc so_far.more (line_of reporting v) rest) ∙ none))),
+        );
+      }
 
 -- what is said of a result, if it is an error, and if it is none
 pub at_err : {T E : Type 0} (r : Result T E) (P : Type 0) → OnErr r P → is_err r ≡ true → P

@@ -24,24 +24,27 @@ use Rattle.thy_run.proofs.OutcomeLemmas.{ComesTo-unlisted}
 use Rattle.thy_run.proofs.QuietLemmas.{passes_on}
 use Rattle.thy_run.proofs.SeeingLemmas.{length-listed}
 
--- the cycles of a run are listed somewhere
-listed_of : {M : Type 0} (K : KindOf M) (o : Origin) (given : Given) (k : ℕ) (w : World M) → Ran K o given k w → (seen : List Taken) × IsListed K o given k w seen
-listed_of K o given zero w first = ([], (first, refl))
-listed_of K o given (suc k) w (before, ran, c) =
-    let earlier = listed_of K o given k before ran in
-    (earlier.0 ++ taken_in K o given.config.cuts given.config.tears before w c ∷ [], (before, earlier.0, c, earlier.1, refl))
+module _ {M : Type 0} (K : KindOf M) where
+  -- the cycles of a run are listed somewhere
+  listed_of : (o : Origin) (given : Given) (k : ℕ) (w : World M) → Ran K o given k w → (seen : List Taken) × IsListed K o given k w seen
+  listed_of o given zero w first = ([], (first, refl))
+  listed_of o given (suc k) w (before, ran, c) =
+      let earlier = listed_of o given k before ran in
+      (earlier.0 ++ taken_in K o given.config.cuts given.config.tears before w c ∷ [], (before, earlier.0, c, earlier.1, refl))
 
--- the list has one for each done cycle
-pub cycles_of : {M : Type 0} (K : KindOf M) (plan : Plan) (fitted : Device) (p : Progress M) (n : Device) (k : ℕ) (turns : List ℕ) → GoesOn K plan fitted p n k turns
-    → (seen : List Taken) × IsListed K (origin_of plan) (given_of plan fitted) k (world_at p n k turns) seen
-cycles_of K plan fitted p n k turns goes = listed_of K (origin_of plan) (given_of plan fitted) k (world_at p n k turns) goes.ran
+  -- the list has one for each done cycle
+  pub cycles_of : (plan : Plan) (fitted : Device) (p : Progress M) (n : Device) (k : ℕ) (turns : List ℕ)
+      → GoesOn K plan fitted p n k turns
+      → (seen : List Taken) × IsListed K (origin_of plan) (given_of plan fitted) k (world_at p n k turns) seen
+  cycles_of plan fitted p n k turns goes = listed_of (origin_of plan) (given_of plan fitted) k (world_at p n k turns) goes.ran
 
-pub cycles_long : {M : Type 0} (K : KindOf M) (plan : Plan) (fitted : Device) (p : Progress M) (n : Device) (k : ℕ) (turns : List ℕ) (goes : GoesOn K plan fitted p n k turns)
-    → k + 1 ≡ length (cycles_of K plan fitted p n k turns goes).0 + 1
-cycles_long K plan fitted p n k turns goes =
-    let seen = cycles_of K plan fitted p n k turns goes in
-    let e : length seen.0 ≡ k = length-listed K (origin_of plan) (given_of plan fitted) k (world_at p n k turns) seen.0 seen.1 in
-    omega (arith, e)
+  pub cycles_long : (plan : Plan) (fitted : Device) (p : Progress M) (n : Device) (k : ℕ) (turns : List ℕ)
+      (goes : GoesOn K plan fitted p n k turns)
+      → k + 1 ≡ length (cycles_of plan fitted p n k turns goes).0 + 1
+  cycles_long plan fitted p n k turns goes =
+      let seen = cycles_of plan fitted p n k turns goes in
+      let e : length seen.0 ≡ k = length-listed K (origin_of plan) (given_of plan fitted) k (world_at p n k turns) seen.0 seen.1 in
+      omega (arith, e)
 
 -- if no cut is listed, none falls
 pub none_due : (cuts : List ℕ) (passed cycle : ℕ) → cuts ≡ [] → (nat_lt passed (length cuts) && slice_index cuts passed == cycle) ≡ true → ⊥
@@ -50,7 +53,8 @@ none_due [] passed cycle none due =
     absurd (omega (arith, never))
 none_due (c ∷ cs) passed cycle none due = absurd (cc)
 
-module _ {M : Type 0} (K : KindOf M) (laws : IsLawful K) (plan : Plan) (fitted : Device) (p next : Progress M) (n new : Device) (done : ℕ) (turns : List ℕ) (t0 t r0 r : Stream)
+module _ {M : Type 0} (K : KindOf M) (laws : IsLawful K) (plan : Plan) (fitted : Device) (p next : Progress M) (n new : Device) (done : ℕ)
+    (turns : List ℕ) (t0 t r0 r : Stream)
     (planned : IsPlanned plan) (running : Running K plan fitted p n done turns t0 t r0 r) where
   -- a cycle that has nothing to report
   pub Running-quiet : (x : Stepped) → IsStepped K plan p next n new done turns x → IsQuiet plan.config.cuts next x (done + 1)
@@ -68,7 +72,8 @@ module _ {M : Type 0} (K : KindOf M) (laws : IsLawful K) (plan : Plan) (fitted :
       )
 
   -- one whose step failed
-  pub RunEnds-stuck : done < plan.geometry.limit → IsStuck K plan p next n new turns → RunEnds K plan fitted new (ending_of Nvm next done) t0 t r0 r
+  pub RunEnds-stuck : done < plan.geometry.limit → IsStuck K plan p next n new turns
+      → RunEnds K plan fitted new (ending_of Nvm next done) t0 t r0 r
   RunEnds-stuck few stuck =
       (ComesTo-unlisted K plan fitted p next n new done turns turns Nvm t0 t r0 r running few (ap (λ (y : Progress M). y.events) stuck.same)
       (IsBroken-stuck K plan fitted p next n new done turns running.goes stuck)).0

@@ -40,12 +40,14 @@ pub record Counts (o : Origin) (end done : ℕ) (v : View) : Type 0 where
 no_mark : (o : Origin) (end : ℕ) (x : Option Mark) → x ≡ None → (m : Mark) → x ≡ Some m → IsBetween o end m.count
 no_mark o end x none m e = absurd (cc)
 
-one_mark : (o : Origin) (end epoch count : ℕ) (x : Option Mark) → x ≡ Some (mark epoch count) → IsBetween o end count → (m : Mark) → x ≡ Some m → IsBetween o end m.count
+one_mark : (o : Origin) (end epoch count : ℕ) (x : Option Mark) → x ≡ Some (mark epoch count) → IsBetween o end count → (m : Mark)
+    → x ≡ Some m → IsBetween o end m.count
 one_mark o end epoch count x is between m e =
     let same : mark epoch count ≡ m = cc in
     subst (λ (n : Mark). IsBetween o end n.count) same between
 
-counts_step : (o : Origin) (end done : ℕ) (v next : View) (did : Did) → o.start.count ≤ end → runs_at (with_turns o []) end ≡ false → Kind (with_turns o []) v next did → Counts o end done v
+counts_step : (o : Origin) (end done : ℕ) (v next : View) (did : Did) → o.start.count ≤ end → runs_at (with_turns o []) end ≡ false
+    → Kind (with_turns o []) v next did → Counts o end done v
     → Counts o end (done + retires did) next
 counts_step o end done v next did some over (keeps k) h = record {
   kept = λ m e. h.kept m (sym k.done ∙ e);
@@ -116,7 +118,8 @@ counts_loading o end some = record {
 }
 
 -- a run begins with nothing, or with the checkpoint of its start
-counts_first : (o : Origin) (end : ℕ) (kept : Option Mark) → o.start.count ≤ end → Counts o end 0 (view_of_image o.start.count (found_first o kept))
+counts_first : (o : Origin) (end : ℕ) (kept : Option Mark) → o.start.count ≤ end
+    → Counts o end 0 (view_of_image o.start.count (found_first o kept))
 counts_first o end None some = counts_loading o end some
 counts_first o end (Some m) some = record {
   kept = one_mark o end m.epoch o.start.count (Some (mark m.epoch o.start.count)) refl (omega arith, some);
@@ -126,7 +129,8 @@ counts_first o end (Some m) some = record {
 }
 
 -- what the image means is one of the two marks
-counts_image : (o : Origin) (t : List ℕ) (end done : ℕ) (v : View) (d : Decoded) → o.start.count ≤ end → Counts o end done v → IsOneOf (with_turns o t) v.done (doubt_of v) d
+counts_image : (o : Origin) (t : List ℕ) (end done : ℕ) (v : View) (d : Decoded) → o.start.count ≤ end → Counts o end done v
+    → IsOneOf (with_turns o t) v.done (doubt_of v) d
     → Counts o end 0 (view_of_image o.start.count d)
 counts_image o t end done v NothingLeft some h one = counts_loading o end some
 counts_image o t end done v (RefusedImage bad) some h one = absurd one
@@ -147,18 +151,21 @@ counts_image o t end done v (At epoch state) some h one =
 module _ {M : Type 0} (K : KindOf M) (o : Origin) (given : Given) (end : ℕ) (one : o.geometry.harts ≡ 1) (some : o.start.count ≤ end)
     (over : runs_at (with_turns o []) end ≡ false) where
   -- with no turn reported a step goes along none
-  counts_stepped : (w x : World M) (step : TakesStep K o w x) (done : ℕ) → x.turns ≡ [] → Counts o end done (seen K o w) → Counts o end (done + retires step.r.did) (seen K o x)
+  counts_stepped : (w x : World M) (step : TakesStep K o w x) (done : ℕ) → x.turns ≡ [] → Counts o end done (seen K o w)
+      → Counts o end (done + retires step.r.did) (seen K o x)
   counts_stepped w x step done none h =
       let core : CoreStep (with_turns o []) (seen K o w) step.r.did (seen K o x) =
       subst (λ (t : List ℕ). CoreStep (with_turns o t) (seen K o w) step.r.did (seen K o x)) none (core_of K o w x step) in
       counts_step o end done (seen K o w) (seen K o x) step.r.did some over (kind_of (with_turns o []) (seen K o w) (seen K o x) step.r.did core) h
 
-  by_due : (w x next : World M) (step : TakesStep K o w x) (t : Tally) → x.turns ≡ [] → Counts o end t.retired (seen K o w) → (pick : ℕ) (b : Bool)
+  by_due : (w x next : World M) (step : TakesStep K o w x) (t : Tally) → x.turns ≡ [] → Counts o end t.retired (seen K o w)
+      → (pick : ℕ) (b : Bool)
       → MatchBool b (IsCutOff K o pick x next) (next ≡ x)
       → Counts o end (if b then nothing_done else counted t (is_boot (seen K o w).phase) step.r.did).retired (seen K o next)
   by_due w x next step t none h pick true cut =
       let stepped = counts_stepped w x step t.retired none h in
-      subst (Counts o end 0) (sym cut.found) (counts_image o x.turns end _ (seen K o x) _ some stepped (step.is_step.safe next.device.image cut.cut.crash))
+      subst (Counts o end 0) (sym cut.found)
+      (counts_image o x.turns end _ (seen K o x) _ some stepped (step.is_step.safe next.device.image cut.cut.crash))
   by_due w x next step t none h pick false is =
       let stepped = counts_stepped w x step t.retired none h in
       subst (λ (y : World M). Counts o end (t.retired + retires step.r.did) (seen K o y)) (sym is) stepped
@@ -167,7 +174,8 @@ module _ {M : Type 0} (K : KindOf M) (o : Origin) (given : Given) (end : ℕ) (o
   counts_ran zero w first = subst (Counts o end 0) (sym first.found) (counts_first o end o.kept some)
   counts_ran (suc k) w (before, ran, cycle) =
       by_due before cycle.between w cycle.steps (tally_of K o given k before ran)
-      (cycle.steps.turns_are ∙ one_after o.geometry.harts before.turns cycle.steps.r.did one ∙ unlisted-ran K o given k before one ran) (counts_ran k before ran) (tear given.config.tears cycle.between.passed) (is_due K o given.config.cuts cycle.between) cycle.cut
+      (cycle.steps.turns_are ∙ one_after o.geometry.harts before.turns cycle.steps.r.did one ∙ unlisted-ran K o given k before one ran)
+      (counts_ran k before ran) (tear given.config.tears cycle.between.passed) (is_due K o given.config.cuts cycle.between) cycle.cut
 
   -- no more instructions are done than the program has
   few_done : (k : ℕ) (w : World M) (ran : Ran K o given k w) → o.start.count + (tally_of K o given k w ran).retired ≤ end

@@ -36,7 +36,8 @@ first_doubt o None = refl
 first_doubt o (Some m) = refl
 
 -- power comes on for the first time
-pub first_of : {M : Type 0} (K : KindOf M) (laws : IsLawful K) → (plan : Plan) (m : M) (t : Bytes) (n : Device) → IsPlanned plan → K.powered plan.geometry m
+pub first_of : {M : Type 0} (K : KindOf M) (laws : IsLawful K) → (plan : Plan) (m : M) (t : Bytes) (n : Device) → IsPlanned plan
+    → K.powered plan.geometry m
     → K.dram m ≡ fresh (dram_blocks plan.geometry) plan.geometry.dramq → IsFitted K plan n
     → IsFirst K (origin_of plan) (given_of plan n) (world_at (first_progress plan m t) n 0 [])
 first_of {M = M} K laws plan m t n planned powered zeros f =
@@ -52,7 +53,8 @@ first_of {M = M} K laws plan m t n planned powered zeros f =
       dram = zeros;
       at_moment = at_first;
       found = view;
-      safe = subst (λ (d : Option Mark). Safe K.decode o (first_view o).done d n) (first_doubt o o.kept) (subst S view (laws.is_safe o 0 m n at_first));
+      safe = subst (λ (d : Option Mark). Safe K.decode o (first_view o).done d n) (first_doubt o o.kept)
+          (subst S view (laws.is_safe o 0 m n at_first));
       left = ap (λ (d : Device). d.left) f.is_fitted;
       picks = ap (λ (d : Device). d.picks) f.is_fitted;
       empty = ap (λ (d : Device). d.queue) f.is_fitted;
@@ -68,14 +70,16 @@ first_going o None = refl
 first_going o (Some m) = refl
 
 -- a progress is the first one, whatever made its schedule and its list of events
-pub first_is : {M : Type 0} (plan : Plan) (m : M) (t : Bytes) (mix : Mix) (events : List Event) → mix ≡ mix_start plan.config.mix → events ≡ []
+pub first_is : {M : Type 0} (plan : Plan) (m : M) (t : Bytes) (mix : Mix) (events : List Event) → mix ≡ mix_start plan.config.mix
+    → events ≡ []
     → record (first_progress plan m t) { mix = mix; events = events } ≡ first_progress plan m t
 first_is plan m t mix events by none =
     ap (λ (x : Mix). record (first_progress plan m t) { mix = x; events = events }) by
     ∙ ap (λ (e : List Event). record (first_progress plan m t) { events = e }) none
 
 -- the loop before its first cycle
-pub Running-first : {M : Type 0} (K : KindOf M) (laws : IsLawful K) → (plan : Plan) (p : Progress M) (n : Device) (t r : Stream) → IsPlanned plan → IsFitted K plan n
+pub Running-first : {M : Type 0} (K : KindOf M) (laws : IsLawful K) → (plan : Plan) (p : Progress M) (n : Device) (t r : Stream)
+    → IsPlanned plan → IsFitted K plan n
     → IsStarted K plan p → Running K plan n p n 0 [] t t r r
 Running-first {M = M} K laws plan p n t r planned f started =
     let o : Origin = origin_of plan in
@@ -98,7 +102,8 @@ Running-first {M = M} K laws plan p n t r planned f started =
     subst (λ (x : Progress M). Running K plan n x n 0 [] t t r r) (sym started.first) here
 
 -- a run for whose machine no memory was found
-pub RunEnds-unpowered : {M : Type 0} (K : KindOf M) (laws : IsLawful K) → (plan : Plan) (events : List Event) (b : Bytes) (n : Device) (t r : Stream) → IsPlanned plan → IsFitted K plan n → events ≡ []
+pub RunEnds-unpowered : {M : Type 0} (K : KindOf M) (laws : IsLawful K)
+    → (plan : Plan) (events : List Event) (b : Bytes) (n : Device) (t r : Stream) → IsPlanned plan → IsFitted K plan n → events ≡ []
     → RunEndsAt K plan n n (record { stop = Memory; events = events; cycles = 0; terminal_failed = false; report_failed = false }) t t r r
     (world_at (first_progress plan (laws.powers plan.geometry).0 b) n 0 [])
 RunEnds-unpowered K laws plan events b n t r planned f none = (
@@ -112,15 +117,19 @@ RunEnds-unpowered K laws plan events b n t r planned f none = (
     settled = [];
     is_settled = refl;
     shown_all = record { more = []; unsent = []; is_text = ap (released_of (origin_of plan)) none; whole = λ _. refl; middle = t; took = Took-none t; sent = Took-none t };
-    read_all = subst (λ (vs : List Event). Delivered false false [] (report_of (reporting_of plan) vs) r r) (sym none) (delivered_all false [] r r refl (Took-none r));
+    read_all = subst (λ (vs : List Event). Delivered false false [] (report_of (reporting_of plan) vs) r r) (sym none)
+        (delivered_all false [] r r refl (Took-none r));
     stop_fits = (omega (arith, limit_least plan.geometry planned.origin.geometry), refl);
   },
   refl,
 )
 
 -- a run ends when the limit's number of cycles is done
-pub RunEnds-limit : {M : Type 0} (K : KindOf M) → (plan : Plan) (fit : Device) (p : Progress M) (n : Device) (k : ℕ) (turns : List ℕ) (limit : ℕ) (t0 t r0 r : Stream) → IsPlanned plan → Running K plan fit p n k turns t0 t r0 r → k ≡ limit
-    → limit ≡ plan.geometry.limit → RunEndsAt K plan fit n (record { stop = Limit; events = p.events; cycles = limit; terminal_failed = p.terminal_failed; report_failed = p.report_failed }) t0 t r0 r (world_at p n k turns)
+pub RunEnds-limit : {M : Type 0} (K : KindOf M)
+    → (plan : Plan) (fit : Device) (p : Progress M) (n : Device) (k : ℕ) (turns : List ℕ) (limit : ℕ) (t0 t r0 r : Stream) → IsPlanned plan
+    → Running K plan fit p n k turns t0 t r0 r → k ≡ limit
+    → limit ≡ plan.geometry.limit
+    → RunEndsAt K plan fit n (record { stop = Limit; events = p.events; cycles = limit; terminal_failed = p.terminal_failed; report_failed = p.report_failed }) t0 t r0 r (world_at p n k turns)
 RunEnds-limit {M = M} K plan fit p n k turns limit t0 t r0 r planned running same limit_is =
     let o : Origin = origin_of plan in
     let going : has_ended p.events ≡ false = (good_of K plan fit p n k turns planned running.goes).stands.ended ∙ running.goes.going in

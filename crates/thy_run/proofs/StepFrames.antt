@@ -12,8 +12,10 @@ use Rattle.thy_run.specs.Every.{every_of}
 use Rattle.thy_run.specs.World.{World, TakesStep}
 
 framed_after : (count : ℕ) (a : Action) (n : Device) → IsFramed n (after count a n)
-framed_after count Rest n = record { blocks = refl; left = refl; picks = refl; queue_room = refl; left_room = refl; fits = refl; lent = refl; whole = refl }
-framed_after count (ReadAt place) n = record { blocks = refl; left = refl; picks = refl; queue_room = refl; left_room = refl; fits = refl; lent = refl; whole = refl }
+framed_after count Rest n =
+    record { blocks = refl; left = refl; picks = refl; queue_room = refl; left_room = refl; fits = refl; lent = refl; whole = refl }
+framed_after count (ReadAt place) n =
+    record { blocks = refl; left = refl; picks = refl; queue_room = refl; left_room = refl; fits = refl; lent = refl; whole = refl }
 framed_after count (WriteAt place block) n = record { blocks = length-written_to n place block; left = refl; picks = refl; queue_room = refl; left_room = refl; fits = refl; lent = refl; whole = refl }
 framed_after count Barrier n = record { blocks = length-settled count n; left = refl; picks = refl; queue_room = refl; left_room = refl; fits = refl; lent = refl; whole = refl }
 framed_after count Drain n = record { blocks = length-drained n; left = refl; picks = refl; queue_room = refl; left_room = refl; fits = refl; lent = refl; whole = refl }
@@ -26,5 +28,6 @@ pub TakesStep-framed : {M : Type 0} (K : KindOf M) (o : Origin) (w next : World 
 TakesStep-framed K o w next step = IsFramed-acts (K.migrates w.machine) step.r.did w.device next.device step.is_step.acts
 
 -- a step leaves after how many writes a block is moved as it was
-pub TakesStep-every : {M : Type 0} (K : KindOf M) (o : Origin) (w next : World M) → TakesStep K o w next → every_of next.device.wear ≡ every_of w.device.wear
+pub TakesStep-every : {M : Type 0} (K : KindOf M) (o : Origin) (w next : World M) → TakesStep K o w next
+    → every_of next.device.wear ≡ every_of w.device.wear
 TakesStep-every K o w next step = every-after step.is_step.acts.action w.device next.device step.is_step.acts.left

@@ -100,7 +100,8 @@ keeps_to o v next new did e k = keeps (subst (λ x. Keeps o v x did) (sym e) k)
 
 of_engine : (o : Origin) (v next : View) (step : EngineStep) → EngineTo step v next → Kind o v next (Engine step)
 of_engine o v next Idle s = absurd s
-of_engine o v next CommitWritten s = keeps_to o v next _ (Engine CommitWritten) s.2 (record { phase = refl; done = refl; sealed = refl; count = refl; retired = refl; none = refl; nothing_reported = λ cycle. refl; idle = λ retired old new e. e })
+of_engine o v next CommitWritten s = keeps_to o v next _ (Engine CommitWritten) s.2
+    (record { phase = refl; done = refl; sealed = refl; count = refl; retired = refl; none = refl; nothing_reported = λ cycle. refl; idle = λ retired old new e. e })
 of_engine o v next (EngineCommitted epoch) s = absurd s
 of_engine o v next Copied s = keeps_to o v next _ (Engine Copied) s (record { phase = refl; done = refl; sealed = refl; count = refl; retired = refl; none = refl; nothing_reported = λ cycle. refl; idle = λ retired old new e. e })
 of_engine o v next PageBlock s = keeps_to o v next _ (Engine PageBlock) s (record { phase = refl; done = refl; sealed = refl; count = refl; retired = refl; none = refl; nothing_reported = λ cycle. refl; idle = λ retired old new e. e })

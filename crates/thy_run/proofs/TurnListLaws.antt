@@ -70,66 +70,70 @@ module _ (o : Origin) (turns : List ℕ) (v : View) (hart : ℕ) (all : HasItsTu
       let one_more : length (turns ++ hart ∷ []) ≡ length turns + 1 = length-append turns (hart ∷ []) in
       omega (arith, many_yet two, one_more, more, late)
 
--- those reported once a cycle is done give it its turn
-pub after_has : (o : Origin) (turns : List ℕ) (v : View) (did : Did) → HasItsTurns (with_turns o turns) v → IsThere (with_turns o turns) v did
-    → HasTurn (with_turns o (turns_after o.geometry.harts turns did)) v did
-after_has o turns v (Retired hart) all there = retired_has o turns v hart all there (o.geometry.harts == 1) refl
-after_has o turns v Boot all there = tt
-after_has o turns v Loaded all there = tt
-after_has o turns v (Restarted epoch count) all there = tt
-after_has o turns v (Refused bad) all there = tt
-after_has o turns v Moved all there = tt
-after_has o turns v Flushed all there = tt
-after_has o turns v Merged all there = tt
-after_has o turns v (Sealed epoch count cause) all there = tt
-after_has o turns v Promoted all there = tt
-after_has o turns v (Engine step) all there = tt
-after_has o turns v (Committed epoch overlapped) all there = tt
-after_has o turns v NvmDrained all there = tt
-after_has o turns v DramDrained all there = tt
-after_has o turns v Nothing all there = tt
+module _ (o : Origin) (turns : List ℕ) (v : View) where
+  -- those reported once a cycle is done give it its turn
+  pub after_has : (did : Did) → HasItsTurns (with_turns o turns) v → IsThere (with_turns o turns) v did
+      → HasTurn (with_turns o (turns_after o.geometry.harts turns did)) v did
+  after_has (Retired hart) all there = retired_has o turns v hart all there (o.geometry.harts == 1) refl
+  after_has Boot all there = tt
+  after_has Loaded all there = tt
+  after_has (Restarted epoch count) all there = tt
+  after_has (Refused bad) all there = tt
+  after_has Moved all there = tt
+  after_has Flushed all there = tt
+  after_has Merged all there = tt
+  after_has (Sealed epoch count cause) all there = tt
+  after_has Promoted all there = tt
+  after_has (Engine step) all there = tt
+  after_has (Committed epoch overlapped) all there = tt
+  after_has NvmDrained all there = tt
+  after_has DramDrained all there = tt
+  after_has Nothing all there = tt
 
--- the turns reported once a cycle is done agree with the turns reported before, as far as the view reaches
-pub after_agrees : (o : Origin) (turns : List ℕ) (v : View) (did : Did) → HasItsTurns (with_turns o turns) v → IsThere (with_turns o turns) v did
-    → AgreeBelow (with_turns o turns) (turns_after o.geometry.harts turns did) (reach v)
-after_agrees o turns v (Retired hart) all there = retired_agrees o turns v hart all there (o.geometry.harts == 1) refl
-after_agrees o turns v did all there = AgreeBelow-same (with_turns o turns) (reach v)
+  -- the turns reported once a cycle is done agree with the turns reported before, as far as the view reaches
+  pub after_agrees : (did : Did) → HasItsTurns (with_turns o turns) v → IsThere (with_turns o turns) v did
+      → AgreeBelow (with_turns o turns) (turns_after o.geometry.harts turns did) (reach v)
+  after_agrees (Retired hart) all there = retired_agrees o turns v hart all there (o.geometry.harts == 1) refl
+  after_agrees did all there = AgreeBelow-same (with_turns o turns) (reach v)
 
-same_listed : (o : Origin) (turns : List ℕ) (v next : View) (did : Did) → HasItsTurns (with_turns o turns) v → CoreStep (with_turns o turns) v did next → retires did ≡ 0
-    → HasItsTurns (with_turns o turns) next
-same_listed o turns v next did all step none =
-    all ∙ ap (turns_listed o.geometry.harts) (sym (stays-there (with_turns o turns) v next did step none))
+  same_listed : (next : View) (did : Did) → HasItsTurns (with_turns o turns) v → CoreStep (with_turns o turns) v did next
+      → retires did ≡ 0 → HasItsTurns (with_turns o turns) next
+  same_listed next did all step none =
+      all ∙ ap (turns_listed o.geometry.harts) (sym (stays-there (with_turns o turns) v next did step none))
 
--- the turns reported once a cycle is done reach the state that the cycle came to
-pub after_listed : (o : Origin) (turns : List ℕ) (v next : View) (did : Did) → (v.phase ≡ Run → o.start.count ≤ reach v) → HasItsTurns (with_turns o turns) v
-    → CoreStep (with_turns o (turns_after o.geometry.harts turns did)) v did next → HasItsTurns (with_turns o (turns_after o.geometry.harts turns did)) next
-after_listed o turns v next (Retired hart) late all step =
-    let before : reach v ≡ v.count = ap (λ (p : Phase). reach_in p v) step.phase in
-    let phase : next.phase ≡ v.phase = ap (λ (w : View). w.phase) step.becomes in
-    let count : next.count ≡ v.count + 1 = ap (λ (w : View). w.count) step.becomes in
-    let behind : reach next ≡ next.count = ap (λ (p : Phase). reach_in p next) (phase ∙ step.phase) in
-    retired_listed o turns v hart all next (omega (arith, before, count, behind)) (late step.phase) (o.geometry.harts == 1) refl
-after_listed o turns v next Boot late all step = same_listed o turns v next Boot all step refl
-after_listed o turns v next Loaded late all step = same_listed o turns v next Loaded all step refl
-after_listed o turns v next (Restarted epoch count) late all step = same_listed o turns v next (Restarted epoch count) all step refl
-after_listed o turns v next (Refused bad) late all step = same_listed o turns v next (Refused bad) all step refl
-after_listed o turns v next Moved late all step = same_listed o turns v next Moved all step refl
-after_listed o turns v next Flushed late all step = same_listed o turns v next Flushed all step refl
-after_listed o turns v next Merged late all step = same_listed o turns v next Merged all step refl
-after_listed o turns v next (Sealed epoch count cause) late all step = same_listed o turns v next (Sealed epoch count cause) all step refl
-after_listed o turns v next Promoted late all step = same_listed o turns v next Promoted all step refl
-after_listed o turns v next (Engine step) late all s = same_listed o turns v next (Engine step) all s refl
-after_listed o turns v next (Committed epoch overlapped) late all step = same_listed o turns v next (Committed epoch overlapped) all step refl
-after_listed o turns v next NvmDrained late all step = same_listed o turns v next NvmDrained all step refl
-after_listed o turns v next DramDrained late all step = same_listed o turns v next DramDrained all step refl
-after_listed o turns v next Nothing late all step = same_listed o turns v next Nothing all step refl
+  -- the turns reported once a cycle is done reach the state that the cycle came to
+  pub after_listed : (next : View) (did : Did) → (v.phase ≡ Run → o.start.count ≤ reach v) → HasItsTurns (with_turns o turns) v
+      → CoreStep (with_turns o (turns_after o.geometry.harts turns did)) v did next
+      → HasItsTurns (with_turns o (turns_after o.geometry.harts turns did)) next
+  after_listed next (Retired hart) late all step =
+      let before : reach v ≡ v.count = ap (λ (p : Phase). reach_in p v) step.phase in
+      let phase : next.phase ≡ v.phase = ap (λ (w : View). w.phase) step.becomes in
+      let count : next.count ≡ v.count + 1 = ap (λ (w : View). w.count) step.becomes in
+      let behind : reach next ≡ next.count = ap (λ (p : Phase). reach_in p next) (phase ∙ step.phase) in
+      retired_listed o turns v hart all next (omega (arith, before, count, behind)) (late step.phase) (o.geometry.harts == 1) refl
+  after_listed next Boot late all step = same_listed next Boot all step refl
+  after_listed next Loaded late all step = same_listed next Loaded all step refl
+  after_listed next (Restarted epoch count) late all step = same_listed next (Restarted epoch count) all step refl
+  after_listed next (Refused bad) late all step = same_listed next (Refused bad) all step refl
+  after_listed next Moved late all step = same_listed next Moved all step refl
+  after_listed next Flushed late all step = same_listed next Flushed all step refl
+  after_listed next Merged late all step = same_listed next Merged all step refl
+  after_listed next (Sealed epoch count cause) late all step = same_listed next (Sealed epoch count cause) all step refl
+  after_listed next Promoted late all step = same_listed next Promoted all step refl
+  after_listed next (Engine step) late all s = same_listed next (Engine step) all s refl
+  after_listed next (Committed epoch overlapped) late all step = same_listed next (Committed epoch overlapped) all step refl
+  after_listed next NvmDrained late all step = same_listed next NvmDrained all step refl
+  after_listed next DramDrained late all step = same_listed next DramDrained all step refl
+  after_listed next Nothing late all step = same_listed next Nothing all step refl
 
 -- ---- cuts
 
-pub kept_agrees : (o : Origin) (turns : List ℕ) (d : Decoded) → AgreeBelow (with_turns o turns) (turns_kept o turns d) (reach (view_of_image o.start.count d))
+pub kept_agrees : (o : Origin) (turns : List ℕ) (d : Decoded)
+    → AgreeBelow (with_turns o turns) (turns_kept o turns d) (reach (view_of_image o.start.count d))
 kept_agrees o turns d = taken-agrees o turns (reach (view_of_image o.start.count d))
 
-many_kept : (b : Bool) (turns : List ℕ) (old new : ℕ) → new ≤ old → length turns ≡ (if b then 0 else old) → length (take new turns) ≡ (if b then 0 else new)
+many_kept : (b : Bool) (turns : List ℕ) (old new : ℕ) → new ≤ old → length turns ≡ (if b then 0 else old)
+    → length (take new turns) ≡ (if b then 0 else new)
 many_kept true turns old new le all = grind (arith, length-take new turns, all)
 many_kept false turns old new le all = length-take-le new turns (omega (arith, le, all))
 

@@ -62,10 +62,7 @@ pub fn list_hart(turns: &mut Bytes, harts: u64, hart: u8)
     if harts == 1 {
         return;
     }
-    match turns.extend(&[hart]) {
-        Ok(()) => {}
-        Err(_) => unreachable!(),
-    }
+    turns.push(hart);
 }
 
 /// Lists the hart that retired an instruction, if there are two harts. Allocates nothing.

@@ -11,7 +11,8 @@ use Rattle.thy_run.proofs.advance.advance.Goals as goal
 pub advance-requires : goal.advance-requires
 advance-requires g c =
     let h = c.requires.drawn in
-    can_step g.M.Computer.kind g.met.M.Computer.lawful c.args.plan.now h.0 (record c.args.progress.now { mix = h.2.mix }) (g.N.Nvm.device c.args.nvm.now) c.args.done h.1 c.requires.planned h.2.goes c.requires.few
+    can_step g.M.Computer.kind g.met.M.Computer.lawful c.args.plan.now h.0 (record c.args.progress.now { mix = h.2.mix })
+    (g.N.Nvm.device c.args.nvm.now) c.args.done h.1 c.requires.planned h.2.goes c.requires.few
 
 pub list_advance-requires : goal.list_advance-requires
 list_advance-requires g c =
@@ -24,7 +25,8 @@ list_advance-requires g c =
     let m = g.N.Nvm.device c.advance.new.nvm in
     let r = stepped_of c.in-Ok-Some.advance in
     let s = steps_of K laws plan h.0 p n c.args.done h.1 c.requires.planned h.2.goes c.args.pick c.advance.new.self m r c.requires.few
-    (subst (λ a. IfAdvanced a (Simulates K plan.start c.args.pick p.machine c.advance.new.self n m)) (c.in-Ok-Some.is ∙ ap Ok c.in-Ok-Some.field-0-is) c.advance.ensures.steps) in
+    (subst (λ a. IfAdvanced a (Simulates K plan.start c.args.pick p.machine c.advance.new.self n m))
+    (c.in-Ok-Some.is ∙ ap Ok c.in-Ok-Some.field-0-is) c.advance.ensures.steps) in
     let R : ℕ → Type 0 = λ harts. HasRoomToList harts (bytes_of p.turns) (room_of p.turns) r.did in
     subst R (sym c.harts.ensures.harts)
     (steps_room K laws plan h.0 p n c.args.done h.1 c.requires.planned h.2.goes c.args.pick c.advance.new.self m r s)

@@ -7,7 +7,8 @@ use Rattle.thy_run.specs.Going.{list_after}
 use Rattle.thy_run.proofs.advance.end_list.Goals as goal
 
 -- the list stays unless the epoch was sealed
-unsealed : (did : Did) (listed : List ℕ) → ((epoch count : ℕ) (cause : EndCause) → did ≡ Sealed epoch count cause → ⊥) → listed ≡ list_after did listed
+unsealed : (did : Did) (listed : List ℕ) → ((epoch count : ℕ) (cause : EndCause) → did ≡ Sealed epoch count cause → ⊥)
+    → listed ≡ list_after did listed
 unsealed (Sealed epoch count cause) listed other = absurd (other epoch count cause refl)
 unsealed did listed other = refl
 

@@ -1,4 +1,4 @@
-use Rattle.std.proofs.Common.{◌≡◌, ℕ, ◌==◌, Bool, true, false, List, [], ◌∷◌, ◌++◌, if◌then◌else◌, inl, inr, sym, ap, ◌∙◌, arith}
+use Rattle.std.proofs.Common.{◌≡◌, ℕ, ◌==◌, Bool, true, false, List, [], ◌∷◌, ◌++◌, if◌then◌else◌, inl, inr, sym, ap, ◌∙◌}
 use Rattle.std.proofs.lemmas.Bool.{eq-eqb, ne_eqb}
 use Rattle.thy_block.specs.Bytes.{bytes_of}
 use Rattle.thy_run.proofs.advance.list_hart.Goals as goal
@@ -15,8 +15,8 @@ returns-then-harts-eq1-clause-turns c =
 pub returns-clause-turns : goal.returns-clause-turns
 returns-clause-turns c =
     let old = bytes_of c.args.turns.now in
-    c.in-Ok.ensures.ok
+    c.push.ensures.bytes
     ∙ sym (listed_if (c.args.harts == 1) false old (old ++ c.args.hart ∷ []) (ne_eqb c.args.harts 1 c.if-harts-eq1.false))
 
-pub unreachable-requires : goal.unreachable-requires
-unreachable-requires c = elim c.requires [ inl one ↦ c.if-harts-eq1.false one | inr less ↦ omega (arith, less, c.in-Err.ensures.full) ]
+pub push-requires : goal.push-requires
+push-requires c = elim c.requires [ inl one ↦ absurd (c.if-harts-eq1.false one) | inr less ↦ less ]

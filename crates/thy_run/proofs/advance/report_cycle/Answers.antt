@@ -14,7 +14,11 @@ use Rattle.thy_run.proofs.advance.report_cycle.Goals as goal
 pub gather-requires : goal.gather-requires
 gather-requires g c =
     let h = c.requires.stepped in
-    record { o = line_of c.args.plan.now (turns_then c.args.plan.now h.3 c.args.stepped.did); cycles = c.args.done + 1; at_moment = h.5.is_step.at_next }
+    record {
+      o = line_of c.args.plan.now (turns_then c.args.plan.now h.3 c.args.stepped.did);
+      cycles = c.args.done + 1;
+      at_moment = h.5.is_step.at_next;
+    }
 
 pub conclude-requires-clause-gathered : goal.conclude-requires-clause-gathered
 conclude-requires-clause-gathered g c =
@@ -50,7 +54,8 @@ returns-in-Ok g c = λ fitted p n turns t u stepped running w.
     let r = c.args.stepped in
     let v = seen K (origin_of plan) (world_at p n c.args.done turns) in
     let D : Device → Type 0 = λ d. CycleTaken K g.O.Observer.has_seen g.O.Observer.keeps plan fitted p c.conclude.new.progress n d c.args.done turns
-    t (g.T.Sink.stream c.args.terminal.now) (g.T.Sink.stream c.conclude.new.terminal) u (g.R.Sink.stream c.args.report.now) (g.R.Sink.stream c.conclude.new.report)
+    t (g.T.Sink.stream c.args.terminal.now) (g.T.Sink.stream c.conclude.new.terminal) u (g.R.Sink.stream c.args.report.now)
+    (g.R.Sink.stream c.conclude.new.report)
     c.args.observer.now c.conclude.new.observer r c.conclude.result in
     subst D (sym c.in-Ok.ensures.same)
     (c.conclude.ensures fitted p n m c.args.done turns t u
@@ -78,7 +83,8 @@ returns-in-Err g c = λ fitted p n turns t u stepped running w.
     record {
       after = turns;
       comes_to = subst S (sym c.from.ensures)
-          (ComesTo-unlisted K plan fitted p q n d c.args.done turns turns (stop_of c.in-Err.error) t t1 u r1 running c.requires.few (ap (λ y. y.events) stepped.same)
+          (ComesTo-unlisted K plan fitted p q n d c.args.done turns turns (stop_of c.in-Err.error) t t1 u r1 running c.requires.few
+          (ap (λ y. y.events) stepped.same)
           (IsBroken-read K g.met.M.Computer.lawful plan fitted p n c.args.done turns c.requires.planned running.goes q m c.args.stepped stepped d c.in-Err.error
           c.in-Err.ensures.err c.gather.ensures.frame c.in-Err.ensures.due));
       seen = refl;

@@ -10,7 +10,8 @@ use Rattle.thy_run.proofs.advance.take_other.Goals as goal
 pub take_other-requires-clause-can : goal.take_other-requires-clause-can
 take_other-requires-clause-can g c =
     let h = c.requires.drawn in
-    can_step g.M.Computer.kind g.met.M.Computer.lawful c.args.plan.now h.0 (record c.args.progress.now { mix = h.2.mix }) (g.N.Nvm.device c.args.nvm.now) c.args.done h.1 c.requires.planned h.2.goes c.requires.few
+    can_step g.M.Computer.kind g.met.M.Computer.lawful c.args.plan.now h.0 (record c.args.progress.now { mix = h.2.mix })
+    (g.N.Nvm.device c.args.nvm.now) c.args.done h.1 c.requires.planned h.2.goes c.requires.few
 
 pub list_turn-requires-clause-room : goal.list_turn-requires-clause-room
 list_turn-requires-clause-room g c =
@@ -21,7 +22,8 @@ list_turn-requires-clause-room g c =
     let p = record c.args.progress.now { mix = h.2.mix } in
     let n = g.N.Nvm.device c.args.nvm.now in
     let m = g.N.Nvm.device c.take_other.new.nvm in
-    let s = steps_of K laws plan h.0 p n c.args.done h.1 c.requires.planned h.2.goes c.args.pick c.take_other.new.self m c.in-Ok.stepped c.requires.few
+    let s = steps_of K laws plan h.0 p n c.args.done h.1 c.requires.planned h.2.goes c.args.pick c.take_other.new.self m
+    c.in-Ok.stepped c.requires.few
     (λ o i begins at few. c.in-Ok.ensures.steps o i begins at few) in
     let R : ℕ → Type 0 = λ harts. HasRoomToList harts (bytes_of p.turns) (room_of p.turns) c.in-Ok.stepped.did in
     subst R (sym c.harts.ensures.harts)
@@ -36,7 +38,8 @@ list_turn-requires-clause-hart g c =
     let p = record c.args.progress.now { mix = h.2.mix } in
     let n = g.N.Nvm.device c.args.nvm.now in
     let m = g.N.Nvm.device c.take_other.new.nvm in
-    let s = steps_of K laws plan h.0 p n c.args.done h.1 c.requires.planned h.2.goes c.args.pick c.take_other.new.self m c.in-Ok.stepped c.requires.few
+    let s = steps_of K laws plan h.0 p n c.args.done h.1 c.requires.planned h.2.goes c.args.pick c.take_other.new.self m
+    c.in-Ok.stepped c.requires.few
     (λ o i begins at few. c.in-Ok.ensures.steps o i begins at few) in
     steps_hart K laws plan h.0 p n c.args.done h.1 c.requires.planned h.2.goes c.args.pick c.take_other.new.self m c.in-Ok.stepped s
 

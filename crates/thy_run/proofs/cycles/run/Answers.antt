@@ -20,9 +20,13 @@ returns-in_default-clause-seen g c =
     let plan = c.args.plan.now in
     let n = g.N.Nvm.device c.args.nvm.now in
     let m = (laws.powers plan.geometry).0 in
-    RunEndsSeen-at K g.O.Observer.has_seen plan n n (record { stop = Memory; events = c.new.result; cycles = 0; terminal_failed = false; report_failed = false }) (g.T.Sink.stream c.args.terminal.now) (g.T.Sink.stream c.args.terminal.now) (g.R.Sink.stream c.args.report.now) (g.R.Sink.stream c.args.report.now)
+    RunEndsSeen-at K g.O.Observer.has_seen plan n n
+    (record { stop = Memory; events = c.new.result; cycles = 0; terminal_failed = false; report_failed = false })
+    (g.T.Sink.stream c.args.terminal.now) (g.T.Sink.stream c.args.terminal.now) (g.R.Sink.stream c.args.report.now)
+    (g.R.Sink.stream c.args.report.now)
     (first_progress plan m plan.start.input) n 0 [] c.args.observer.now
-    (RunEnds-unpowered K laws plan c.new.result plan.start.input n (g.T.Sink.stream c.args.terminal.now) (g.R.Sink.stream c.args.report.now) c.requires.planned c.requires.fitted c.new.ensures)
+    (RunEnds-unpowered K laws plan c.new.result plan.start.input n (g.T.Sink.stream c.args.terminal.now)
+    (g.R.Sink.stream c.args.report.now) c.requires.planned c.requires.fitted c.new.ensures)
     refl
     (Watched-first K g.O.Observer.has_seen plan (first_progress plan m plan.start.input) n c.args.observer.now (first_of K laws plan m plan.start.input n c.requires.planned (laws.powers plan.geometry).1 (laws.powers plan.geometry).2 c.requires.fitted) c.requires.unseen)
 
@@ -32,12 +36,14 @@ returns-in_default-clause-ran g c = (returns-in_default-clause-seen g c).0
 pub loop-progress-init : goal.loop-progress-init
 loop-progress-init g c =
     let n = g.N.Nvm.device c.args.nvm.now in
-    let running = Running-first g.M.Computer.kind g.met.M.Computer.lawful c.args.plan.now c.in-Ok.progress n (g.T.Sink.stream c.args.terminal.now) (g.R.Sink.stream c.args.report.now)
+    let running = Running-first g.M.Computer.kind g.met.M.Computer.lawful c.args.plan.now c.in-Ok.progress n
+    (g.T.Sink.stream c.args.terminal.now) (g.R.Sink.stream c.args.report.now)
     c.requires.planned c.requires.fitted c.in-Ok.ensures in
     record {
       turns = [];
       running = running;
-      watched = Watched-first g.M.Computer.kind g.O.Observer.has_seen c.args.plan.now c.in-Ok.progress n c.args.observer.now running.goes.ran c.requires.unseen;
+      watched = Watched-first g.M.Computer.kind g.O.Observer.has_seen c.args.plan.now c.in-Ok.progress n c.args.observer.now
+          running.goes.ran c.requires.unseen;
       few = omega arith;
     }
 
@@ -80,7 +86,8 @@ report_cycle-requires-clause-stepped g c =
 pub report_cycle-requires-clause-few : goal.report_cycle-requires-clause-few
 report_cycle-requires-clause-few g c =
     let x = c.run_quiet-now in
-    (paused_at c.loop-progress.invariant x.new.progress (g.N.Nvm.device x.new.nvm) x.result.0 x.new.observer x.result.1 (Steps c.in-Steps.stepped) c.in-Steps.is x.ensures).stops.0
+    (paused_at c.loop-progress.invariant x.new.progress (g.N.Nvm.device x.new.nvm) x.result.0 x.new.observer x.result.1
+    (Steps c.in-Steps.stepped) c.in-Steps.is x.ensures).stops.0
 
 pub report_cycle-requires-clause-unseen : goal.report_cycle-requires-clause-unseen
 report_cycle-requires-clause-unseen g c =
@@ -191,7 +198,8 @@ cut_power-requires-clause-unseen g c =
     let k = x.result.0 in
     let turns = paused.led.turns in
     let made = c.in-Cuts.ensures n p m turns t0 r0 paused.stops.1 running paused.led.watched in
-    CanSeeCut-awaited K g.O.Observer.has_seen g.O.Observer.keeps plan n p c.report_cycle.new.progress m (g.N.Nvm.device c.report_cycle.new.nvm) k turns made.seen.0 c.report_cycle.new.observer made.seen.2
+    CanSeeCut-awaited K g.O.Observer.has_seen g.O.Observer.keeps plan n p c.report_cycle.new.progress m
+    (g.N.Nvm.device c.report_cycle.new.nvm) k turns made.seen.0 c.report_cycle.new.observer made.seen.2
 
 pub returns-in-Err-clause-seen : goal.returns-in-Err-clause-seen
 returns-in-Err-clause-seen g c =
@@ -214,7 +222,8 @@ returns-in-Err-clause-seen g c =
     let T : Stream → Type 0 = λ s. Running K plan n p m k turns t0 s r0 (g.R.Sink.stream c.loop-progress.report) in
     let R : Stream → Type 0 = λ s. Running K plan n p m k turns t0 (g.T.Sink.stream c.report_cycle.new.terminal) r0 s in
     let first = c.len-first.ensures ∙ ap (λ (y : Progress g.row.M.Denot). length y.events) paused.stops.1.same in
-    c.in-Err.ensures n p m turns t0 r0 made.seen.0 (subst R (sym made.comes_to.1) (subst T (sym made.comes_to.0) running)) made.seen.2 made.seen.1 first
+    c.in-Err.ensures n p m turns t0 r0 made.seen.0
+    (subst R (sym made.comes_to.1) (subst T (sym made.comes_to.0) running)) made.seen.2 made.seen.1 first
 
 pub returns-in-Err-clause-ran : goal.returns-in-Err-clause-ran
 returns-in-Err-clause-ran g c = (returns-in-Err-clause-seen g c).0
@@ -222,26 +231,30 @@ returns-in-Err-clause-ran g c = (returns-in-Err-clause-seen g c).0
 pub cut_power-requires-clause-few : goal.cut_power-requires-clause-few
 cut_power-requires-clause-few g c =
     let x = c.run_quiet-now in
-    (paused_at c.loop-progress.invariant x.new.progress (g.N.Nvm.device x.new.nvm) x.result.0 x.new.observer x.result.1 (Steps c.in-Steps.stepped) c.in-Steps.is x.ensures).stops.0
+    (paused_at c.loop-progress.invariant x.new.progress (g.N.Nvm.device x.new.nvm) x.result.0 x.new.observer x.result.1
+    (Steps c.in-Steps.stepped) c.in-Steps.is x.ensures).stops.0
 
 pub overflow_add-now : goal.overflow_add-now
 overflow_add-now g c =
     let x = c.run_quiet-now in
-    let paused = paused_at c.loop-progress.invariant x.new.progress (g.N.Nvm.device x.new.nvm) x.result.0 x.new.observer x.result.1 (Steps c.in-Steps.stepped) c.in-Steps.is x.ensures in
+    let paused = paused_at c.loop-progress.invariant x.new.progress (g.N.Nvm.device x.new.nvm) x.result.0 x.new.observer x.result.1
+    (Steps c.in-Steps.stepped) c.in-Steps.is x.ensures in
     let few = few_cycles c.args.plan.now x.result.0 c.requires.planned paused.stops.0 in
     omega (arith, few)
 
 pub overflow_add-done : goal.overflow_add-done
 overflow_add-done g c =
     let x = c.run_quiet-now in
-    let paused = paused_at c.loop-progress.invariant x.new.progress (g.N.Nvm.device x.new.nvm) x.result.0 x.new.observer x.result.1 (Steps c.in-Steps.stepped) c.in-Steps.is x.ensures in
+    let paused = paused_at c.loop-progress.invariant x.new.progress (g.N.Nvm.device x.new.nvm) x.result.0 x.new.observer x.result.1
+    (Steps c.in-Steps.stepped) c.in-Steps.is x.ensures in
     let few = few_cycles c.args.plan.now x.result.0 c.requires.planned paused.stops.0 in
     omega (arith, few)
 
 pub loop-progress-smaller : goal.loop-progress-smaller
 loop-progress-smaller g c =
     let x = c.run_quiet-now in
-    let paused = paused_at c.loop-progress.invariant x.new.progress (g.N.Nvm.device x.new.nvm) x.result.0 x.new.observer x.result.1 (Steps c.in-Steps.stepped) c.in-Steps.is x.ensures in
+    let paused = paused_at c.loop-progress.invariant x.new.progress (g.N.Nvm.device x.new.nvm) x.result.0 x.new.observer x.result.1
+    (Steps c.in-Steps.stepped) c.in-Steps.is x.ensures in
     let few = paused.stops.0 in
     let more = paused.led.more in
     omega (arith, few, more)
@@ -273,7 +286,8 @@ loop-progress-preserved g c =
       | in-Goes w ↦
           let made = w.in-Goes.ensures n p m turns t0 r0 paused.stops.1 running paused.led.watched in
           let y = c.report_cycle.new in
-          let h : Now y.terminal y.report y.nvm y.progress y.observer = record { turns = made.after; running = made.comes_to; watched = made.seen; few = few } in
+          let h : Now y.terminal y.report y.nvm y.progress y.observer =
+          record { turns = made.after; running = made.comes_to; watched = made.seen; few = few } in
           subst (λ x. Now x f.report f.nvm f.progress f.observer) (sym w.terminal-is)
           (subst (λ x. Now y.terminal x f.nvm f.progress f.observer) (sym w.report-is)
           (subst (λ x. Now y.terminal y.report x f.progress f.observer) (sym w.nvm-is)
@@ -288,7 +302,8 @@ loop-progress-preserved g c =
           let y = w.cut_power.new in
           let q = w.in-Ok-cut_power.next in
           let cut = w.in-Ok-cut_power.ensures n p m turns t0 r0 made.seen.0 before made.seen.2 made.seen.1 first in
-          let h : Now y.terminal y.report y.nvm q y.observer = record { turns = cut.after; running = cut.running; watched = cut.watched; few = few } in
+          let h : Now y.terminal y.report y.nvm q y.observer =
+          record { turns = cut.after; running = cut.running; watched = cut.watched; few = few } in
           subst (λ x. Now x f.report f.nvm f.progress f.observer) (sym w.terminal-is)
           (subst (λ x. Now y.terminal x f.nvm f.progress f.observer) (sym w.report-is)
           (subst (λ x. Now y.terminal y.report x f.progress f.observer) (sym w.nvm-is)

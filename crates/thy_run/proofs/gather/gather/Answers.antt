@@ -12,8 +12,10 @@ returns-clause-read g c = λ o k v can.
     record {
       reload = c.reloads-reload.ensures o k v before c.args.stepped.now can;
       restored = c.in_ok-restored.ensures.read o k v c.args.stepped.now refl can;
-      bytes = c.in_ok-bytes.ensures.read o k v c.args.stepped.now refl (subst (λ n. CanGather g.M.Computer.kind o k v c.args.progress.now n c.args.stepped.now) (sym first) can)
+      bytes = c.in_ok-bytes.ensures.read o k v c.args.stepped.now refl
+          (subst (λ n. CanGather g.M.Computer.kind o k v c.args.progress.now n c.args.stepped.now) (sym first) can)
           ∙ ap (λ n. due_of o c.args.progress.now.events c.args.stepped.now.did (g.M.Computer.kind.view o c.args.progress.now.machine n)) first;
       ended = subst (λ n. IsEnding o v (g.M.Computer.kind.view o c.args.progress.now.machine n) c.in_ok-ended.ended) second
-          (c.in_ok-ended.ensures.read o k v c.args.stepped.now refl (subst (λ n. CanGather g.M.Computer.kind o k v c.args.progress.now n c.args.stepped.now) (sym second) can));
+          (c.in_ok-ended.ensures.read o k v c.args.stepped.now refl
+          (subst (λ n. CanGather g.M.Computer.kind o k v c.args.progress.now n c.args.stepped.now) (sym second) can));
     }

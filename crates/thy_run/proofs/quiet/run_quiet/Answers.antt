@@ -24,7 +24,8 @@ pub pass_row-taken-requires-clause-end : goal.pass_row-taken-requires-clause-end
 pass_row-taken-requires-clause-end g c =
     let h = c.requires.watched in
     let led = c.loop-now.invariant.led h.0 h.1 h.2 h.3 in
-    IsRowEnd-on c.args.plan.now c.args.progress.now c.loop-now.progress c.quiet_below-below.result c.row_end-end.result led.uncut led.fresh c.quiet_below-below.ensures
+    IsRowEnd-on c.args.plan.now c.args.progress.now c.loop-now.progress c.quiet_below-below.result c.row_end-end.result led.uncut
+    led.fresh c.quiet_below-below.ensures
     c.row_end-end.ensures.limit c.row_end-end.ensures.below
 
 pub pass_row-taken-requires-clause-few : goal.pass_row-taken-requires-clause-few
@@ -38,20 +39,26 @@ pass_row-taken-requires-clause-few g c =
 pub advance-requires-clause-drawn : goal.advance-requires-clause-drawn
 advance-requires-clause-drawn g c =
     let h = c.requires.watched in
-    let led = IsLed-rowless g.M.Computer.kind g.O.Observer.has_seen c.args.plan.now h.0 c.args.progress.now c.loop-now.progress c.pass_row-taken.new.progress (g.N.Nvm.device c.loop-now.nvm)
-    c.args.done c.loop-now.now c.pass_row-taken.result c.loop-now.observer c.pass_row-taken.new.observer c.if-taken-gt0.false c.pass_row-taken.ensures.leads (c.loop-now.invariant.led h.0 h.1 h.2 h.3) in (
+    let led = IsLed-rowless g.M.Computer.kind g.O.Observer.has_seen c.args.plan.now h.0 c.args.progress.now c.loop-now.progress
+    c.pass_row-taken.new.progress (g.N.Nvm.device c.loop-now.nvm)
+    c.args.done c.loop-now.now c.pass_row-taken.result c.loop-now.observer c.pass_row-taken.new.observer c.if-taken-gt0.false
+    c.pass_row-taken.ensures.leads (c.loop-now.invariant.led h.0 h.1 h.2 h.3) in (
       h.0,
       led.turns,
-      drawn_on g.M.Computer.kind c.args.plan.now h.0 c.pass_row-taken.new.progress (g.N.Nvm.device c.loop-now.nvm) c.loop-now.now led.turns c.harts-harts.result c.next-pick.new.self c.next-pick.result
+      drawn_on g.M.Computer.kind c.args.plan.now h.0 c.pass_row-taken.new.progress
+          (g.N.Nvm.device c.loop-now.nvm) c.loop-now.now led.turns c.harts-harts.result c.next-pick.new.self c.next-pick.result
           c.harts-harts.ensures.harts c.next-pick.ensures.pick c.next-pick.ensures.after led.goes,
     )
 
 pub see-requires : goal.see-requires
 see-requires g c =
     let h = c.requires.watched in
-    let led = IsLed-rowless g.M.Computer.kind g.O.Observer.has_seen c.args.plan.now h.0 c.args.progress.now c.loop-now.progress c.pass_row-taken.new.progress (g.N.Nvm.device c.loop-now.nvm)
-    c.args.done c.loop-now.now c.pass_row-taken.result c.loop-now.observer c.pass_row-taken.new.observer c.if-taken-gt0.false c.pass_row-taken.ensures.leads (c.loop-now.invariant.led h.0 h.1 h.2 h.3) in
-    CanSee-watched g.M.Computer.kind g.O.Observer.has_seen c.args.plan.now h.0 c.pass_row-taken.new.progress (g.N.Nvm.device c.loop-now.nvm) c.loop-now.now led.turns c.pass_row-taken.new.observer led.watched
+    let led = IsLed-rowless g.M.Computer.kind g.O.Observer.has_seen c.args.plan.now h.0 c.args.progress.now c.loop-now.progress
+    c.pass_row-taken.new.progress (g.N.Nvm.device c.loop-now.nvm)
+    c.args.done c.loop-now.now c.pass_row-taken.result c.loop-now.observer c.pass_row-taken.new.observer c.if-taken-gt0.false
+    c.pass_row-taken.ensures.leads (c.loop-now.invariant.led h.0 h.1 h.2 h.3) in
+    CanSee-watched g.M.Computer.kind g.O.Observer.has_seen c.args.plan.now h.0 c.pass_row-taken.new.progress
+    (g.N.Nvm.device c.loop-now.nvm) c.loop-now.now led.turns c.pass_row-taken.new.observer led.watched
 
 -- no cut fell since the loop began
 pub stays_quiet-requires : goal.stays_quiet-requires
@@ -59,9 +66,12 @@ stays_quiet-requires g c =
     let h = c.requires.watched in
     let plan = c.args.plan.now in
     let p = c.pass_row-taken.new.progress in
-    let led = IsLed-rowless g.M.Computer.kind g.O.Observer.has_seen c.args.plan.now h.0 c.args.progress.now c.loop-now.progress c.pass_row-taken.new.progress (g.N.Nvm.device c.loop-now.nvm)
-    c.args.done c.loop-now.now c.pass_row-taken.result c.loop-now.observer c.pass_row-taken.new.observer c.if-taken-gt0.false c.pass_row-taken.ensures.leads (c.loop-now.invariant.led h.0 h.1 h.2 h.3) in
-    let d = drawn_on g.M.Computer.kind plan h.0 p (g.N.Nvm.device c.loop-now.nvm) c.loop-now.now led.turns c.harts-harts.result c.next-pick.new.self c.next-pick.result
+    let led = IsLed-rowless g.M.Computer.kind g.O.Observer.has_seen c.args.plan.now h.0 c.args.progress.now c.loop-now.progress
+    c.pass_row-taken.new.progress (g.N.Nvm.device c.loop-now.nvm)
+    c.args.done c.loop-now.now c.pass_row-taken.result c.loop-now.observer c.pass_row-taken.new.observer c.if-taken-gt0.false
+    c.pass_row-taken.ensures.leads (c.loop-now.invariant.led h.0 h.1 h.2 h.3) in
+    let d = drawn_on g.M.Computer.kind plan h.0 p
+    (g.N.Nvm.device c.loop-now.nvm) c.loop-now.now led.turns c.harts-harts.result c.next-pick.new.self c.next-pick.result
     c.harts-harts.ensures.harts c.next-pick.ensures.pick c.next-pick.ensures.after led.goes in
     let same = (c.in-Advanced.ensures.advances h.0 led.turns d).same in
     AreQuietBelow-on plan.config.cuts c.args.progress.now c.advance.new.progress c.quiet_below-below.result
@@ -75,8 +85,10 @@ returns-then-not-stays_quiet g c = λ fitted turns goes w.
     let plan = c.args.plan.now in
     let p = c.pass_row-taken.new.progress in
     let n = g.N.Nvm.device c.loop-now.nvm in
-    let led = IsLed-rowless g.M.Computer.kind g.O.Observer.has_seen c.args.plan.now fitted c.args.progress.now c.loop-now.progress c.pass_row-taken.new.progress (g.N.Nvm.device c.loop-now.nvm)
-    c.args.done c.loop-now.now c.pass_row-taken.result c.loop-now.observer c.pass_row-taken.new.observer c.if-taken-gt0.false c.pass_row-taken.ensures.leads (c.loop-now.invariant.led fitted turns goes w) in
+    let led = IsLed-rowless g.M.Computer.kind g.O.Observer.has_seen c.args.plan.now fitted c.args.progress.now c.loop-now.progress
+    c.pass_row-taken.new.progress (g.N.Nvm.device c.loop-now.nvm)
+    c.args.done c.loop-now.now c.pass_row-taken.result c.loop-now.observer c.pass_row-taken.new.observer c.if-taken-gt0.false
+    c.pass_row-taken.ensures.leads (c.loop-now.invariant.led fitted turns goes w) in
     let limit : c.numbers-limit.result.limit ≡ plan.geometry.limit = ap (λ p. p.limit) c.numbers-limit.ensures.same in
     let q : Progress g.row.M.Denot = record p { mix = c.next-pick.new.self } in
     let next = c.advance.new.progress in
@@ -108,8 +120,10 @@ pass_other-requires-clause-drawn g c =
     let p = c.pass_row-taken.new.progress in
     let n = g.N.Nvm.device c.loop-now.nvm in
     let h = c.requires.watched in
-    let led = IsLed-rowless g.M.Computer.kind g.O.Observer.has_seen c.args.plan.now h.0 c.args.progress.now c.loop-now.progress c.pass_row-taken.new.progress (g.N.Nvm.device c.loop-now.nvm)
-    c.args.done c.loop-now.now c.pass_row-taken.result c.loop-now.observer c.pass_row-taken.new.observer c.if-taken-gt0.false c.pass_row-taken.ensures.leads (c.loop-now.invariant.led h.0 h.1 h.2 h.3) in
+    let led = IsLed-rowless g.M.Computer.kind g.O.Observer.has_seen c.args.plan.now h.0 c.args.progress.now c.loop-now.progress
+    c.pass_row-taken.new.progress (g.N.Nvm.device c.loop-now.nvm)
+    c.args.done c.loop-now.now c.pass_row-taken.result c.loop-now.observer c.pass_row-taken.new.observer c.if-taken-gt0.false
+    c.pass_row-taken.ensures.leads (c.loop-now.invariant.led h.0 h.1 h.2 h.3) in
     let q : Progress g.row.M.Denot = record p { mix = c.next-pick.new.self } in
     let next = c.advance.new.progress in
     let m = g.N.Nvm.device c.advance.new.nvm in
@@ -129,8 +143,10 @@ pass_other-requires-clause-others g c =
     let p = c.pass_row-taken.new.progress in
     let n = g.N.Nvm.device c.loop-now.nvm in
     let h = c.requires.watched in
-    let led = IsLed-rowless g.M.Computer.kind g.O.Observer.has_seen c.args.plan.now h.0 c.args.progress.now c.loop-now.progress c.pass_row-taken.new.progress (g.N.Nvm.device c.loop-now.nvm)
-    c.args.done c.loop-now.now c.pass_row-taken.result c.loop-now.observer c.pass_row-taken.new.observer c.if-taken-gt0.false c.pass_row-taken.ensures.leads (c.loop-now.invariant.led h.0 h.1 h.2 h.3) in
+    let led = IsLed-rowless g.M.Computer.kind g.O.Observer.has_seen c.args.plan.now h.0 c.args.progress.now c.loop-now.progress
+    c.pass_row-taken.new.progress (g.N.Nvm.device c.loop-now.nvm)
+    c.args.done c.loop-now.now c.pass_row-taken.result c.loop-now.observer c.pass_row-taken.new.observer c.if-taken-gt0.false
+    c.pass_row-taken.ensures.leads (c.loop-now.invariant.led h.0 h.1 h.2 h.3) in
     let q : Progress g.row.M.Denot = record p { mix = c.next-pick.new.self } in
     let next = c.advance.new.progress in
     let m = g.N.Nvm.device c.advance.new.nvm in
@@ -143,9 +159,12 @@ pass_other-requires-clause-others g c =
 pub pass_other-requires-clause-unseen : goal.pass_other-requires-clause-unseen
 pass_other-requires-clause-unseen g c =
     let h = c.requires.watched in
-    let led = IsLed-rowless g.M.Computer.kind g.O.Observer.has_seen c.args.plan.now h.0 c.args.progress.now c.loop-now.progress c.pass_row-taken.new.progress (g.N.Nvm.device c.loop-now.nvm)
-    c.args.done c.loop-now.now c.pass_row-taken.result c.loop-now.observer c.pass_row-taken.new.observer c.if-taken-gt0.false c.pass_row-taken.ensures.leads (c.loop-now.invariant.led h.0 h.1 h.2 h.3) in
-    CanSee-watched g.M.Computer.kind g.O.Observer.has_seen c.args.plan.now h.0 c.pass_row-taken.new.progress (g.N.Nvm.device c.loop-now.nvm) c.loop-now.now led.turns c.pass_row-taken.new.observer led.watched
+    let led = IsLed-rowless g.M.Computer.kind g.O.Observer.has_seen c.args.plan.now h.0 c.args.progress.now c.loop-now.progress
+    c.pass_row-taken.new.progress (g.N.Nvm.device c.loop-now.nvm)
+    c.args.done c.loop-now.now c.pass_row-taken.result c.loop-now.observer c.pass_row-taken.new.observer c.if-taken-gt0.false
+    c.pass_row-taken.ensures.leads (c.loop-now.invariant.led h.0 h.1 h.2 h.3) in
+    CanSee-watched g.M.Computer.kind g.O.Observer.has_seen c.args.plan.now h.0 c.pass_row-taken.new.progress
+    (g.N.Nvm.device c.loop-now.nvm) c.loop-now.now led.turns c.pass_row-taken.new.observer led.watched
 
 pub pass_other-requires-clause-few : goal.pass_other-requires-clause-few
 pass_other-requires-clause-few g c =
@@ -161,8 +180,10 @@ returns-in-Some g c = λ fitted turns goes w.
     let p = c.pass_row-taken.new.progress in
     let n = g.N.Nvm.device c.loop-now.nvm in
     let o = c.pass_row-taken.new.observer in
-    let led = IsLed-rowless g.M.Computer.kind g.O.Observer.has_seen c.args.plan.now fitted c.args.progress.now c.loop-now.progress c.pass_row-taken.new.progress (g.N.Nvm.device c.loop-now.nvm)
-    c.args.done c.loop-now.now c.pass_row-taken.result c.loop-now.observer c.pass_row-taken.new.observer c.if-taken-gt0.false c.pass_row-taken.ensures.leads (c.loop-now.invariant.led fitted turns goes w) in
+    let led = IsLed-rowless g.M.Computer.kind g.O.Observer.has_seen c.args.plan.now fitted c.args.progress.now c.loop-now.progress
+    c.pass_row-taken.new.progress (g.N.Nvm.device c.loop-now.nvm)
+    c.args.done c.loop-now.now c.pass_row-taken.result c.loop-now.observer c.pass_row-taken.new.observer c.if-taken-gt0.false
+    c.pass_row-taken.ensures.leads (c.loop-now.invariant.led fitted turns goes w) in
     let q : Progress g.row.M.Denot = record p { mix = c.next-pick.new.self } in
     let left_to = c.advance.new.progress in
     let left_m = g.N.Nvm.device c.advance.new.nvm in
@@ -195,8 +216,10 @@ returns-in-Failed g c = λ fitted turns goes w.
     let plan = c.args.plan.now in
     let p = c.pass_row-taken.new.progress in
     let n = g.N.Nvm.device c.loop-now.nvm in
-    let led = IsLed-rowless g.M.Computer.kind g.O.Observer.has_seen c.args.plan.now fitted c.args.progress.now c.loop-now.progress c.pass_row-taken.new.progress (g.N.Nvm.device c.loop-now.nvm)
-    c.args.done c.loop-now.now c.pass_row-taken.result c.loop-now.observer c.pass_row-taken.new.observer c.if-taken-gt0.false c.pass_row-taken.ensures.leads (c.loop-now.invariant.led fitted turns goes w) in
+    let led = IsLed-rowless g.M.Computer.kind g.O.Observer.has_seen c.args.plan.now fitted c.args.progress.now c.loop-now.progress
+    c.pass_row-taken.new.progress (g.N.Nvm.device c.loop-now.nvm)
+    c.args.done c.loop-now.now c.pass_row-taken.result c.loop-now.observer c.pass_row-taken.new.observer c.if-taken-gt0.false
+    c.pass_row-taken.ensures.leads (c.loop-now.invariant.led fitted turns goes w) in
     let limit : c.numbers-limit.result.limit ≡ plan.geometry.limit = ap (λ p. p.limit) c.numbers-limit.ensures.same in
     let d = drawn_on g.M.Computer.kind plan fitted p n c.loop-now.now led.turns c.harts-harts.result c.next-pick.new.self c.next-pick.result
     c.harts-harts.ensures.harts c.next-pick.ensures.pick c.next-pick.ensures.after led.goes in
@@ -215,8 +238,10 @@ returns g c = λ fitted turns goes w.
       progress = c.loop-now.progress;
       device = g.N.Nvm.device c.loop-now.nvm;
       led =
-          let end : c.loop-now.now ≡ c.numbers-limit.result.limit = omega (arith, c.loop-now-test.false, c.loop-now.invariant.few, limit, c.requires.few) in
-          subst (λ (k : ℕ). IsLed g.M.Computer.kind g.O.Observer.has_seen c.args.plan.now fitted c.args.progress.now c.loop-now.progress (g.N.Nvm.device c.loop-now.nvm) c.args.done k c.loop-now.observer) end
+          let end : c.loop-now.now ≡ c.numbers-limit.result.limit =
+          omega (arith, c.loop-now-test.false, c.loop-now.invariant.few, limit, c.requires.few) in
+          subst (λ (k : ℕ). IsLed g.M.Computer.kind g.O.Observer.has_seen c.args.plan.now fitted c.args.progress.now c.loop-now.progress
+          (g.N.Nvm.device c.loop-now.nvm) c.args.done k c.loop-now.observer) end
           (c.loop-now.invariant.led fitted turns goes w);
       stops = (limit, refl, refl);
     }
@@ -233,8 +258,10 @@ loop-now-preserved g c = record {
       let n = g.N.Nvm.device c.loop-now.nvm in
       let k = c.loop-now.now in
       let o = c.pass_row-taken.new.observer in
-      let led = IsLed-rowless g.M.Computer.kind g.O.Observer.has_seen c.args.plan.now fitted c.args.progress.now c.loop-now.progress c.pass_row-taken.new.progress (g.N.Nvm.device c.loop-now.nvm)
-      c.args.done c.loop-now.now c.pass_row-taken.result c.loop-now.observer c.pass_row-taken.new.observer c.if-taken-gt0.false c.pass_row-taken.ensures.leads (c.loop-now.invariant.led fitted turns goes w) in
+      let led = IsLed-rowless g.M.Computer.kind g.O.Observer.has_seen c.args.plan.now fitted c.args.progress.now c.loop-now.progress
+      c.pass_row-taken.new.progress (g.N.Nvm.device c.loop-now.nvm)
+      c.args.done c.loop-now.now c.pass_row-taken.result c.loop-now.observer c.pass_row-taken.new.observer c.if-taken-gt0.false
+      c.pass_row-taken.ensures.leads (c.loop-now.invariant.led fitted turns goes w) in
       let q : Progress g.row.M.Denot = record p { mix = c.next-pick.new.self } in
       let q' = c.advance.new.progress in
       let m' = g.N.Nvm.device c.advance.new.nvm in
@@ -248,7 +275,8 @@ loop-now-preserved g c = record {
             let a = v.in-Advanced.advance in
             let came = v.in-Advanced.ensures.advances in
             let h : Now q' c.advance.new.nvm v.see.new.self =
-            IsLed-advanced K laws S plan fitted c.args.progress.now p q' n m' c.args.done k a v.stepped-in-Advanced.result o v.see.new.self c.requires.planned led (came fitted led.turns d)
+            IsLed-advanced K laws S plan fitted c.args.progress.now p q' n m' c.args.done k a v.stepped-in-Advanced.result o v.see.new.self
+            c.requires.planned led (came fitted led.turns d)
             ((v.stays_quiet.ensures a).0 v.if-not-stays_quiet.false) v.stepped-in-Advanced.ensures v.see.ensures in
             subst (λ y. Now y x.nvm x.observer) (sym v.progress-is)
             (subst (λ y. Now q' y x.observer) (sym v.nvm-is)
@@ -259,9 +287,11 @@ loop-now-preserved g c = record {
             let o' = v.pass_other.new.observer in
             let left = v.in-Left.ensures.advances fitted led.turns d in
             let passed = subst (λ (y : Device). PassesTo K S plan q next y m k c.next-pick.result o o' v.pass_other.result) left.1
-            (subst (λ (y : Progress g.row.M.Denot). PassesTo K S plan y next m' m k c.next-pick.result o o' v.pass_other.result) left.0 v.pass_other.ensures) fitted led.turns d in
+            (subst (λ (y : Progress g.row.M.Denot). PassesTo K S plan y next m' m k c.next-pick.result o o' v.pass_other.result) left.0
+            v.pass_other.ensures) fitted led.turns d in
             let quiet = subst (λ y. PassedTo K S plan p next n m k led.turns o o' y) v.in_default.is passed in
-            let h : Now next v.pass_other.new.nvm o' = IsLed-passed K laws S plan fitted c.args.progress.now p next n m c.args.done k o o' c.requires.planned led quiet in
+            let h : Now next v.pass_other.new.nvm o' =
+            IsLed-passed K laws S plan fitted c.args.progress.now p next n m c.args.done k o o' c.requires.planned led quiet in
             subst (λ y. Now y x.nvm x.observer) (sym v.progress-is)
             (subst (λ y. Now next y x.observer) (sym v.nvm-is)
             (subst (λ y. Now next v.pass_other.new.nvm y) (sym v.observer-is) h))
@@ -275,7 +305,9 @@ loop-now-preserved g c = record {
 pub loop-now-preserved-then-taken-gt0 : goal.loop-now-preserved-then-taken-gt0
 loop-now-preserved-then-taken-gt0 g c = record {
   led = λ fitted turns goes w.
-      IsLed-row g.M.Computer.kind g.O.Observer.has_seen c.args.plan.now fitted c.args.progress.now c.loop-now.progress c.pass_row-taken.new.progress (g.N.Nvm.device c.loop-now.nvm)
-      c.args.done c.loop-now.now c.pass_row-taken.result c.loop-now.observer c.pass_row-taken.new.observer (c.loop-now.invariant.led fitted turns goes w) c.pass_row-taken.ensures.leads;
+      IsLed-row g.M.Computer.kind g.O.Observer.has_seen c.args.plan.now fitted c.args.progress.now c.loop-now.progress
+      c.pass_row-taken.new.progress (g.N.Nvm.device c.loop-now.nvm)
+      c.args.done c.loop-now.now c.pass_row-taken.result c.loop-now.observer c.pass_row-taken.new.observer
+      (c.loop-now.invariant.led fitted turns goes w) c.pass_row-taken.ensures.leads;
   few = c.pass_row-taken.ensures.few;
 }

@@ -13,7 +13,8 @@ invariant-loop-now g l =
     let p = l.fn.progress in
     let n = g.N.Nvm.device l.fn.nvm in
     record {
-      led : (fitted : Device) (turns : List ℕ) → GoesOn K l.plan fitted p n l.done turns → Watched K S l.plan fitted p n l.done turns l.fn.observer
+      led : (fitted : Device) (turns : List ℕ) → GoesOn K l.plan fitted p n l.done turns
+          → Watched K S l.plan fitted p n l.done turns l.fn.observer
           → IsLed K S l.plan fitted p l.progress (g.N.Nvm.device l.nvm) l.done l.now l.observer;
       few : l.now ≤ l.plan.geometry.limit;
     }

@@ -9,15 +9,19 @@ step_next-requires-clause-goes g c = let h = c.requires.running in (h.0, h.1, h.
 -- the step failed
 pub returns-in_default : goal.returns-in_default
 returns-in_default g c = λ fitted turns t r running.
-    RunEnds-stuck g.M.Computer.kind g.met.M.Computer.lawful c.args.plan.now fitted c.args.progress.now c.step_next.new.progress (g.N.Nvm.device c.args.nvm.now)
-    (g.N.Nvm.device c.step_next.new.nvm) c.args.done turns t (g.T.Sink.stream c.args.terminal.now) r (g.R.Sink.stream c.args.report.now) c.requires.planned running
+    RunEnds-stuck g.M.Computer.kind g.met.M.Computer.lawful c.args.plan.now fitted c.args.progress.now c.step_next.new.progress
+    (g.N.Nvm.device c.args.nvm.now)
+    (g.N.Nvm.device c.step_next.new.nvm) c.args.done turns t (g.T.Sink.stream c.args.terminal.now) r
+    (g.R.Sink.stream c.args.report.now) c.requires.planned running
     c.requires.few (c.in_default.ensures fitted turns running.goes)
 
 -- the cycle has nothing to report
 pub returns-then-is_quiet : goal.returns-then-is_quiet
 returns-then-is_quiet g c = λ fitted turns t r running.
-    Running-quiet g.M.Computer.kind g.met.M.Computer.lawful c.args.plan.now fitted c.args.progress.now c.step_next.new.progress (g.N.Nvm.device c.args.nvm.now)
-    (g.N.Nvm.device c.step_next.new.nvm) c.args.done turns t (g.T.Sink.stream c.args.terminal.now) r (g.R.Sink.stream c.args.report.now) c.requires.planned running
+    Running-quiet g.M.Computer.kind g.met.M.Computer.lawful c.args.plan.now fitted c.args.progress.now c.step_next.new.progress
+    (g.N.Nvm.device c.args.nvm.now)
+    (g.N.Nvm.device c.step_next.new.nvm) c.args.done turns t (g.T.Sink.stream c.args.terminal.now) r
+    (g.R.Sink.stream c.args.report.now) c.requires.planned running
     c.in-Some.stepped (c.in-Some.ensures fitted turns running.goes) (c.is_quiet.ensures.0 c.if-is_quiet.true)
 
 -- it has

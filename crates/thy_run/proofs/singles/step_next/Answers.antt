@@ -15,7 +15,8 @@ advance-requires-clause-drawn g c =
     let h = c.requires.goes in (
       h.0,
       h.1,
-      drawn_on g.M.Computer.kind c.args.plan.now h.0 c.args.progress.now (g.N.Nvm.device c.args.nvm.now) c.args.done h.1 c.harts.result c.next-pick.new.self c.next-pick.result
+      drawn_on g.M.Computer.kind c.args.plan.now h.0 c.args.progress.now
+          (g.N.Nvm.device c.args.nvm.now) c.args.done h.1 c.harts.result c.next-pick.new.self c.next-pick.result
           c.harts.ensures.harts c.next-pick.ensures.pick c.next-pick.ensures.after h.2,
     )
 
@@ -28,13 +29,15 @@ returns-in-Advanced g c = λ fitted turns goes.
     let n = g.N.Nvm.device c.args.nvm.now in
     let d = drawn_on K plan fitted p n c.args.done turns c.harts.result c.next-pick.new.self c.next-pick.result
     c.harts.ensures.harts c.next-pick.ensures.pick c.next-pick.ensures.after goes in
-    subst (λ (r : Stepped). IsStepped K plan p c.advance.new.progress n (g.N.Nvm.device c.advance.new.nvm) c.args.done turns r) (sym c.stepped.ensures)
+    subst (λ (r : Stepped). IsStepped K plan p c.advance.new.progress n (g.N.Nvm.device c.advance.new.nvm) c.args.done turns r)
+    (sym c.stepped.ensures)
     (c.in-Advanced.ensures.advances fitted turns d)
 
 -- its step failed
 pub returns-in-Failed : goal.returns-in-Failed
 returns-in-Failed g c = λ fitted turns goes.
-    let d = drawn_on g.M.Computer.kind c.args.plan.now fitted c.args.progress.now (g.N.Nvm.device c.args.nvm.now) c.args.done turns c.harts.result c.next-pick.new.self c.next-pick.result
+    let d = drawn_on g.M.Computer.kind c.args.plan.now fitted c.args.progress.now
+    (g.N.Nvm.device c.args.nvm.now) c.args.done turns c.harts.result c.next-pick.new.self c.next-pick.result
     c.harts.ensures.harts c.next-pick.ensures.pick c.next-pick.ensures.after goes in
     c.in-Failed.ensures.advances fitted turns d
 
@@ -86,7 +89,8 @@ returns-in-Ok g c = λ fitted turns goes.
     c.harts.ensures.harts c.next-pick.ensures.pick c.next-pick.ensures.after goes in
     let left = c.in-Left.ensures.advances fitted turns d in
     subst (λ (x : Device). StepsOn K plan q next x m c.args.done c.next-pick.result (Ok c.in-Ok.stepped)) left.1
-    (subst (λ (x : Progress g.row.M.Denot). StepsOn K plan x next left_m m c.args.done c.next-pick.result (Ok c.in-Ok.stepped)) left.0 c.in-Ok.ensures) fitted turns d
+    (subst (λ (x : Progress g.row.M.Denot). StepsOn K plan x next left_m m c.args.done c.next-pick.result (Ok c.in-Ok.stepped)) left.0
+    c.in-Ok.ensures) fitted turns d
 
 pub returns-in-Err : goal.returns-in-Err
 returns-in-Err g c = λ fitted turns goes.
@@ -102,4 +106,5 @@ returns-in-Err g c = λ fitted turns goes.
     c.harts.ensures.harts c.next-pick.ensures.pick c.next-pick.ensures.after goes in
     let left = c.in-Left.ensures.advances fitted turns d in
     subst (λ (x : Device). StepsOn K plan q next x m c.args.done c.next-pick.result (Err c.in-Err.field-0)) left.1
-    (subst (λ (x : Progress g.row.M.Denot). StepsOn K plan x next left_m m c.args.done c.next-pick.result (Err c.in-Err.field-0)) left.0 c.in-Err.ensures) fitted turns d
+    (subst (λ (x : Progress g.row.M.Denot). StepsOn K plan x next left_m m c.args.done c.next-pick.result (Err c.in-Err.field-0)) left.0
+    c.in-Err.ensures) fitted turns d
