@@ -24,21 +24,21 @@ line_at-rewritten ways w v o line e = elim (cases_eq v w) as (λ _. ((v ≡ w) �
   | inr other ↦ inr (other, sym (get_or-set_other ways.lines w v o None other) ∙ e)
 ]
 
--- what a look-up of a line's block finds is that line
-pub found_is : (n : ℕ) (blocks : List Block) (s : ℕ) (ways : Ways) (w : ℕ) (line : Line) (o : Option Line) → SetAgrees n blocks s ways → line_at ways w ≡ Some line
-    → line_in ways line.at ≡ o → o ≡ Some line
-found_is n blocks s ways w line None agrees h e = absurd (none_held ways line.at w line e h refl)
-found_is n blocks s ways w line (Some m) agrees h e =
-    let found = line_in-found ways line.at m e in
-    let same : found.0 ≡ w = agrees.single found.0 w m line found.1 h found.2 in
-    sym found.1 ∙ ap (line_at ways) same ∙ h
+module _ (n : ℕ) (blocks : List Block) (s : ℕ) (ways : Ways) (w : ℕ) (line : Line) where
+  -- what a look-up of a line's block finds is that line
+  pub found_is : (o : Option Line) → SetAgrees n blocks s ways → line_at ways w ≡ Some line → line_in ways line.at ≡ o → o ≡ Some line
+  found_is None agrees h e = absurd (none_held ways line.at w line e h refl)
+  found_is (Some m) agrees h e =
+      let found = line_in-found ways line.at m e in
+      let same : found.0 ≡ w = agrees.single found.0 w m line found.1 h found.2 in
+      sym found.1 ∙ ap (line_at ways) same ∙ h
 
-pub line_in-single : (n : ℕ) (blocks : List Block) (s : ℕ) (ways : Ways) (w : ℕ) (line : Line) → SetAgrees n blocks s ways → line_at ways w ≡ Some line
-    → line_in ways line.at ≡ Some line
-line_in-single n blocks s ways w line agrees h = found_is n blocks s ways w line (line_in ways line.at) agrees h refl
+  pub line_in-single : SetAgrees n blocks s ways → line_at ways w ≡ Some line → line_in ways line.at ≡ Some line
+  line_in-single agrees h = found_is (line_in ways line.at) agrees h refl
 
 -- a set agrees if one with the same lines does
-pub SetAgrees-same : (n : ℕ) (blocks : List Block) (s : ℕ) (old new : Ways) → new.lines ≡ old.lines → SetAgrees n blocks s old → SetAgrees n blocks s new
+pub SetAgrees-same : (n : ℕ) (blocks : List Block) (s : ℕ) (old new : Ways) → new.lines ≡ old.lines → SetAgrees n blocks s old
+    → SetAgrees n blocks s new
 SetAgrees-same n blocks s old new e agrees =
     let at : (w : ℕ) (line : Line) → line_at new w ≡ Some line → line_at old w ≡ Some line = λ w line f. sym (ap (λ ls. get_or ls w None) e) ∙ f in
     record {
@@ -54,14 +54,16 @@ pub some_is : {Y : Type 0} (x y : Y) → Some x ≡ Some y → x ≡ y
 some_is x y e = cc
 
 -- a line that was the store's block still is where its block was not stored, or is what was stored
-pub stored_clean : (blocks : List Block) (at : ℕ) (block : Block) (line : Line) → line.at < length blocks → line.block ≡ block_at blocks line.at
+pub stored_clean : (blocks : List Block) (at : ℕ) (block : Block) (line : Line) → line.at < length blocks
+    → line.block ≡ block_at blocks line.at
     → (line.at ≡ at → line.block ≡ block) → line.block ≡ block_at (slice_set blocks at block) line.at
-stored_clean blocks at block line inside old stored = elim (cases_eq line.at at) as (λ _. line.block ≡ block_at (slice_set blocks at block) line.at) [
-  | inl same ↦
-      let here : at < length blocks = omega (arith, same, inside) in
-      stored same ∙ sym (get_or-set_same blocks at block zero_block here) ∙ ap (block_at (slice_set blocks at block)) (sym same)
-  | inr other ↦ old ∙ sym (get_or-set_other blocks at line.at block zero_block other)
-]
+stored_clean blocks at block line inside old stored =
+    elim (cases_eq line.at at) as (λ _. line.block ≡ block_at (slice_set blocks at block) line.at) [
+      | inl same ↦
+          let here : at < length blocks = omega (arith, same, inside) in
+          stored same ∙ sym (get_or-set_same blocks at block zero_block here) ∙ ap (block_at (slice_set blocks at block)) (sym same)
+      | inr other ↦ old ∙ sym (get_or-set_other blocks at line.at block zero_block other)
+    ]
 
 -- what was there before a change
 pub map-Some : {X Y : Type 0} (f : X → Y) (o : Option X) (y : Y) → option_map f o ≡ Some y → (x : X) × (o ≡ Some x) × (f x ≡ y)
@@ -71,7 +73,8 @@ map-Some f (Some x) y e = (x, refl, some_is (f x) y e)
 pub before : (f : Line → Line) (w : ℕ) (ways : Ways) (v : ℕ) (line : Line) → line_at (over_line f w ways) v ≡ Some line
     → (old : Line) × (line_at ways v ≡ Some old) × ((line ≡ old) ⊎ ((v ≡ w) × (f old ≡ line)))
 before f w ways v line e =
-    elim (line_at-rewritten ways w v (option_map f (line_at ways w)) line e) as (λ _. (old : Line) × (line_at ways v ≡ Some old) × ((line ≡ old) ⊎ ((v ≡ w) × (f old ≡ line)))) [
+    elim (line_at-rewritten ways w v (option_map f (line_at ways w)) line e)
+    as (λ _. (old : Line) × (line_at ways v ≡ Some old) × ((line ≡ old) ⊎ ((v ≡ w) × (f old ≡ line)))) [
       | inl here ↦ let was = map-Some f (line_at ways w) line here.1 in (was.0, ap (line_at ways) here.0 ∙ was.1, inr (here.0, was.2))
       | inr there ↦ (line, there.1, inl refl)
     ]
@@ -81,36 +84,35 @@ pub before-at : (f : Line → Line) → KeepsBlock f → (line old : Line) (v w 
 before-at f keeps line old v w (inl same) = ap (λ (l : Line). l.at) same
 before-at f keeps line old v w (inr here) = sym (ap (λ (l : Line). l.at) here.1) ∙ keeps old
 
--- a line of a set that agrees, as its own part
-pub clean-before : (n : ℕ) (blocks : List Block) (s : ℕ) (f : Line → Line) (w : ℕ) (ways : Ways) → KeepsBlock f
-    → ((line : Line) → line_at ways w ≡ Some line → (f line).dirty ≡ false → (f line).block ≡ block_at blocks line.at)
-    → SetAgrees n blocks s ways
-    → (v : ℕ) (line old : Line) → line_at ways v ≡ Some old → (line ≡ old) ⊎ ((v ≡ w) × (f old ≡ line)) → line.dirty ≡ false → line.block ≡ block_at blocks line.at
-clean-before n blocks s f w ways keeps becomes agrees v line old e (inl same) = λ pure. rw same ((agrees.lines v old e).clean (sym (ap (λ (l : Line). l.dirty) same) ∙ pure))
-clean-before n blocks s f w ways keeps becomes agrees v line old e (inr here) = λ pure.
-    let at_w : line_at ways w ≡ Some old = ap (line_at ways) (sym here.0) ∙ e in
-    let pure_too : (f old).dirty ≡ false = ap (λ (l : Line). l.dirty) here.1 ∙ pure in
-    sym (ap (λ (l : Line). l.block) here.1) ∙ becomes old at_w pure_too ∙ ap (block_at blocks) (sym (before-at f keeps line old v w (inr here)))
+module _ (n : ℕ) (blocks : List Block) (s : ℕ) (f : Line → Line) (w : ℕ) (ways : Ways) (keeps : KeepsBlock f)
+    (becomes : ((line : Line) → line_at ways w ≡ Some line → (f line).dirty ≡ false → (f line).block ≡ block_at blocks line.at))
+    (agrees : SetAgrees n blocks s ways) where
+  -- a line of a set that agrees, as its own part
+  pub clean-before : (v : ℕ) (line old : Line) → line_at ways v ≡ Some old → (line ≡ old) ⊎ ((v ≡ w) × (f old ≡ line))
+      → line.dirty ≡ false → line.block ≡ block_at blocks line.at
+  clean-before v line old e (inl same) = λ pure. rw same ((agrees.lines v old e).clean (sym (ap (λ (l : Line). l.dirty) same) ∙ pure))
+  clean-before v line old e (inr here) = λ pure.
+      let at_w : line_at ways w ≡ Some old = ap (line_at ways) (sym here.0) ∙ e in
+      let pure_too : (f old).dirty ≡ false = ap (λ (l : Line). l.dirty) here.1 ∙ pure in
+      sym (ap (λ (l : Line). l.block) here.1) ∙ becomes old at_w pure_too ∙ ap (block_at blocks) (sym (before-at f keeps line old v w (inr here)))
 
--- a change of the line in a way
-pub SetAgrees-over_line : (n : ℕ) (blocks : List Block) (s : ℕ) (f : Line → Line) (w : ℕ) (ways : Ways) → KeepsBlock f
-    → ((line : Line) → line_at ways w ≡ Some line → (f line).dirty ≡ false → (f line).block ≡ block_at blocks line.at)
-    → SetAgrees n blocks s ways → SetAgrees n blocks s (over_line f w ways)
-SetAgrees-over_line n blocks s f w ways keeps becomes agrees = record {
-  lines = λ v line e.
-      let was = before f w ways v line e in
-      let old = agrees.lines v was.0 was.1 in
-      let same : line.at ≡ was.0.at = before-at f keeps line was.0 v w was.2 in
-      record {
-        inside = omega (arith, same, old.inside);
-        own_set = old.own_set ∙ ap (λ a. a % n) (sym same);
-        clean = clean-before n blocks s f w ways keeps becomes agrees v line was.0 was.1 was.2;
-      };
-  single = λ v u line other e g h.
-      let one = before f w ways v line e in
-      let two = before f w ways u other g in
-      agrees.single v u one.0 two.0 one.1 two.1 (sym (before-at f keeps line one.0 v w one.2) ∙ h ∙ before-at f keeps other two.0 u w two.2);
-}
+  -- a change of the line in a way
+  pub SetAgrees-over_line : SetAgrees n blocks s (over_line f w ways)
+  SetAgrees-over_line = record {
+    lines = λ v line e.
+        let was = before f w ways v line e in
+        let old = agrees.lines v was.0 was.1 in
+        let same : line.at ≡ was.0.at = before-at f keeps line was.0 v w was.2 in
+        record {
+          inside = omega (arith, same, old.inside);
+          own_set = old.own_set ∙ ap (λ a. a % n) (sym same);
+          clean = clean-before v line was.0 was.1 was.2;
+        };
+    single = λ v u line other e g h.
+        let one = before f w ways v line e in
+        let two = before f w ways u other g in
+        agrees.single v u one.0 two.0 one.1 two.1 (sym (before-at f keeps line one.0 v w one.2) ∙ h ∙ before-at f keeps other two.0 u w two.2);
+  }
 
 -- a block was stored: each line of it in the set is what was stored
 pub SetAgrees-stored : (n : ℕ) (blocks : List Block) (t : ℕ) (ways : Ways) (at : ℕ) (block : Block)

@@ -29,28 +29,29 @@ flat-same c d blocks others e each =
     let inside_too : i < length others = omega (arith, inside, e) in
     block_at-flat c blocks i inside ∙ each i inside ∙ sym (block_at-flat d others i inside_too))
 
--- a block of a flat list in which one was put
-pub put_at : (c d : Contents) (blocks : List Block) (b : ℕ) (block : Block) → b < length blocks → flat_at c blocks b ≡ block
-    → ((x : ℕ) → x ≢ b → flat_at c blocks x ≡ flat_at d blocks x)
-    → (i : ℕ) → i < length blocks → flat_at c blocks i ≡ block_at (slice_set (flat d blocks) b block) i
-put_at c d blocks b block inside here others i inside_i = elim (cases_eq i b) as (λ _. flat_at c blocks i ≡ block_at (slice_set (flat d blocks) b block) i) [
-  | inl same ↦
-      let in_flat : b < length (flat d blocks) = omega (arith, inside, length-flat d blocks) in
-      ap (flat_at c blocks) same ∙ here ∙ sym (get_or-set_same (flat d blocks) b block zero_block in_flat) ∙ ap (block_at (slice_set (flat d blocks) b block)) (sym same)
-  | inr other ↦ others i other ∙ sym (block_at-flat d blocks i inside_i) ∙ sym (get_or-set_other (flat d blocks) b i block zero_block other)
-]
+module _ (c d : Contents) (blocks : List Block) (b : ℕ) (block : Block) (inside : b < length blocks) (here : flat_at c blocks b ≡ block)
+    (others : ((x : ℕ) → x ≢ b → flat_at c blocks x ≡ flat_at d blocks x)) where
+  -- a block of a flat list in which one was put
+  pub put_at : (i : ℕ) → i < length blocks → flat_at c blocks i ≡ block_at (slice_set (flat d blocks) b block) i
+  put_at i inside_i = elim (cases_eq i b) as (λ _. flat_at c blocks i ≡ block_at (slice_set (flat d blocks) b block) i) [
+    | inl same ↦
+        let in_flat : b < length (flat d blocks) = omega (arith, inside, length-flat d blocks) in
+        ap (flat_at c blocks) same ∙ here ∙ sym (get_or-set_same (flat d blocks) b block zero_block in_flat)
+        ∙ ap (block_at (slice_set (flat d blocks) b block)) (sym same)
+    | inr other ↦ others i other ∙ sym (block_at-flat d blocks i inside_i) ∙ sym (get_or-set_other (flat d blocks) b i block zero_block other)
+  ]
 
--- two flat lists that read the same but for one block are the same but for that block
-pub flat-put : (c d : Contents) (blocks : List Block) (b : ℕ) (block : Block) → b < length blocks → flat_at c blocks b ≡ block
-    → ((x : ℕ) → x ≢ b → flat_at c blocks x ≡ flat_at d blocks x) → flat c blocks ≡ slice_set (flat d blocks) b block
-flat-put c d blocks b block inside here others =
-    ext_get_or zero_block (flat c blocks) (slice_set (flat d blocks) b block)
-    (length-flat c blocks ∙ sym (length-flat d blocks) ∙ sym (length-set (flat d blocks) b block))
-    (λ i l. let inside_i : i < length blocks = omega (arith, l, length-flat c blocks) in
-    block_at-flat c blocks i inside_i ∙ put_at c d blocks b block inside here others i inside_i)
+  -- two flat lists that read the same but for one block are the same but for that block
+  pub flat-put : flat c blocks ≡ slice_set (flat d blocks) b block
+  flat-put =
+      ext_get_or zero_block (flat c blocks) (slice_set (flat d blocks) b block)
+      (length-flat c blocks ∙ sym (length-flat d blocks) ∙ sym (length-set (flat d blocks) b block))
+      (λ i l. let inside_i : i < length blocks = omega (arith, l, length-flat c blocks) in
+      block_at-flat c blocks i inside_i ∙ put_at i inside_i)
 
 -- the flat list of a cache that holds no block otherwise than the store is the store's list
-pub flat-none : (c : Contents) (blocks : List Block) → ((b : ℕ) → b < length blocks → flat_at c blocks b ≡ block_at blocks b) → flat c blocks ≡ blocks
+pub flat-none : (c : Contents) (blocks : List Block) → ((b : ℕ) → b < length blocks → flat_at c blocks b ≡ block_at blocks b)
+    → flat c blocks ≡ blocks
 flat-none c blocks each =
     ext_get_or zero_block (flat c blocks) blocks (length-flat c blocks)
     (λ i l. let inside : i < length blocks = omega (arith, l, length-flat c blocks) in block_at-flat c blocks i inside ∙ each i inside)
@@ -68,7 +69,8 @@ sets-same c s set = length-set c.sets s set
 
 -- a block's set, where that has changed and where another has
 pub set_of-same : (c : Contents) (s : ℕ) (set : Ways) (x : ℕ) → s < length c.sets → index_of c x ≡ s → set_of (with_set s set c) x ≡ set
-set_of-same c s set x inside e = ap (λ n. set_at (with_set s set c) (x % n)) (sets-same c s set) ∙ ap (set_at (with_set s set c)) e ∙ set_at-same c s set inside
+set_of-same c s set x inside e = ap (λ n. set_at (with_set s set c) (x % n)) (sets-same c s set) ∙ ap (set_at (with_set s set c)) e
+    ∙ set_at-same c s set inside
 
 pub set_of-other : (c : Contents) (s : ℕ) (set : Ways) (x : ℕ) → index_of c x ≢ s → set_of (with_set s set c) x ≡ set_of c x
 set_of-other c s set x other = ap (λ n. set_at (with_set s set c) (x % n)) (sets-same c s set) ∙ set_at-other c s (index_of c x) set other
@@ -83,7 +85,8 @@ line_of-kept g c s set x inside same = elim (cases_eq (index_of c x) s) as (λ _
 
 -- a cache agrees where the changed set does, and the others do with what the store holds now
 pub Agrees-with_set : (c : Contents) (s : ℕ) (set : Ways) (blocks : List Block) → s < length c.sets
-    → SetAgrees (length c.sets) blocks s set → ((t : ℕ) → t ≢ s → SetAgrees (length c.sets) blocks t (set_at c t)) → Agrees (with_set s set c) blocks
+    → SetAgrees (length c.sets) blocks s set → ((t : ℕ) → t ≢ s → SetAgrees (length c.sets) blocks t (set_at c t))
+    → Agrees (with_set s set c) blocks
 Agrees-with_set c s set blocks inside here others = record {
   sets = λ t. rw (sets-same c s set) (elim (cases_eq t s) as (λ _. SetAgrees (length c.sets) blocks t (set_at (with_set s set c) t)) [
     | inl same ↦ rw same (rw (set_at-same c s set inside) here)

@@ -22,7 +22,8 @@ use Rattle.thy_cache.proofs.CountLemmas.{dirt}
 use Rattle.thy_cache.proofs.WriteLaws.{true_is_not_false}
 
 -- if no element is found to pass, each fails
-pub position-None : {X : Type 0} (p : X → Bool) (xs : List X) (k : ℕ) (d : X) → position p xs ≡ None → k < length xs → p (get_or xs k d) ≡ false
+pub position-None : {X : Type 0} (p : X → Bool) (xs : List X) (k : ℕ) (d : X) → position p xs ≡ None → k < length xs
+    → p (get_or xs k d) ≡ false
 position-None p xs k d e inside = elim (cases_Bool (nat_lt (position_or_len p xs) (length xs))) as (λ _. p (get_or xs k d) ≡ false) [
   | inl is_so ↦ let found : Some (position_or_len p xs) ≡ None = sym (ap (λ t. cond t (Some (position_or_len p xs)) None) is_so) ∙ e in
       absurd (none_is_none (position_or_len p xs) (sym found))
@@ -62,7 +63,8 @@ some-dirty c s w e =
     let one : dirt (line_at (set_at c s) w) ≡ 1 = ap (λ t. cond t 1 0) e in
     elim (cases_lt s (length c.sets)) as (λ _. 0 < dirty_count c) [
       | inl inside ↦ elim (cases_lt w (length (set_at c s).lines)) as (λ _. 0 < dirty_count c) [
-        | inl within ↦ omega (arith, one, get_or-le-sum_by dirt (set_at c s).lines w None within, get_or-le-sum_by dirty_lines c.sets s no_ways inside)
+        | inl within ↦
+            omega (arith, one, get_or-le-sum_by dirt (set_at c s).lines w None within, get_or-le-sum_by dirty_lines c.sets s no_ways inside)
         | inr past ↦ absurd (true_is_not_false (sym e ∙ ap is_dirty (get_or_past (set_at c s).lines w None past)))
       ]
       | inr past ↦ absurd (true_is_not_false (sym e ∙ ap (λ set. is_dirty (line_at set w)) (get_or_past c.sets s no_ways past)))
@@ -106,7 +108,8 @@ none-at ways w = elim (cases_lt w ways) as (λ _. line_at (empty_ways ways) w �
 pub empty-line_at : (sets ways s w : ℕ) → line_at (set_at (empty_cache sets ways) s) w ≡ None
 empty-line_at sets ways s w = elim (cases_lt s sets) as (λ _. line_at (set_at (empty_cache sets ways) s) w ≡ None) [
   | inl inside ↦ ap (λ set. line_at set w) (get_or-replicate sets s (empty_ways ways) no_ways inside) ∙ none-at ways w
-  | inr past ↦ ap (λ set. line_at set w) (get_or_past (replicate sets (empty_ways ways)) s no_ways (omega (arith, past, length-replicate sets (empty_ways ways))))
+  | inr past ↦ ap (λ set. line_at set w)
+      (get_or_past (replicate sets (empty_ways ways)) s no_ways (omega (arith, past, length-replicate sets (empty_ways ways))))
 ]
 
 -- a new cache agrees with every store

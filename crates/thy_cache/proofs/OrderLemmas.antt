@@ -33,35 +33,37 @@ came_apart n at i j k l (inr (inr p)) (inl q) e = omega (arith, p.1, q.0, q.1, e
 came_apart n at i j k l (inr (inr p)) (inr (inl q)) e = omega (arith, p.1, q.0, q.1, e)
 came_apart n at i j k l (inr (inr p)) (inr (inr q)) e = omega (arith, p.0, q.0)
 
-abbrev moved : List ℕ → ℕ → ℕ → List ℕ
-moved order at w = remove order at ++ w ∷ []
+module _ (order : List ℕ) (at w : ℕ) where
+  abbrev moved : List ℕ
+  moved = remove order at ++ w ∷ []
 
-came_from : (order : List ℕ) (at w i : ℕ) → at < length order → get_or order at 0 ≡ w → i < length order
-    → (k : ℕ) × (k < length order) × (get_or (moved order at w) i 0 ≡ get_or order k 0) × CameFrom (length order) at i k
-came_from order at w i inside is here =
-    let n : length (remove order at) + 1 ≡ length order = length-remove order at inside in
-    elim (cases_lt i at) as (λ _. (k : ℕ) × (k < length order) × (get_or (moved order at w) i 0 ≡ get_or order k 0) × CameFrom (length order) at i k) [
-      | inl below ↦
-          let left : i < length (remove order at) = omega (arith, n, below, inside) in
-          (i, here, get_or_append_left (remove order at) (w ∷ []) 0 i left ∙ get_or-remove_below order at 0 i below inside, inl (below, refl))
-      | inr above ↦
-          elim (cases_lt (i + 1) (length order)) as (λ _. (k : ℕ) × (k < length order) × (get_or (moved order at w) i 0 ≡ get_or order k 0) × CameFrom (length order) at i k) [
-            | inl more ↦
-                let left : i < length (remove order at) = omega (arith, n, more) in
-                (i + 1, more, get_or_append_left (remove order at) (w ∷ []) 0 i left ∙ get_or-remove_above order at 0 i above inside, inr (inl (above, refl)))
-            | inr end ↦
-                let last : i ≡ length (remove order at) = omega (arith, n, end, here) in
-                (at, inside, ap (λ t. get_or (moved order at w) t 0) last ∙ get_or-append_seam (remove order at) w [] 0 ∙ sym is, inr (inr (omega (arith, end, here), refl)))
-          ]
-    ]
+  came_from : (i : ℕ) → at < length order → get_or order at 0 ≡ w → i < length order
+      → (k : ℕ) × (k < length order) × (get_or moved i 0 ≡ get_or order k 0) × CameFrom (length order) at i k
+  came_from i inside is here =
+      let n : length (remove order at) + 1 ≡ length order = length-remove order at inside in
+      elim (cases_lt i at) as (λ _. (k : ℕ) × (k < length order) × (get_or moved i 0 ≡ get_or order k 0) × CameFrom (length order) at i k) [
+        | inl below ↦
+            let left : i < length (remove order at) = omega (arith, n, below, inside) in
+            (i, here, get_or_append_left (remove order at) (w ∷ []) 0 i left ∙ get_or-remove_below order at 0 i below inside, inl (below, refl))
+        | inr above ↦
+            elim (cases_lt (i + 1) (length order))
+            as (λ _. (k : ℕ) × (k < length order) × (get_or moved i 0 ≡ get_or order k 0) × CameFrom (length order) at i k) [
+              | inl more ↦
+                  let left : i < length (remove order at) = omega (arith, n, more) in
+                  (i + 1, more, get_or_append_left (remove order at) (w ∷ []) 0 i left ∙ get_or-remove_above order at 0 i above inside, inr (inl (above, refl)))
+              | inr end ↦
+                  let last : i ≡ length (remove order at) = omega (arith, n, end, here) in
+                  (at, inside, ap (λ t. get_or moved t 0) last ∙ get_or-append_seam (remove order at) w [] 0 ∙ sym is, inr (inr (omega (arith, end, here), refl)))
+            ]
+      ]
 
--- each way stands in it once after one was moved to the end
-pub StandOnce-moved : (order : List ℕ) (at w : ℕ) → StandOnce order → at < length order → get_or order at 0 ≡ w → StandOnce (remove order at ++ w ∷ [])
-StandOnce-moved order at w once inside is i j here there e =
-    let n : length (moved order at w) ≡ length order = length_push (remove order at) w ∙ length-remove order at inside in
-    let a = came_from order at w i inside is (omega (arith, n, here)) in
-    let b = came_from order at w j inside is (omega (arith, n, there)) in
-    came_apart (length order) at i j a.0 b.0 a.3 b.3 (once a.0 b.0 a.1 b.1 (sym a.2 ∙ e ∙ b.2))
+  -- each way stands in it once after one was moved to the end
+  pub StandOnce-moved : StandOnce order → at < length order → get_or order at 0 ≡ w → StandOnce (remove order at ++ w ∷ [])
+  StandOnce-moved once inside is i j here there e =
+      let n : length moved ≡ length order = length_push (remove order at) w ∙ length-remove order at inside in
+      let a = came_from i inside is (omega (arith, n, here)) in
+      let b = came_from j inside is (omega (arith, n, there)) in
+      came_apart (length order) at i j a.0 b.0 a.3 b.3 (once a.0 b.0 a.1 b.1 (sym a.2 ∙ e ∙ b.2))
 
 pub StandOnce-range : (n : ℕ) → StandOnce (range_with_len 0 n)
 StandOnce-range n i j here there e =
@@ -69,19 +71,19 @@ StandOnce-range n i j here there e =
     let b : j < n = omega (arith, there, length-range_with_len 0 n) in
     omega (arith, e, get_or-range_with_len 0 n i 0 a, get_or-range_with_len 0 n j 0 b)
 
--- the last one stays where it is
-last_by : (order : List ℕ) (w : ℕ) → 0 < length order → StandOnce order → get_or order (length order - 1) 0 ≡ w → (o : Option ℕ) → position (λ v. v == w) order ≡ o
-    → option_map_or (λ at. remove order at ++ w ∷ []) o order ≡ order
-last_by order w some once last None e = refl
-last_by order w some once last (Some at) e =
-    let there = found_way order w at e in
-    let same : at ≡ length order - 1 = once at (length order - 1) there.0 (omega (arith, some)) (there.1 ∙ sym last) in
-    let end : length order ≤ suc at = omega (arith, same, some) in
-    ap (λ t. (take at order ++ t) ++ w ∷ []) (drop_of_length-le order end)
-    ∙ ap (λ t. t ++ w ∷ []) (append-nil (take at order))
-    ∙ ap (λ x. take at order ++ x ∷ []) (sym there.1)
-    ∙ sym (take-suc order at 0 there.0)
-    ∙ take_all (suc at) order end
+module _ (order : List ℕ) (w : ℕ) (some : 0 < length order) (once : StandOnce order) (last : get_or order (length order - 1) 0 ≡ w) where
+  -- the last one stays where it is
+  last_by : (o : Option ℕ) → position (λ v. v == w) order ≡ o → option_map_or (λ at. remove order at ++ w ∷ []) o order ≡ order
+  last_by None e = refl
+  last_by (Some at) e =
+      let there = found_way order w at e in
+      let same : at ≡ length order - 1 = once at (length order - 1) there.0 (omega (arith, some)) (there.1 ∙ sym last) in
+      let end : length order ≤ suc at = omega (arith, same, some) in
+      ap (λ t. (take at order ++ t) ++ w ∷ []) (drop_of_length-le order end)
+      ∙ ap (λ t. t ++ w ∷ []) (append-nil (take at order))
+      ∙ ap (λ x. take at order ++ x ∷ []) (sym there.1)
+      ∙ sym (take-suc order at 0 there.0)
+      ∙ take_all (suc at) order end
 
-pub moved_last-last : (order : List ℕ) (w : ℕ) → 0 < length order → StandOnce order → get_or order (length order - 1) 0 ≡ w → moved_last w order ≡ order
-moved_last-last order w some once last = last_by order w some once last (position (λ v. v == w) order) refl
+  pub moved_last-last : moved_last w order ≡ order
+  moved_last-last = last_by (position (λ v. v == w) order) refl

@@ -16,7 +16,8 @@ use Rattle.thy_cache.proofs.WriteLaws.{used_for-lines, written-width}
 -- no more lines are dirty than sets and ways make
 few_dirty : (sets ways : ℕ) (c : Contents) → length c.sets ≡ sets → All (λ set. length set.lines ≡ ways) c.sets → dirty_count c ≤ sets * ways
 few_dirty sets ways c many each =
-    let narrow : All (λ set. width set ≤ ways) c.sets = All-from_get_or (λ set. width set ≤ ways) c.sets no_ways (λ i inside. omega (arith, each i no_ways inside)) in
+    let narrow : All (λ set. width set ≤ ways) c.sets =
+    All-from_get_or (λ set. width set ≤ ways) c.sets no_ways (λ i inside. omega (arith, each i no_ways inside)) in
     let all : way_count c ≤ length c.sets * ways = sum_by-le width ways c.sets narrow in
     omega (arith, dirty_count-le c, all, ap (λ n. n * ways) many)
 
@@ -25,7 +26,8 @@ sized : (sets ways : ℕ) (c : Contents) → length c.sets ≡ sets → All (λ 
 sized sets ways c many each = record { set_count = many; each = each; few_dirty = few_dirty sets ways c many each }
 
 -- replacing a set by one with the same number of ways keeps a cache's size
-pub KeepsSize-with_set : (c : Contents) (s : ℕ) (set : Ways) → s < length c.sets → width set ≡ width (set_at c s) → KeepsSize c (with_set s set c)
+pub KeepsSize-with_set : (c : Contents) (s : ℕ) (set : Ways) → s < length c.sets → width set ≡ width (set_at c s)
+    → KeepsSize c (with_set s set c)
 KeepsSize-with_set c s set inside same sets ways size =
     let Wide : Ways → Type 0 = λ t. length t.lines ≡ ways in
     let as_wide : Wide set = same ∙ size.each s no_ways inside in
@@ -44,7 +46,8 @@ KeepsSize-fill c b block inside =
     (length-set (set_of c b).lines (victim_way (set_of c b)) (Some (fresh_line b block)))
 
 pub KeepsSize-stored : (stored : Stored) (c : Contents) (s w : ℕ) → s < length c.sets → KeepsSize c (stored_at stored s w c)
-KeepsSize-stored Done c s w inside = KeepsSize-with_set c s (over_line clean w (set_at c s)) inside (length-set (set_at c s).lines w (option_map clean (line_at (set_at c s) w)))
+KeepsSize-stored Done c s w inside = KeepsSize-with_set c s (over_line clean w (set_at c s)) inside
+    (length-set (set_at c s).lines w (option_map clean (line_at (set_at c s) w)))
 KeepsSize-stored CopyFirst c s w inside = λ sets ways size. size
 
 -- a new cache has the size it was made with

@@ -35,7 +35,8 @@ pub record CanFill (c : Contents) (blocks : List Block) (b : ℕ) (block : Block
 pub filling : (c : Contents) (blocks : List Block) (b : ℕ) (block : Block) → CanFill c blocks b block
     → Filling (length c.sets) blocks (index_of c b) (victim_way (set_of c b)) b block (used (victim_way (set_of c b)) (set_of c b))
 filling c blocks b block can = record {
-  agrees = SetAgrees-same (length c.sets) blocks (index_of c b) (set_of c b) (used (victim_way (set_of c b)) (set_of c b)) refl (can.agrees.sets (index_of c b));
+  agrees = SetAgrees-same (length c.sets) blocks (index_of c b) (set_of c b) (used (victim_way (set_of c b)) (set_of c b)) refl
+      (can.agrees.sets (index_of c b));
   way = can.way;
   room = can.room;
   missing = not_some (line_of c b) can.missing;
@@ -44,38 +45,42 @@ filling c blocks b block can = record {
   loaded = can.loaded;
 }
 
--- the block has its line
-pub fill-line_of : (c : Contents) (blocks : List Block) (b : ℕ) (block : Block) → CanFill c blocks b block → line_of (filled_with b block c) b ≡ Some (fresh_line b block)
-fill-line_of c blocks b block can =
-    ap (λ set. line_in set b) (set_of-same c (index_of c b) (filled b block (set_of c b)) b can.set refl)
-    ∙ line_in-filled (length c.sets) blocks (index_of c b) (victim_way (set_of c b)) b block (used (victim_way (set_of c b)) (set_of c b)) (filling c blocks b block can)
+module _ (c : Contents) (blocks : List Block) (b : ℕ) (block : Block) (can : CanFill c blocks b block) where
+  -- the block has its line
+  pub fill-line_of : line_of (filled_with b block c) b ≡ Some (fresh_line b block)
+  fill-line_of =
+      ap (λ set. line_in set b) (set_of-same c (index_of c b) (filled b block (set_of c b)) b can.set refl)
+      ∙ line_in-filled (length c.sets) blocks (index_of c b) (victim_way (set_of c b)) b block (used (victim_way (set_of c b)) (set_of c b))
+      (filling c blocks b block can)
 
--- every block reads as before after a fill
-pub fill-flat_at : (c : Contents) (blocks : List Block) (b : ℕ) (block : Block) → CanFill c blocks b block → (x : ℕ) → flat_at (filled_with b block c) blocks x ≡ flat_at c blocks x
-fill-flat_at c blocks b block can x = elim (cases_eq (index_of c x) (index_of c b)) as (λ _. flat_at (filled_with b block c) blocks x ≡ flat_at c blocks x) [
-  | inl same ↦
-      ap (λ set. seen blocks set x) (set_of-same c (index_of c b) (filled b block (set_of c b)) x can.set same)
-      ∙ seen-filled (length c.sets) blocks (index_of c b) (victim_way (set_of c b)) b block (used (victim_way (set_of c b)) (set_of c b)) (filling c blocks b block can) x
-      ∙ ap (λ s. seen blocks (set_at c s) x) (sym same)
-  | inr other ↦ ap (λ set. seen blocks set x) (set_of-other c (index_of c b) (filled b block (set_of c b)) x other)
-]
+  -- every block reads as before after a fill
+  pub fill-flat_at : (x : ℕ) → flat_at (filled_with b block c) blocks x ≡ flat_at c blocks x
+  fill-flat_at x = elim (cases_eq (index_of c x) (index_of c b)) as (λ _. flat_at (filled_with b block c) blocks x ≡ flat_at c blocks x) [
+    | inl same ↦
+        ap (λ set. seen blocks set x) (set_of-same c (index_of c b) (filled b block (set_of c b)) x can.set same)
+        ∙ seen-filled (length c.sets) blocks (index_of c b) (victim_way (set_of c b)) b block (used (victim_way (set_of c b)) (set_of c b))
+        (filling c blocks b block can) x
+        ∙ ap (λ s. seen blocks (set_at c s) x) (sym same)
+    | inr other ↦ ap (λ set. seen blocks set x) (set_of-other c (index_of c b) (filled b block (set_of c b)) x other)
+  ]
 
-pub fill-flat : (c : Contents) (blocks : List Block) (b : ℕ) (block : Block) → CanFill c blocks b block → flat (filled_with b block c) blocks ≡ flat c blocks
-fill-flat c blocks b block can = flat-same (filled_with b block c) c blocks blocks refl (λ x inside. fill-flat_at c blocks b block can x)
+  pub fill-flat : flat (filled_with b block c) blocks ≡ flat c blocks
+  fill-flat = flat-same (filled_with b block c) c blocks blocks refl (λ x inside. fill-flat_at x)
 
-pub fill-agrees : (c : Contents) (blocks : List Block) (b : ℕ) (block : Block) → CanFill c blocks b block → Agrees (filled_with b block c) blocks
-fill-agrees c blocks b block can =
-    Agrees-with_set c (index_of c b) (filled b block (set_of c b)) blocks can.set
-    (SetAgrees-filled (length c.sets) blocks (index_of c b) (victim_way (set_of c b)) b block (used (victim_way (set_of c b)) (set_of c b)) (filling c blocks b block can))
-    (λ t other. can.agrees.sets t)
+  pub fill-agrees : Agrees (filled_with b block c) blocks
+  fill-agrees =
+      Agrees-with_set c (index_of c b) (filled b block (set_of c b)) blocks can.set
+      (SetAgrees-filled (length c.sets) blocks (index_of c b) (victim_way (set_of c b)) b block
+      (used (victim_way (set_of c b)) (set_of c b)) (filling c blocks b block can))
+      (λ t other. can.agrees.sets t)
 
--- a fill leaves the flat list of the cache, over a store that holds the same
-pub filled-flat : (c d : Contents) (blocks held : List Block) (b : ℕ) (block : Block) → CanFill c blocks b block → d ≡ filled_with b block c → held ≡ blocks
-    → flat d held ≡ flat c blocks
-filled-flat c d blocks held b block can now same = rw (now, same) (fill-flat c blocks b block can)
+module _ (c d : Contents) (blocks held : List Block) (b : ℕ) (block : Block) (can : CanFill c blocks b block) where
+  -- a fill leaves the flat list of the cache, over a store that holds the same
+  pub filled-flat : d ≡ filled_with b block c → held ≡ blocks → flat d held ≡ flat c blocks
+  filled-flat now same = rw (now, same) (fill-flat c blocks b block can)
 
-pub filled-agrees : (c d : Contents) (blocks held : List Block) (b : ℕ) (block : Block) → CanFill c blocks b block → d ≡ filled_with b block c → held ≡ blocks → Agrees d held
-filled-agrees c d blocks held b block can now same = rw (now, same) (fill-agrees c blocks b block can)
+  pub filled-agrees : d ≡ filled_with b block c → held ≡ blocks → Agrees d held
+  filled-agrees now same = rw (now, same) (fill-agrees c blocks b block can)
 
 -- what a store of a line asks for
 pub record CanStore (c : Contents) (blocks : List Block) (s w : ℕ) (line : Line) : Type 0 where
@@ -89,71 +94,74 @@ pub clean-keeps : KeepsBlock clean
 clean-keeps line = refl
 
 -- a store leaves what a line holds
-pub clean-same : (o : Option Line) → option_map (λ (line : Line). line.block) (option_map clean o) ≡ option_map (λ (line : Line). line.block) o
+pub clean-same : (o : Option Line)
+    → option_map (λ (line : Line). line.block) (option_map clean o) ≡ option_map (λ (line : Line). line.block) o
 clean-same None = refl
 clean-same (Some line) = refl
 
-pub clean-peeks : (c : Contents) (s w : ℕ) (line : Line) → s < length c.sets → line_at (set_at c s) w ≡ Some line → PeeksSame c (cleaned_at s w c)
+pub clean-peeks : (c : Contents) (s w : ℕ) (line : Line) → s < length c.sets → line_at (set_at c s) w ≡ Some line
+    → PeeksSame c (cleaned_at s w c)
 clean-peeks c s w line inside stands x =
     line_of-kept (option_map (λ (line : Line). line.block)) c s (over_line clean w (set_at c s)) x inside
-    (line_in-kept (option_map (λ (line : Line). line.block)) clean clean-keeps clean-same (set_at c s) w x (line_at-inside (set_at c s) w line stands))
+    (line_in-kept (option_map (λ (line : Line). line.block)) clean clean-keeps clean-same (set_at c s) w x
+    (line_at-inside (set_at c s) w line stands))
 
--- the line's block hits, and what it holds is the line's
-pub stands-line_of : (c : Contents) (blocks : List Block) (s w : ℕ) (line : Line) → CanStore c blocks s w line → line_of c line.at ≡ Some line
-stands-line_of c blocks s w line can =
-    let own : s ≡ index_of c line.at = ((can.agrees.sets s).lines w line can.stands).own_set in
-    ap (λ t. line_in (set_at c t) line.at) (sym own)
-    ∙ line_in-single (length c.sets) blocks s (set_at c s) w line (can.agrees.sets s) can.stands
+module _ (c : Contents) (blocks : List Block) (s w : ℕ) (line : Line) (can : CanStore c blocks s w line) where
+  -- the line's block hits, and what it holds is the line's
+  pub stands-line_of : line_of c line.at ≡ Some line
+  stands-line_of =
+      let own : s ≡ index_of c line.at = ((can.agrees.sets s).lines w line can.stands).own_set in
+      ap (λ t. line_in (set_at c t) line.at) (sym own)
+      ∙ line_in-single (length c.sets) blocks s (set_at c s) w line (can.agrees.sets s) can.stands
 
--- a block reads as before: the stored one by its line, every other as its store's block stays
-pub store-flat_at : (c : Contents) (blocks : List Block) (s w : ℕ) (line : Line) → CanStore c blocks s w line
-    → (x : ℕ) → flat_at (cleaned_at s w c) (slice_set blocks line.at line.block) x ≡ flat_at c blocks x
-store-flat_at c blocks s w line can x =
-    ap (λ o. unwrap_or o (block_at (slice_set blocks line.at line.block) x)) (clean-peeks c s w line can.set can.stands x)
-    ∙ (elim (cases_eq x line.at) as (λ _. unwrap_or (peeked c x) (block_at (slice_set blocks line.at line.block) x) ≡ unwrap_or (peeked c x) (block_at blocks x)) [
-      | inl same ↦
-          let there : peeked c x ≡ Some line.block = ap (peeked c) same ∙ ap (option_map (λ (l : Line). l.block)) (stands-line_of c blocks s w line can) in
-          ap (λ o. unwrap_or o (block_at (slice_set blocks line.at line.block) x)) there ∙ ap (λ o. unwrap_or o (block_at blocks x)) (sym there)
-      | inr other ↦ ap (unwrap_or (peeked c x)) (get_or-set_other blocks line.at x line.block zero_block other)
-    ])
+  -- a block reads as before: the stored one by its line, every other as its store's block stays
+  pub store-flat_at : (x : ℕ) → flat_at (cleaned_at s w c) (slice_set blocks line.at line.block) x ≡ flat_at c blocks x
+  store-flat_at x =
+      ap (λ o. unwrap_or o (block_at (slice_set blocks line.at line.block) x)) (clean-peeks c s w line can.set can.stands x)
+      ∙ (elim (cases_eq x line.at)
+      as (λ _. unwrap_or (peeked c x) (block_at (slice_set blocks line.at line.block) x) ≡ unwrap_or (peeked c x) (block_at blocks x)) [
+        | inl same ↦
+            let there : peeked c x ≡ Some line.block = ap (peeked c) same ∙ ap (option_map (λ (l : Line). l.block)) stands-line_of in
+            ap (λ o. unwrap_or o (block_at (slice_set blocks line.at line.block) x)) there ∙ ap (λ o. unwrap_or o (block_at blocks x)) (sym there)
+        | inr other ↦ ap (unwrap_or (peeked c x)) (get_or-set_other blocks line.at x line.block zero_block other)
+      ])
 
-pub store-flat : (c : Contents) (blocks : List Block) (s w : ℕ) (line : Line) → CanStore c blocks s w line
-    → flat (cleaned_at s w c) (slice_set blocks line.at line.block) ≡ flat c blocks
-store-flat c blocks s w line can =
-    flat-same (cleaned_at s w c) c (slice_set blocks line.at line.block) blocks (length-set blocks line.at line.block) (λ x inside. store-flat_at c blocks s w line can x)
+  pub store-flat : flat (cleaned_at s w c) (slice_set blocks line.at line.block) ≡ flat c blocks
+  store-flat =
+      flat-same (cleaned_at s w c) c (slice_set blocks line.at line.block) blocks (length-set blocks line.at line.block)
+      (λ x inside. store-flat_at x)
 
--- every line of the stored block is the stored line
-pub stored_here : (c : Contents) (blocks : List Block) (s w : ℕ) (line : Line) → CanStore c blocks s w line
-    → (v : ℕ) (other : Line) → line_at (set_at c s) v ≡ Some other → other.at ≡ line.at → other.block ≡ line.block
-stored_here c blocks s w line can v other e same =
-    let one : v ≡ w = (can.agrees.sets s).single v w other line e can.stands same in
-    let is : Some other ≡ Some line = sym e ∙ ap (line_at (set_at c s)) one ∙ can.stands in
-    ap (λ (l : Line). l.block) (some_is other line is)
+  -- every line of the stored block is the stored line
+  pub stored_here : (v : ℕ) (other : Line) → line_at (set_at c s) v ≡ Some other → other.at ≡ line.at → other.block ≡ line.block
+  stored_here v other e same =
+      let one : v ≡ w = (can.agrees.sets s).single v w other line e can.stands same in
+      let is : Some other ≡ Some line = sym e ∙ ap (line_at (set_at c s)) one ∙ can.stands in
+      ap (λ (l : Line). l.block) (some_is other line is)
 
--- no other set has a line of the stored block that differs from it
-pub stored_there : (c : Contents) (blocks : List Block) (s w : ℕ) (line : Line) → CanStore c blocks s w line
-    → (t : ℕ) → t ≢ s → (v : ℕ) (other : Line) → line_at (set_at c t) v ≡ Some other → other.at ≡ line.at → other.block ≡ line.block
-stored_there c blocks s w line can t elsewhere v other e same =
-    let here : s ≡ line.at % length c.sets = ((can.agrees.sets s).lines w line can.stands).own_set in
-    let there : t ≡ other.at % length c.sets = ((can.agrees.sets t).lines v other e).own_set in
-    absurd (elsewhere (there ∙ ap (λ a. a % length c.sets) same ∙ sym here))
+  -- no other set has a line of the stored block that differs from it
+  pub stored_there : (t : ℕ) → t ≢ s → (v : ℕ) (other : Line) → line_at (set_at c t) v ≡ Some other → other.at ≡ line.at
+      → other.block ≡ line.block
+  stored_there t elsewhere v other e same =
+      let here : s ≡ line.at % length c.sets = ((can.agrees.sets s).lines w line can.stands).own_set in
+      let there : t ≡ other.at % length c.sets = ((can.agrees.sets t).lines v other e).own_set in
+      absurd (elsewhere (there ∙ ap (λ a. a % length c.sets) same ∙ sym here))
 
--- the line that is clean now is what the store holds
-pub stored_clean_now : (c : Contents) (blocks : List Block) (s w : ℕ) (line : Line) → CanStore c blocks s w line
-    → (l : Line) → line_at (set_at c s) w ≡ Some l → (clean l).dirty ≡ false → (clean l).block ≡ block_at (slice_set blocks line.at line.block) l.at
-stored_clean_now c blocks s w line can l e pure =
-    let same : l ≡ line = some_is l line (sym e ∙ can.stands) in
-    let inside : line.at < length blocks = ((can.agrees.sets s).lines w line can.stands).inside in
-    ap (λ (m : Line). m.block) same ∙ sym (get_or-set_same blocks line.at line.block zero_block inside) ∙ ap (λ (m : Line). block_at (slice_set blocks line.at line.block) m.at) (sym same)
+  -- the line that is clean now is what the store holds
+  pub stored_clean_now : (l : Line) → line_at (set_at c s) w ≡ Some l → (clean l).dirty ≡ false
+      → (clean l).block ≡ block_at (slice_set blocks line.at line.block) l.at
+  stored_clean_now l e pure =
+      let same : l ≡ line = some_is l line (sym e ∙ can.stands) in
+      let inside : line.at < length blocks = ((can.agrees.sets s).lines w line can.stands).inside in
+      ap (λ (m : Line). m.block) same ∙ sym (get_or-set_same blocks line.at line.block zero_block inside)
+      ∙ ap (λ (m : Line). block_at (slice_set blocks line.at line.block) m.at) (sym same)
 
-pub store-agrees : (c : Contents) (blocks : List Block) (s w : ℕ) (line : Line) → CanStore c blocks s w line
-    → Agrees (cleaned_at s w c) (slice_set blocks line.at line.block)
-store-agrees c blocks s w line can =
-    let old : SetAgrees (length c.sets) (slice_set blocks line.at line.block) s (set_at c s)
-    = SetAgrees-stored (length c.sets) blocks s (set_at c s) line.at line.block (stored_here c blocks s w line can) (can.agrees.sets s) in
-    Agrees-with_set c s (over_line clean w (set_at c s)) (slice_set blocks line.at line.block) can.set
-    (SetAgrees-over_line (length c.sets) (slice_set blocks line.at line.block) s clean w (set_at c s) clean-keeps (stored_clean_now c blocks s w line can) old)
-    (λ t other. SetAgrees-stored (length c.sets) blocks t (set_at c t) line.at line.block (stored_there c blocks s w line can t other) (can.agrees.sets t))
+  pub store-agrees : Agrees (cleaned_at s w c) (slice_set blocks line.at line.block)
+  store-agrees =
+      let old : SetAgrees (length c.sets) (slice_set blocks line.at line.block) s (set_at c s)
+      = SetAgrees-stored (length c.sets) blocks s (set_at c s) line.at line.block stored_here (can.agrees.sets s) in
+      Agrees-with_set c s (over_line clean w (set_at c s)) (slice_set blocks line.at line.block) can.set
+      (SetAgrees-over_line (length c.sets) (slice_set blocks line.at line.block) s clean w (set_at c s) clean-keeps stored_clean_now old)
+      (λ t other. SetAgrees-stored (length c.sets) blocks t (set_at c t) line.at line.block (stored_there t other) (can.agrees.sets t))
 
 -- if there is room, the line that goes is not dirty
 pub room-clean : (o : Option Line) → victim_line o ≡ Room → is_dirty o ≡ false
@@ -164,12 +172,14 @@ room-clean (Some line) e = elim (cases_Bool line.dirty) as (λ _. line.dirty ≡
 ]
 
 -- what a store of a line leaves, by the store's answer
-pub after-flat : (stored : Stored) (c : Contents) (s w : ℕ) (line : Line) (old new : Holding) → CanStore c old.blocks s w line → HasStored stored line.at line.block old new
+pub after-flat : (stored : Stored) (c : Contents) (s w : ℕ) (line : Line) (old new : Holding) → CanStore c old.blocks s w line
+    → HasStored stored line.at line.block old new
     → flat (stored_at stored s w c) new.blocks ≡ flat c old.blocks
 after-flat Done c s w line old new can has = ap (flat (cleaned_at s w c)) has.blocks ∙ store-flat c old.blocks s w line can
 after-flat CopyFirst c s w line old new can has = ap (flat c) has.blocks
 
-pub after-agrees : (stored : Stored) (c : Contents) (s w : ℕ) (line : Line) (old new : Holding) → CanStore c old.blocks s w line → HasStored stored line.at line.block old new
+pub after-agrees : (stored : Stored) (c : Contents) (s w : ℕ) (line : Line) (old new : Holding) → CanStore c old.blocks s w line
+    → HasStored stored line.at line.block old new
     → Agrees (stored_at stored s w c) new.blocks
 after-agrees Done c s w line old new can has = rw has.blocks (store-agrees c old.blocks s w line can)
 after-agrees CopyFirst c s w line old new can has = rw has.blocks can.agrees
@@ -189,21 +199,27 @@ pub victim_way-clean : (w : ℕ) (set : Ways) → victim_way (over_line clean w 
 victim_way-clean w set =
     let same : position_or_len is_none (slice_set set.lines w (option_map clean (line_at set w))) ≡ position_or_len is_none set.lines
     = position_or_len-set is_none set.lines w (option_map clean (line_at set w)) None (is_none-clean (line_at set w)) in
-    let long : length (slice_set set.lines w (option_map clean (line_at set w))) ≡ length set.lines = length-set set.lines w (option_map clean (line_at set w)) in
-    ap (λ k. unwrap_or (cond (nat_lt k (length (slice_set set.lines w (option_map clean (line_at set w))))) (Some k) None) (slice_index set.order 0)) same
-    ∙ ap (λ n. unwrap_or (cond (nat_lt (position_or_len is_none set.lines) n) (Some (position_or_len is_none set.lines)) None) (slice_index set.order 0)) long
+    let long : length (slice_set set.lines w (option_map clean (line_at set w))) ≡ length set.lines =
+    length-set set.lines w (option_map clean (line_at set w)) in
+    ap (λ k. unwrap_or (cond (nat_lt k (length (slice_set set.lines w (option_map clean (line_at set w))))) (Some k) None)
+    (slice_index set.order 0)) same
+    ∙ ap (λ n. unwrap_or (cond (nat_lt (position_or_len is_none set.lines) n) (Some (position_or_len is_none set.lines)) None)
+    (slice_index set.order 0)) long
 
 -- after a store of the victim there is room
 pub evict-room : (c : Contents) (b : ℕ) (line : Line) → index_of c b < length c.sets → victim_line_of c b ≡ Some line
     → victim_of (cleaned_at (index_of c b) (victim_way (set_of c b)) c) b ≡ Room
 evict-room c b line inside stands =
     let within : victim_way (set_of c b) < length (set_of c b).lines = line_at-inside (set_of c b) (victim_way (set_of c b)) line stands in
-    ap (λ s. victim_line (line_at s (victim_way s))) (set_of-same c (index_of c b) (over_line clean (victim_way (set_of c b)) (set_of c b)) b inside refl)
-    ∙ ap (λ w. victim_line (line_at (over_line clean (victim_way (set_of c b)) (set_of c b)) w)) (victim_way-clean (victim_way (set_of c b)) (set_of c b))
+    ap (λ s. victim_line (line_at s (victim_way s)))
+    (set_of-same c (index_of c b) (over_line clean (victim_way (set_of c b)) (set_of c b)) b inside refl)
+    ∙ ap (λ w. victim_line (line_at (over_line clean (victim_way (set_of c b)) (set_of c b)) w))
+    (victim_way-clean (victim_way (set_of c b)) (set_of c b))
     ∙ ap victim_line (get_or-set_same (set_of c b).lines (victim_way (set_of c b)) (option_map clean (victim_line_of c b)) None within)
     ∙ clean-room (victim_line_of c b)
 
-pub evict-room_at : (old new : Contents) (b s w : ℕ) (line : Line) → s ≡ index_of old b → s < length old.sets → w ≡ victim_way (set_of old b) → new ≡ cleaned_at s w old
+pub evict-room_at : (old new : Contents) (b s w : ℕ) (line : Line) → s ≡ index_of old b → s < length old.sets
+    → w ≡ victim_way (set_of old b) → new ≡ cleaned_at s w old
     → line_at (set_at old s) w ≡ Some line → victim_of new b ≡ Room
 evict-room_at old new b s w line set inside way cleaned stands =
     let here : index_of old b < length old.sets = omega (arith, set, inside) in

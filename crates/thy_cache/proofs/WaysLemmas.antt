@@ -19,7 +19,8 @@ use Rattle.thy_cache.proofs.OrderLemmas.{found_way, StandOnce-moved, StandOnce-r
 -- a range with one number more
 pub range_with_len_more : (n : ℕ) → range_with_len 0 (n + 1) ≡ range_with_len 0 n ++ n ∷ []
 range_with_len_more n =
-    sym (map-id (range_with_len 0 (n + 1))) ∙ map-range_with_len_more (λ k. k) 0 n n (omega arith) ∙ ap (λ xs. xs ++ n ∷ []) (map-id (range_with_len 0 n))
+    sym (map-id (range_with_len 0 (n + 1))) ∙ map-range_with_len_more (λ k. k) 0 n n (omega arith)
+    ∙ ap (λ xs. xs ++ n ∷ []) (map-id (range_with_len 0 n))
 
 -- the numbers from 0 on are below their count
 pub range_below : (n : ℕ) → All (λ w. w < n) (range_with_len 0 n)
@@ -40,7 +41,8 @@ no_lines_single : (n : ℕ) → HaveOneLineEach (empty_ways n).lines
 no_lines_single n w v line other e f same = absurd (none_is_none line (sym (none-at n w) ∙ e))
 
 -- the parts of a new set are sound
-pub AreSoundWays-empty : (n : ℕ) (lines : List (Option Line)) (order : List ℕ) → 0 < n → lines ≡ (empty_ways n).lines → order ≡ range_with_len 0 n
+pub AreSoundWays-empty : (n : ℕ) (lines : List (Option Line)) (order : List ℕ) → 0 < n → lines ≡ (empty_ways n).lines
+    → order ≡ range_with_len 0 n
     → AreSoundWays lines order (n - 1)
 AreSoundWays-empty n lines order some e f =
     let many : length lines ≡ n = ap length e ∙ length-replicate n None in
@@ -65,7 +67,8 @@ pub AreSoundWays-used : (lines : List (Option Line)) (order moved : List ℕ) (l
 AreSoundWays-used lines order moved latest at way sound found here e =
     let there = found_way order way at found in
     let Below : ℕ → Type 0 = λ w. w < length lines in
-    let left : All Below (remove order at) = All-append Below _ _ (All-take Below at order sound.ordered) (All-drop Below (suc at) order sound.ordered) in
+    let left : All Below (remove order at) =
+    All-append Below _ _ (All-take Below at order sound.ordered) (All-drop Below (suc at) order sound.ordered) in
     record {
       some_way = sound.some_way;
       all_ordered = ap length e ∙ length_push (remove order at) way ∙ length-remove order at there.0 ∙ sound.all_ordered;
@@ -90,7 +93,8 @@ rewritten_sound lines order latest way o sound single =
     }
 
 -- after the line in a way was changed, which was found there
-pub AreSoundWays-changed : (f : Line → Line) → KeepsBlock f → (lines : List (Option Line)) (order : List ℕ) (latest way : ℕ) (old new : Option Line)
+pub AreSoundWays-changed : (f : Line → Line) → KeepsBlock f
+    → (lines : List (Option Line)) (order : List ℕ) (latest way : ℕ) (old new : Option Line)
     → AreSoundWays lines order latest → way < length lines → old ≡ get_or lines way old → new ≡ option_map f old
     → AreSoundWays (slice_set lines way new) order latest
 AreSoundWays-changed f keeps lines order latest way old new sound inside stood becomes =
@@ -101,10 +105,12 @@ AreSoundWays-changed f keeps lines order latest way old new sound inside stood b
 
 -- after a line of a block that had none was put into a way
 pub AreSoundWays-put : (lines : List (Option Line)) (order : List ℕ) (latest way : ℕ) (line : Line) → AreSoundWays lines order latest
-    → is_some (line_in (record { lines = lines; order = order }) line.at) ≡ false → AreSoundWays (slice_set lines way (Some line)) order latest
+    → is_some (line_in (record { lines = lines; order = order }) line.at) ≡ false
+    → AreSoundWays (slice_set lines way (Some line)) order latest
 AreSoundWays-put lines order latest way line sound missing =
     let ways : Ways = record { lines = lines; order = order } in
-    rewritten_sound lines order latest way (Some line) sound (HaveOneLineEach-put ways way line sound.single (not_some (line_in ways line.at) missing))
+    rewritten_sound lines order latest way (Some line) sound
+    (HaveOneLineEach-put ways way line sound.single (not_some (line_in ways line.at) missing))
 
 -- the way that was used last is one of them
 pub latest_inside : (lines : List (Option Line)) (order : List ℕ) (latest : ℕ) → AreSoundWays lines order latest → latest < length lines

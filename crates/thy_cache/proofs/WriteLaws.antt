@@ -32,7 +32,8 @@ line_in-lines old new x e = ap (λ (ls : List (Option Line)). line_in (record { 
 
 pub read-line_of : (c : Contents) (b : ℕ) → index_of c b < length c.sets → (x : ℕ) → line_of (read_from b c) x ≡ line_of c x
 read-line_of c b inside x =
-    line_of-kept (λ o. o) c (index_of c b) (used_for b (set_of c b)) x inside (line_in-lines (set_of c b) (used_for b (set_of c b)) x (used_for-lines b (set_of c b)))
+    line_of-kept (λ o. o) c (index_of c b) (used_for b (set_of c b)) x inside
+    (line_in-lines (set_of c b) (used_for b (set_of c b)) x (used_for-lines b (set_of c b)))
 
 pub read-peeks : (c : Contents) (b : ℕ) → index_of c b < length c.sets → PeeksSame c (read_from b c)
 read-peeks c b inside x = ap (option_map (λ (line : Line). line.block)) (read-line_of c b inside x)
@@ -40,7 +41,8 @@ read-peeks c b inside x = ap (option_map (λ (line : Line). line.block)) (read-l
 pub read-agrees : (c : Contents) (b : ℕ) → index_of c b < length c.sets → AgreesStill c (read_from b c)
 read-agrees c b inside blocks agrees =
     Agrees-with_set c (index_of c b) (used_for b (set_of c b)) blocks inside
-    (SetAgrees-same (length c.sets) blocks (index_of c b) (set_of c b) (used_for b (set_of c b)) (used_for-lines b (set_of c b)) (agrees.sets (index_of c b)))
+    (SetAgrees-same (length c.sets) blocks (index_of c b) (set_of c b) (used_for b (set_of c b)) (used_for-lines b (set_of c b))
+    (agrees.sets (index_of c b)))
     (λ t other. agrees.sets t)
 
 -- a read gives the block of the flat list
@@ -56,7 +58,8 @@ abbrev pub written_in : ℕ → List ℕ → Ways → Option ℕ → Ways
 written_in at bytes ways o = option_map_or (λ w. over_line (changed at bytes) w (used w ways)) o ways
 
 -- the block's line was written to
-pub written-here : (b at : ℕ) (bytes : List ℕ) (ways : Ways) (o : Option ℕ) → way_of ways b ≡ o → line_in (written_in at bytes ways o) b ≡ option_map (changed at bytes) (line_in ways b)
+pub written-here : (b at : ℕ) (bytes : List ℕ) (ways : Ways) (o : Option ℕ) → way_of ways b ≡ o
+    → line_in (written_in at bytes ways o) b ≡ option_map (changed at bytes) (line_in ways b)
 written-here b at bytes ways None e =
     let none : line_in ways b ≡ None = ap (option_and_then (line_at ways)) e in
     none ∙ ap (option_map (changed at bytes)) (sym none)
@@ -65,12 +68,14 @@ written-here b at bytes ways (Some w) e =
     line_in-changed (changed at bytes) (changed-keeps at bytes) (used w ways) w b there.1 there.0
 
 -- no line but the block's was written to
-pub written-other : (b at : ℕ) (bytes : List ℕ) (ways : Ways) (o : Option ℕ) (x : ℕ) → way_of ways b ≡ o → x ≢ b → line_in (written_in at bytes ways o) x ≡ line_in ways x
+pub written-other : (b at : ℕ) (bytes : List ℕ) (ways : Ways) (o : Option ℕ) (x : ℕ) → way_of ways b ≡ o → x ≢ b
+    → line_in (written_in at bytes ways o) x ≡ line_in ways x
 written-other b at bytes ways None x e other = refl
 written-other b at bytes ways (Some w) x e other = line_in-other (changed at bytes) (changed-keeps at bytes) (used w ways) b w x e other
 
 -- the set still agrees after a write
-pub written-agrees : (n : ℕ) (blocks : List Block) (s b at : ℕ) (bytes : List ℕ) (ways : Ways) (o : Option ℕ) → SetAgrees n blocks s ways → SetAgrees n blocks s (written_in at bytes ways o)
+pub written-agrees : (n : ℕ) (blocks : List Block) (s b at : ℕ) (bytes : List ℕ) (ways : Ways) (o : Option ℕ) → SetAgrees n blocks s ways
+    → SetAgrees n blocks s (written_in at bytes ways o)
 written-agrees n blocks s b at bytes ways None agrees = agrees
 written-agrees n blocks s b at bytes ways (Some w) agrees =
     SetAgrees-over_line n blocks s (changed at bytes) w (used w ways) (changed-keeps at bytes) (λ line e pure. absurd (true_is_not_false pure))
@@ -93,22 +98,26 @@ written-count b at bytes ways (Some w) e hit =
     let counts = dirty_lines-rewritten (used w ways) w (option_map (changed at bytes) (line_at ways w)) there.1 in
     ap (λ p. dirty_lines (written_in at bytes ways (Some w)) + dirt p) same ∙ counts ∙ ap (λ k. dirty_lines ways + k) grown
 
-pub write-here : (c : Contents) (b at : ℕ) (bytes : List ℕ) → index_of c b < length c.sets → line_of (written_at b at bytes c) b ≡ option_map (changed at bytes) (line_of c b)
-write-here c b at bytes inside =
-    ap (λ set. line_in set b) (set_of-same c (index_of c b) (written_to b at bytes (set_of c b)) b inside refl)
-    ∙ written-here b at bytes (set_of c b) (way_of (set_of c b) b) refl
+module _ (c : Contents) (b at : ℕ) (bytes : List ℕ) (inside : index_of c b < length c.sets) where
+  pub write-here : line_of (written_at b at bytes c) b ≡ option_map (changed at bytes) (line_of c b)
+  write-here =
+      ap (λ set. line_in set b) (set_of-same c (index_of c b) (written_to b at bytes (set_of c b)) b inside refl)
+      ∙ written-here b at bytes (set_of c b) (way_of (set_of c b) b) refl
 
-pub write-other : (c : Contents) (b at : ℕ) (bytes : List ℕ) → index_of c b < length c.sets → (x : ℕ) → x ≢ b → line_of (written_at b at bytes c) x ≡ line_of c x
-write-other c b at bytes inside x other =
-    line_of-kept (λ o. o) c (index_of c b) (written_to b at bytes (set_of c b)) x inside (written-other b at bytes (set_of c b) (way_of (set_of c b) b) x refl other)
+  pub write-other : (x : ℕ) → x ≢ b → line_of (written_at b at bytes c) x ≡ line_of c x
+  write-other x other =
+      line_of-kept (λ o. o) c (index_of c b) (written_to b at bytes (set_of c b)) x inside
+      (written-other b at bytes (set_of c b) (way_of (set_of c b) b) x refl other)
 
 -- a changed line holds the bytes
 pub flat-changed : (at : ℕ) (bytes : List ℕ) (o : Option Line) (block : Block) → is_some o ≡ true
-    → unwrap_or (option_map (λ (line : Line). line.block) (option_map (changed at bytes) o)) block ≡ overwritten at bytes (unwrap_or (option_map (λ (line : Line). line.block) o) block)
+    → unwrap_or (option_map (λ (line : Line). line.block) (option_map (changed at bytes) o)) block
+    ≡ overwritten at bytes (unwrap_or (option_map (λ (line : Line). line.block) o) block)
 flat-changed at bytes None block e = absurd (true_is_not_false (sym e))
 flat-changed at bytes (Some line) block e = refl
 
-pub write-flat : (c : Contents) (b at : ℕ) (bytes : List ℕ) → index_of c b < length c.sets → hits c b ≡ true → WritesOver b at bytes c (written_at b at bytes c)
+pub write-flat : (c : Contents) (b at : ℕ) (bytes : List ℕ) → index_of c b < length c.sets → hits c b ≡ true
+    → WritesOver b at bytes c (written_at b at bytes c)
 write-flat c b at bytes inside hit blocks below =
     flat-put (written_at b at bytes c) c blocks b (overwritten at bytes (block_at (flat c blocks) b)) below
     (ap (λ o. unwrap_or (option_map (λ (line : Line). line.block) o) (block_at blocks b)) (write-here c b at bytes inside)
@@ -124,7 +133,8 @@ is_some-map f (Some x) = refl
 pub write-hits : (c : Contents) (b at : ℕ) (bytes : List ℕ) → index_of c b < length c.sets → HitsSame c (written_at b at bytes c)
 write-hits c b at bytes inside x = elim (cases_eq x b) as (λ _. hits (written_at b at bytes c) x ≡ hits c x) [
   | inl same ↦
-      ap (hits (written_at b at bytes c)) same ∙ ap is_some (write-here c b at bytes inside) ∙ is_some-map (changed at bytes) (line_of c b) ∙ ap (hits c) (sym same)
+      ap (hits (written_at b at bytes c)) same ∙ ap is_some (write-here c b at bytes inside) ∙ is_some-map (changed at bytes) (line_of c b)
+      ∙ ap (hits c) (sym same)
   | inr other ↦ ap is_some (write-other c b at bytes inside x other)
 ]
 
@@ -137,10 +147,15 @@ write-agrees c b at bytes inside blocks agrees =
 pub write-count : (c : Contents) (b at : ℕ) (bytes : List ℕ) → index_of c b < length c.sets → hits c b ≡ true
     → dirty_count (written_at b at bytes c) + dirt (line_of c b) ≡ dirty_count c + 1
 write-count c b at bytes inside hit =
-    omega (arith, dirty_count-with_set c (index_of c b) (written_to b at bytes (set_of c b)) inside, written-count b at bytes (set_of c b) (way_of (set_of c b) b) refl hit)
+    omega (
+      arith,
+      dirty_count-with_set c (index_of c b) (written_to b at bytes (set_of c b)) inside,
+      written-count b at bytes (set_of c b) (way_of (set_of c b) b) refl hit,
+    )
 
 -- the count of dirty lines fits 64 bits after one more line becomes dirty
-pub write-fits : (c : Contents) (b at : ℕ) (bytes : List ℕ) (dirty modulus : ℕ) → IsSoundCache c.sets dirty modulus → index_of c b < length c.sets → hits c b ≡ true
+pub write-fits : (c : Contents) (b at : ℕ) (bytes : List ℕ) (dirty modulus : ℕ) → IsSoundCache c.sets dirty modulus
+    → index_of c b < length c.sets → hits c b ≡ true
     → is_dirty (line_of c b) ≡ false → dirty + 1 < 2 ^ 64
 write-fits c b at bytes dirty modulus sound inside hit pure =
     let none : dirt (line_of c b) ≡ 0 = ap (λ t. cond t 1 0) pure in
@@ -149,5 +164,6 @@ write-fits c b at bytes dirty modulus sound inside hit pure =
       sound.counted,
       none,
       write-count c b at bytes inside hit,
-      dirty-fits c (index_of c b) (written_to b at bytes (set_of c b)) dirty modulus sound inside (written-width at bytes (set_of c b) (way_of (set_of c b) b)),
+      dirty-fits c (index_of c b) (written_to b at bytes (set_of c b)) dirty modulus sound inside
+          (written-width at bytes (set_of c b) (way_of (set_of c b) b)),
     )

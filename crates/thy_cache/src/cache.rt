@@ -192,6 +192,7 @@ impl Cache {
 
     /// Writes bytes over block `b`, whose line is at this location, from byte `at` on. It is dirty then, and
     /// the most recently used of its set.
+    #[inline(always)]
     pub fn write_at(&mut self, b: u64, location: LineLocation, at: u64, bytes: &[u8])
         requires location { location_of self.old b ≡ Some location }
         requires within { at + length bytes.now ≤ 64 }
@@ -201,7 +202,9 @@ impl Cache {
         self.write_line(b, location, at as usize, bytes);
     }
 
-    /// Writes bytes over the line of block `b`, which is at this location, from byte `at` on.
+    /// Writes bytes over the line of block `b`, which is at this location, from byte `at` on. The use of its way, which may be a call,
+    /// comes last.
+    #[inline(always)]
     fn write_line(&mut self, b: u64, location: LineLocation, at: usize, bytes: &[u8])
         requires location { location_of self.old b ≡ Some location }
         requires within { at + length bytes.now ≤ 64 }
@@ -209,10 +212,10 @@ impl Cache {
         ensures inside { index_of self.old b < length self.old.sets }
     {
         let was_dirty = self.line_in(b, location).dirty;
-        self.sets[location.set].write(location.way, at, bytes);
         if !was_dirty {
             self.dirty += 1;
         }
+        self.sets[location.set].write(location.way, at, bytes);
     }
 
     /// Loads block `b`, which does not hit, into the way of its victim, as a clean line.

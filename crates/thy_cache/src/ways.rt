@@ -214,16 +214,18 @@ impl WaySet {
     }
 
     /// Writes bytes over the line in a way, from byte `at` on, which is a use of it.
+    #[inline(always)]
     pub(crate) fn write(&mut self, way: usize, at: usize, bytes: &[u8])
         requires way { way < length self.old.lines }
         requires bytes { at + length bytes.now ≤ 64 }
         ensures { self.new ≡ over_line (changed at bytes.now) way (used way self.old) }
     {
-        self.touch(way);
         self.change(way, at, bytes);
+        self.touch(way);
     }
 
     /// Writes bytes over the line in a way, from byte `at` on.
+    #[inline(always)]
     fn change(&mut self, way: usize, at: usize, bytes: &[u8])
         requires way { way < length self.old.lines }
         requires bytes { at + length bytes.now ≤ 64 }
@@ -280,6 +282,7 @@ fn cleaned(line: Option<Line>) -> Option<Line>
 
 /// Writes bytes over the line in a way, if there is one, from byte `at` on. It is dirty then. Most stores write 8 bytes or 4:
 /// these are moved as one number.
+#[inline(always)]
 fn write_over(way: &mut Option<Line>, at: usize, bytes: &[u8])
     requires { at + length bytes.now ≤ 64 }
     ensures { way.new ≡ option_map (changed at bytes.now) way.old }

@@ -150,7 +150,8 @@ span_len p cpu at h = ap (λ (s : Span). s.len) h.1
 pub span_whole : (p : Parameters) (cpu : CpuState) (at : Span) → IsInRange p → IsFetchedSpan p cpu (Ok at) → first_byte at + 4 ≤ 64
 span_whole p cpu at r h = subst (λ s. first_byte s + 4 ≤ 64) (sym h.1) (whole_word p cpu.pc r (fetched_inside p cpu.pc h.0))
 
-pub effect_read : (p q : Parameters) (size : ℕ) (cpu : CpuState) (c : Contents) (at : Span) (word : ℕ) (e now : Effect) → IsFetchedSpan p cpu (Ok at)
+pub effect_read : (p q : Parameters) (size : ℕ) (cpu : CpuState) (c : Contents) (at : Span) (word : ℕ) (e now : Effect)
+    → IsFetchedSpan p cpu (Ok at)
     → q ≡ p → size ≡ program_size p → ReadsWord c at word → e ≡ word_effect word cpu.pc cpu.regs → now ≡ within q.base size cpu.other e
     → FetchesEffect p cpu c now
 unfolding effect_in
@@ -166,14 +167,16 @@ effect_read p q size cpu c at word e now h same size_is reads means is blocks wh
     ∙ ap (λ f. unless_trapped f (within p.base (program_size p) cpu.other (word_effect number cpu.pc cpu.regs))) (sym h.0)
 
 -- a word that can't be fetched has the effect of a trap
-pub effect_trapped : (p : Parameters) (cpu : CpuState) (memory : List Block) (cause : Cause) → IsFetchedSpan p cpu (Err cause) → effect_in p cpu memory ≡ Trap cause
+pub effect_trapped : (p : Parameters) (cpu : CpuState) (memory : List Block) (cause : Cause) → IsFetchedSpan p cpu (Err cause)
+    → effect_in p cpu memory ≡ Trap cause
 unfolding effect_in
 effect_trapped p cpu memory cause h =
     let number : ℕ = number_at 4 (gathered memory (span (cpu.pc - p.base) 4)) 0 in
     ap (λ f. unless_trapped f (within p.base (program_size p) cpu.other (word_effect number cpu.pc cpu.regs))) h
 
 -- an effect that was tested
-pub tested : (p q : Parameters) (size : ℕ) (o : Option OtherHart) (e now : Effect) → q ≡ p → size ≡ program_size p → now ≡ within q.base size o e
+pub tested : (p q : Parameters) (size : ℕ) (o : Option OtherHart) (e now : Effect) → q ≡ p → size ≡ program_size p
+    → now ≡ within q.base size o e
     → IsWithin p.base (program_size p) now
 tested p q size o e now same size_is is =
     let by_base : within q.base size o e ≡ within p.base size o e = ap (λ (g : Parameters). within g.base size o e) same in

@@ -30,7 +30,8 @@ if_hand P true x y p q = p refl
 if_hand P false x y p q = q refl
 
 -- a fact of what an effect does that begins or continues
-pub begun_by : (P : Hand → Type 0) (e : Effect) (from to : Span) → (0 < from.len → P (Reading e from to)) → (from.len ≡ 0 → 0 < to.len → P (Securing e to))
+pub begun_by : (P : Hand → Type 0) (e : Effect) (from to : Span) → (0 < from.len → P (Reading e from to))
+    → (from.len ≡ 0 → 0 < to.len → P (Securing e to))
     → (from.len ≡ 0 → to.len ≡ 0 → P (Retiring e false)) → P (begun e from to)
 unfolding begun
 begun_by P e from to reads writes ends =
@@ -42,7 +43,8 @@ begun_by P e from to reads writes ends =
     (λ some. reads (not_zero from.len some))
 
 -- a fact of what an effect does that continues after a written block
-pub written_by : (P : Hand → Type 0) (e : Effect) (to : Span) (done : ℕ) → (0 < to.len → P (Writing e to done)) → (to.len ≡ 0 → P (Retiring e true))
+pub written_by : (P : Hand → Type 0) (e : Effect) (to : Span) (done : ℕ) → (0 < to.len → P (Writing e to done))
+    → (to.len ≡ 0 → P (Retiring e true))
     → P (written_on e to done)
 unfolding written_on
 written_by P e to done writes ends =
@@ -114,7 +116,8 @@ begun-sound p e from to have h =
     (λ none end. omega (arith, h.number))
 
 -- the hand is sound after a block was read
-pub read-sound : (p : Parameters) (e : Effect) (from to : Span) (block : Block) (old new : List ℕ) (hand : Hand) → IsReading p e from to (length old)
+pub read-sound : (p : Parameters) (e : Effect) (from to : Span) (block : Block) (old new : List ℕ) (hand : Hand)
+    → IsReading p e from to (length old)
     → new ≡ old ++ head_in block from → hand ≡ begun e (rest_of from) to → IsInHand p hand (length new)
 read-sound p e from to block old new hand h bytes is =
     let n : length new ≡ length old + head_len from
@@ -155,7 +158,8 @@ read_len-enough x input c Environment = omega arith
 read_len-enough x input c (Trap cause) = omega arith
 
 -- the hand is sound after a fetch
-pub fetch-sound : (p : Parameters) (input : List ℕ) (cpu : CpuState) (e : Effect) (calls : CallState) (bytes : List ℕ) (m : Moves) (hand : Hand)
+pub fetch-sound : (p : Parameters) (input : List ℕ) (cpu : CpuState) (e : Effect) (calls : CallState) (bytes : List ℕ)
+    (m : Moves) (hand : Hand)
     → IsInRange p → IsWithin p.base (program_size p) e → calls ≡ calls_in p cpu (length input) → bytes ≡ brings input cpu.regs calls e
     → m ≡ moves_of cpu.regs calls e → hand ≡ begun e m.from m.to → IsInHand p hand (length bytes)
 fetch-sound p input cpu e calls bytes m hand r inside is b moves begins =
@@ -181,7 +185,8 @@ if_hart_state P true x y p q = p
 if_hart_state P false x y p q = q
 
 -- the hart is sound after it secured room, or found none
-pub room_secured-sound : (free dirty : ℕ) (under_way : Bool) (e : Effect) (to : Span) (old new : HartState) → IsSoundHart old → IsWriting old.geometry e to 0 (length old.bytes)
+pub room_secured-sound : (free dirty : ℕ) (under_way : Bool) (e : Effect) (to : Span) (old new : HartState) → IsSoundHart old
+    → IsWriting old.geometry e to 0 (length old.bytes)
     → new ≡ room_secured free under_way dirty e to old → IsSoundHart new
 unfolding room_secured
 room_secured-sound free dirty under_way e to old new s h is =
@@ -192,14 +197,16 @@ room_secured-sound free dirty under_way e to old new s h is =
 
 -- ---- an effect that begins
 
-pub begun_with-sound : (input : List ℕ) (e : Effect) (old : HartState) → IsInRange old.geometry → IsWithin old.geometry.base (program_size old.geometry) e
+pub begun_with-sound : (input : List ℕ) (e : Effect) (old : HartState) → IsInRange old.geometry
+    → IsWithin old.geometry.base (program_size old.geometry) e
     → IsSoundHart (begun_with input e old)
 begun_with-sound input e old r inside =
     let calls = calls_in old.geometry old.cpu (length input) in
     let moves = moves_of old.cpu.regs calls e in
     record {
       range = r;
-      in_hand = fetch-sound old.geometry input old.cpu e calls (brings input old.cpu.regs calls e) moves (begun e moves.from moves.to) r inside refl refl refl refl;
+      in_hand = fetch-sound old.geometry input old.cpu e calls (brings input old.cpu.regs calls e) moves
+          (begun e moves.from moves.to) r inside refl refl refl refl;
     }
 
 pub begun_with-unsecured : (input : List ℕ) (e : Effect) (old : HartState) → secured (begun_with input e old).hand ≡ 0
@@ -215,7 +222,8 @@ begun-some e from to = begun_by (λ hand. hand ≡ Nothing → ⊥) e from to (�
 pub begun-whole : (e : Effect) (s : Span) → first_byte s + s.len ≤ 64 → begun e (rest_of s) (span 0 0) ≡ Retiring e false
 begun-whole e s whole =
     let none = rest_of-none s whole in
-    begun_by (λ hand. hand ≡ Retiring e false) e (rest_of s) (span 0 0) (λ some. absurd (omega (arith, none))) (λ _ some. absurd (omega arith)) (λ _ _. refl)
+    begun_by (λ hand. hand ≡ Retiring e false) e (rest_of s) (span 0 0) (λ some. absurd (omega (arith, none)))
+    (λ _ some. absurd (omega arith)) (λ _ _. refl)
 
 pub written_on-whole : (e : Effect) (s : Span) (done : ℕ) → first_byte s + s.len ≤ 64 → written_on e (rest_of s) done ≡ Retiring e true
 written_on-whole e s done whole =

@@ -48,7 +48,8 @@ begun-store e at Double = refl
 
 -- ---- an effect that begins
 
-pub begun_with-load : (input : List ℕ) (old : HartState) (rd : ℕ) (w : Width) (x : Extend) (pc at : ℕ) (a : ℕ × Width) → a ≡ (at - old.geometry.base, w)
+pub begun_with-load : (input : List ℕ) (old : HartState) (rd : ℕ) (w : Width) (x : Extend) (pc at : ℕ) (a : ℕ × Width)
+    → a ≡ (at - old.geometry.base, w)
     → record old { hand = Reading (Read rd a.1 x pc at) (span_of a) (span 0 0); bytes = [] } ≡ begun_with input (Read rd w x pc at) old
 unfolding moves_of brings
 begun_with-load input old rd w x pc at a is =
@@ -56,11 +57,13 @@ begun_with-load input old rd w x pc at a is =
     ∙ ap (λ (hand : Hand). record old { hand = hand; bytes = [] }) (sym (begun-load (Read rd w x pc at) (at - old.geometry.base) w))
 
 pub begun_with-store : (input : List ℕ) (old : HartState) (w : Width) (pc at v : ℕ) (a : ℕ × Width) → a ≡ (at - old.geometry.base, w)
-    → record old { hand = Securing (Write a.1 pc at v) (span_of a); bytes = number_bytes (size_of a.1) v } ≡ begun_with input (Write w pc at v) old
+    → record old { hand = Securing (Write a.1 pc at v) (span_of a); bytes = number_bytes (size_of a.1) v }
+    ≡ begun_with input (Write w pc at v) old
 unfolding moves_of brings
 begun_with-store input old w pc at v a is =
     ap (λ (b : ℕ × Width). record old { hand = Securing (Write b.1 pc at v) (span_of b); bytes = number_bytes (size_of b.1) v }) is
-    ∙ ap (λ (hand : Hand). record old { hand = hand; bytes = number_bytes (size_of w) v }) (sym (begun-store (Write w pc at v) (at - old.geometry.base) w))
+    ∙ ap (λ (hand : Hand). record old { hand = hand; bytes = number_bytes (size_of w) v })
+    (sym (begun-store (Write w pc at v) (at - old.geometry.base) w))
 
 -- ---- a load that is read
 
@@ -87,7 +90,8 @@ load-reads h c block value whole inside reads is blocks all =
 -- ---- a load that retires
 
 pub finished-loaded : (cpu : CpuState) (rd : ℕ) (w : Width) (x : Extend) (pc at v : ℕ) (calls : CallState) → v < 2 ^ 64
-    → finished cpu (Read rd w x pc at) v calls ≡ finished cpu (Read rd w x pc at) (number_in (Read rd w x pc at) (number_bytes (size_of w) v)) calls
+    → finished cpu (Read rd w x pc at) v calls ≡ finished cpu (Read rd w x pc at)
+    (number_in (Read rd w x pc at) (number_bytes (size_of w) v)) calls
 unfolding finished number_in
 finished-loaded cpu rd w x pc at v calls fits =
     ap (λ (n : ℕ). record cpu { pc = pc; regs = regs_with cpu.regs rd n; count = cpu.count + 1 }) (sym (extended-read w x v fits))

@@ -22,7 +22,8 @@ use Rattle.thy_hart.specs.MicroSteps.{IsFetchedSpan, HitsNext, FetchesIn, ReadsI
 use Rattle.thy_hart.proofs.FetchLemmas.{effect_trapped, fetched_some, fetched_not}
 use Rattle.thy_hart.proofs.HandLemmas.{written_on-secured}
 
-pub IsMicroStep-fetch : (g : Given) (c d : Contents) (old new : HartState) → old.hand ≡ Nothing → FetchesIn g.input c old new → secured new.hand ≡ 0 → KeepsLines c d
+pub IsMicroStep-fetch : (g : Given) (c d : Contents) (old new : HartState) → old.hand ≡ Nothing → FetchesIn g.input c old new
+    → secured new.hand ≡ 0 → KeepsLines c d
     → d ≡ touched c (fetched_block old.geometry old.cpu) → IsMicroStep g c d old new Moved
 IsMicroStep-fetch g c d old new is fetches unsecured lines cache = record {
   hart = λ blocks whole. fetches blocks whole ∙ ap (acted_by g (dirty_count c) (flat c blocks) old) (sym is);
@@ -36,7 +37,8 @@ IsMicroStep-fetch g c d old new is fetches unsecured lines cache = record {
   sized = lines.sized;
 }
 
-pub IsMicroStep-read : (g : Given) (c d : Contents) (old new : HartState) (e : Effect) (from to : Span) → old.hand ≡ Reading e from to → ReadsIn c e from to old new
+pub IsMicroStep-read : (g : Given) (c d : Contents) (old new : HartState) (e : Effect) (from to : Span) → old.hand ≡ Reading e from to
+    → ReadsIn c e from to old new
     → secured new.hand ≡ 0 → KeepsLines c d → d ≡ read_from (first_block from) c → IsMicroStep g c d old new Moved
 IsMicroStep-read g c d old new e from to is reads unsecured lines cache = record {
   hart = λ blocks whole. reads blocks whole ∙ ap (acted_by g (dirty_count c) (flat c blocks) old) (sym is);
@@ -52,7 +54,8 @@ IsMicroStep-read g c d old new e from to is reads unsecured lines cache = record
 
 pub IsMicroStep-write : (g : Given) (c d : Contents) (old new : HartState) (e : Effect) (to : Span) (done : ℕ) → old.hand ≡ Writing e to done
     → IsWriting old.geometry e to done (length old.bytes) → new ≡ block_written e to done old
-    → WritesIn (memory_blocks old.geometry) c d to (drop done (outgoing e old.bytes)) → AgreesStill c d → dirty_count d ≤ dirty_count c + 1 → KeepsSize c d
+    → WritesIn (memory_blocks old.geometry) c d to (drop done (outgoing e old.bytes)) → AgreesStill c d → dirty_count d ≤ dirty_count c + 1
+    → KeepsSize c d
     → d ≡ written_by c to (drop done (outgoing e old.bytes)) → IsMicroStep g c d old new Moved
 IsMicroStep-write g c d old new e to done is writing hart memory agree dirty sized cache = record {
   hart = λ blocks whole. hart ∙ ap (acted_by g (dirty_count c) (flat c blocks) old) (sym is);
@@ -68,7 +71,8 @@ IsMicroStep-write g c d old new e to done is writing hart memory agree dirty siz
 
 -- ---- whether its line is there
 
-pub found_hits : (c : Contents) (b : ℕ) (found : Option LineLocation) (location : LineLocation) → is_some found ≡ hits c b → found ≡ Some location → hits c b ≡ true
+pub found_hits : (c : Contents) (b : ℕ) (found : Option LineLocation) (location : LineLocation) → is_some found ≡ hits c b
+    → found ≡ Some location → hits c b ≡ true
 found_hits c b found location hit is = sym hit ∙ ap is_some is
 
 pub missing_hits : (c : Contents) (b : ℕ) (found : Option LineLocation) → is_some found ≡ hits c b → found ≡ None → hits c b ≡ false
@@ -82,10 +86,12 @@ kept c = record { peeks = λ x. refl; hits = λ x. refl; flat = λ blocks. refl;
 
 -- ---- a fetch
 
-block_fetched : (old : HartState) (at : Span) → old.hand ≡ Nothing → IsFetchedSpan old.geometry old.cpu (Ok at) → next_block old ≡ Some (first_block at)
+block_fetched : (old : HartState) (at : Span) → old.hand ≡ Nothing → IsFetchedSpan old.geometry old.cpu (Ok at)
+    → next_block old ≡ Some (first_block at)
 block_fetched old at is h = ap (block_for old.geometry old.cpu) is ∙ fetched_some old.geometry old.cpu at h
 
-pub IsActed-fetched : (g : Given) (c d : Contents) (old new : HartState) (at : Span) → old.hand ≡ Nothing → IsFetchedSpan old.geometry old.cpu (Ok at)
+pub IsActed-fetched : (g : Given) (c d : Contents) (old new : HartState) (at : Span) → old.hand ≡ Nothing
+    → IsFetchedSpan old.geometry old.cpu (Ok at)
     → hits c (first_block at) ≡ true → FetchesIn g.input c old new → secured new.hand ≡ 0 → KeepsLines c d → d ≡ read_from (first_block at) c
     → IsActed g c d old new (Taken Moved)
 IsActed-fetched g c d old new at is h hit fetches unsecured lines cache = (
@@ -93,33 +99,39 @@ IsActed-fetched g c d old new at is h hit fetches unsecured lines cache = (
   IsMicroStep-fetch g c d old new is fetches unsecured lines (cache ∙ ap (touched c) (sym (fetched_some old.geometry old.cpu at h))),
 )
 
-pub IsActed-fetch-missing : (g : Given) (c : Contents) (old : HartState) (at : Span) → old.hand ≡ Nothing → IsFetchedSpan old.geometry old.cpu (Ok at)
+pub IsActed-fetch-missing : (g : Given) (c : Contents) (old : HartState) (at : Span) → old.hand ≡ Nothing
+    → IsFetchedSpan old.geometry old.cpu (Ok at)
     → hits c (first_block at) ≡ false → IsActed g c c old old (Missing (first_block at))
 IsActed-fetch-missing g c old at is h miss = (block_fetched old at is h, miss, refl, refl)
 
-pub IsActed-trapped : (g : Given) (c : Contents) (old new : HartState) (cause : Cause) → old.hand ≡ Nothing → IsFetchedSpan old.geometry old.cpu (Err cause)
+pub IsActed-trapped : (g : Given) (c : Contents) (old new : HartState) (cause : Cause) → old.hand ≡ Nothing
+    → IsFetchedSpan old.geometry old.cpu (Err cause)
     → new ≡ begun_with g.input (Trap cause) old → secured new.hand ≡ 0 → IsActed g c c old new (Taken Moved)
 unfolding fetched
 IsActed-trapped g c old new cause is h traps unsecured =
     let none = ap (block_for old.geometry old.cpu) is ∙ fetched_not old.geometry old.cpu cause h in
-    let fetches : FetchesIn g.input c old new = λ blocks whole. traps ∙ ap (λ e. begun_with g.input e old) (sym (effect_trapped old.geometry old.cpu (flat c blocks) cause h)) in (
+    let fetches : FetchesIn g.input c old new =
+    λ blocks whole. traps ∙ ap (λ e. begun_with g.input e old) (sym (effect_trapped old.geometry old.cpu (flat c blocks) cause h)) in (
       subst (HitsNext c) (sym none) tt,
       IsMicroStep-fetch g c c old new is fetches unsecured (kept c) (ap (touched c) (sym (fetched_not old.geometry old.cpu cause h))),
     )
 
 -- ---- a block that is read or written
 
-pub IsActed-taken : (g : Given) (c d : Contents) (old new : HartState) (b : ℕ) (hand : Hand) → old.hand ≡ hand → block_for old.geometry old.cpu hand ≡ Some b
+pub IsActed-taken : (g : Given) (c d : Contents) (old new : HartState) (b : ℕ) (hand : Hand) → old.hand ≡ hand
+    → block_for old.geometry old.cpu hand ≡ Some b
     → hits c b ≡ true → IsMicroStep g c d old new Moved → IsActed g c d old new (Taken Moved)
 IsActed-taken g c d old new b hand is for hit step = (hits_next c old b (ap (block_for old.geometry old.cpu) is ∙ for) hit, step)
 
-pub IsActed-missing : (g : Given) (c : Contents) (old : HartState) (b : ℕ) (hand : Hand) → old.hand ≡ hand → block_for old.geometry old.cpu hand ≡ Some b
+pub IsActed-missing : (g : Given) (c : Contents) (old : HartState) (b : ℕ) (hand : Hand) → old.hand ≡ hand
+    → block_for old.geometry old.cpu hand ≡ Some b
     → hits c b ≡ false → IsActed g c c old old (Missing b)
 IsActed-missing g c old b hand is for miss = (ap (block_for old.geometry old.cpu) is ∙ for, miss, refl, refl)
 
 -- ---- an instruction that retires
 
-pub IsActed-retired : (g : Given) (c : Contents) (old new : HartState) (e : Effect) (wrote : Bool) (step : HartStep) → old.hand ≡ Retiring e wrote
+pub IsActed-retired : (g : Given) (c : Contents) (old new : HartState) (e : Effect) (wrote : Bool) (step : HartStep)
+    → old.hand ≡ Retiring e wrote
     → new ≡ retired g.input e old → step ≡ over_or_retired (epoch_retired g.input e old).over → IsActed g c c old new (Taken step)
 IsActed-retired g c old new e wrote step is hart says = (
   subst (HitsNext c) (sym (ap (block_for old.geometry old.cpu) is)) tt,
@@ -165,7 +177,11 @@ IsActed-secured g c old new e to step is hart says =
         says = says ∙ ap (answer_by g (dirty_count c) old) (sym is);
         memory = λ blocks whole. ap (memory_by old.bytes (flat c blocks)) (sym is);
         agree = λ blocks a. a;
-        room = λ room. omega (arith, secured-room g.free (dirty_count c) g.under_way e to old none (omega (arith, room)), ap (λ (h : HartState). secured h.hand) hart);
+        room = λ room. omega (
+          arith,
+          secured-room g.free (dirty_count c) g.under_way e to old none (omega (arith, room)),
+          ap (λ (h : HartState). secured h.hand) hart,
+        );
         tidy = omega arith;
         cache = ap (cache_by c old) (sym is);
         untouched = λ _. refl;

@@ -110,7 +110,8 @@ extended-low Half Zero v h = omega arith
 extended-low Word Zero v h = omega arith
 extended-low Double Zero v h = omega (arith, h)
 
-pub extended-read : (w : Width) (e : Extend) (v : ℕ) → v < 2 ^ 64 → extended w e (number_at (size_of w) (number_bytes (size_of w) v) 0) ≡ extended w e v
+pub extended-read : (w : Width) (e : Extend) (v : ℕ) → v < 2 ^ 64
+    → extended w e (number_at (size_of w) (number_bytes (size_of w) v) 0) ≡ extended w e v
 extended-read w e v h = ap (extended w e) (number_at-number_bytes (size_of w) v) ∙ extended-low w e v h
 
 -- ---- the low bytes of all its bytes

@@ -25,33 +25,38 @@ use Rattle.thy_hart.proofs.StepLaws.{hit_not_missing, IsStep-acted}
 -- ---- a row, from its first micro-step
 
 -- what is next of the instruction moves it on, whatever else is found
-pub moved-on : (g : Given) (c d : Contents) (old new : HartState) (hand : Hand) (m : MicroStep) (step : HartStep) → m ≡ Taken step → old.hand ≡ hand
+pub moved-on : (g : Given) (c d : Contents) (old new : HartState) (hand : Hand) (m : MicroStep) (step : HartStep) → m ≡ Taken step
+    → old.hand ≡ hand
     → answer_by g (dirty_count c) old hand ≡ Moved → IsActed g c d old new m → IsActed g c d old new (Taken Moved)
 moved-on g c d old new hand m step taken is moves acts =
     let here : IsActed g c d old new (Taken step) = subst (IsActed g c d old new) taken acts in
     subst (λ (s : HartStep). IsActed g c d old new (Taken s)) (here.1.says ∙ ap (answer_by g (dirty_count c) old) is ∙ moves) here
 
-first_by : (g : Given) (c d e : Contents) (h k l : HartState) (moved : ℕ) (last : Option HartStep) → IsActed g c d h k (Taken Moved) → IsSoundHart k
+first_by : (g : Given) (c d e : Contents) (h k l : HartState) (moved : ℕ) (last : Option HartStep) → IsActed g c d h k (Taken Moved)
+    → IsSoundHart k
     → ActsAll g d k (moved_then moved last) e l → ActsAll g c h (moved_then (suc moved) last) e l
 first_by g c d e h k l moved None acts sound rest = (d, k, acts, sound, rest)
 first_by g c d e h k l moved (Some s) acts sound rest = (d, k, acts, sound, rest)
 
 -- one that moved the instruction on comes first
-pub ActsAll-first : (g : Given) (c d e : Contents) (h k l : HartState) (moved : ℕ) (last : Option HartStep) → IsActed g c d h k (Taken Moved) → IsSoundHart k
+pub ActsAll-first : (g : Given) (c d e : Contents) (h k l : HartState) (moved : ℕ) (last : Option HartStep)
+    → IsActed g c d h k (Taken Moved) → IsSoundHart k
     → ActsAll g d k (moved_then moved last) e l → ActsAll g c h (moved_then (moved + 1) last) e l
 ActsAll-first g c d e h k l moved last acts sound rest =
     let one : suc moved ≡ moved + 1 = omega arith in
     subst (λ (n : ℕ). ActsAll g c h (moved_then n last) e l) one (first_by g c d e h k l moved last acts sound rest)
 
 -- the last one may follow, or none
-pub ActsAll-last : (g : Given) (c : Contents) (h k : HartState) (last : Option HartStep) → IfSome last (λ step. (t : Given) (x : Contents) → IsActed t x x h k (Taken step))
+pub ActsAll-last : (g : Given) (c : Contents) (h k : HartState) (last : Option HartStep)
+    → IfSome last (λ step. (t : Given) (x : Contents) → IsActed t x x h k (Taken step))
     → (last ≡ None → k ≡ h) → IsSoundHart k → ActsAll g c h (moved_then 0 last) c k
 ActsAll-last g c h k None acts left sound = (refl, left refl)
 ActsAll-last g c h k (Some s) acts left sound = (c, k, acts g c, sound, (refl, refl))
 
 -- ---- the steps that they are
 
-pub Takes-acted : (g : Given) (held : Holding) → g.free ≡ held.free → (steps : List HartStep) (c d : Contents) (h k : HartState) → IsSoundHart h → IsReady (moment h c held)
+pub Takes-acted : (g : Given) (held : Holding) → g.free ≡ held.free → (steps : List HartStep) (c d : Contents) (h k : HartState)
+    → IsSoundHart h → IsReady (moment h c held)
     → ActsAll g c h steps d k → Takes g held h c steps k d
 Takes-acted g held free [] c d h k sound ready all = (all.1, all.0)
 Takes-acted g held free (s ∷ rest) c d h k sound ready all =
@@ -75,7 +80,8 @@ not_retired : (o : Option EndCause) → Moved ≡ over_or_retired o → ⊥
 not_retired None h = cc h
 not_retired (Some cause) h = cc h
 
-room_by : (short under_way : Bool) (x y z : HartState) (o : EndCause) → Moved ≡ (if short then (if under_way then Waiting else Over o) else Moved)
+room_by : (short under_way : Bool) (x y z : HartState) (o : EndCause)
+    → Moved ≡ (if short then (if under_way then Waiting else Over o) else Moved)
     → Stays x z → Stays x (if short then (if under_way then x else y) else z)
 room_by true true x y z o h stays = cc h
 room_by true false x y z o h stays = cc h

@@ -33,7 +33,8 @@ fetched_block-inside p cpu b h =
     let w = unless_some (fetch_fault p.base (program_size p) cpu.pc) (first_block (span (cpu.pc - p.base) 4)) b h in
     omega (arith, w.1, word_inside p cpu.pc (fetched_inside p cpu.pc w.0))
 
-block_for-inside : (p : Parameters) (cpu : CpuState) (hand : Hand) (have b : ℕ) → IsInHand p hand have → block_for p cpu hand ≡ Some b → b < memory_blocks p
+block_for-inside : (p : Parameters) (cpu : CpuState) (hand : Hand) (have b : ℕ) → IsInHand p hand have → block_for p cpu hand ≡ Some b
+    → b < memory_blocks p
 block_for-inside p cpu Nothing have b w h = fetched_block-inside p cpu b h
 block_for-inside p cpu (Reading e from to) have b w h =
     omega (arith, some_same (first_block from) b h, first_block-inside (memory_blocks p) from w.span_from w.some)
@@ -54,11 +55,13 @@ if_true b x y h = sym (ap (λ t. if t then x else y) h)
 if_false : {A : Type 0} (b : Bool) (x y : A) → b ≡ false → y ≡ (if b then x else y)
 if_false b x y h = sym (ap (λ t. if t then x else y) h)
 
-nearer_by : (b : ℕ) (h : HartState) (c d : Contents) (old new : Holding) → next_block h ≡ Some b → IsNearer b c old d new → ComesNearer (moment h c old) (moment h d new)
+nearer_by : (b : ℕ) (h : HartState) (c d : Contents) (old new : Holding) → next_block h ≡ Some b → IsNearer b c old d new
+    → ComesNearer (moment h c old) (moment h d new)
 nearer_by b h c d old new is (inl less) = inl (omega (arith, less, ap (touch_left c) is, ap (touch_left d) is))
 nearer_by b h c d old new is (inr same) = inr (omega (arith, same.0, ap (touch_left c) is, ap (touch_left d) is), same.1)
 
-pub IsStep-brought : (g : Given) (b : ℕ) (h : HartState) (c d : Contents) (old new : Holding) → IsReady (moment h c old) → next_block h ≡ Some b → hits c b ≡ false
+pub IsStep-brought : (g : Given) (b : ℕ) (h : HartState) (c d : Contents) (old new : Holding) → IsReady (moment h c old)
+    → next_block h ≡ Some b → hits c b ≡ false
     → IsBrought b c old d new → IsStep g (moment h c old) (moment h d new) Moved
 IsStep-brought g b h c d old new r is miss w =
     let brought : is_missing c (next_block h) ≡ true = ap (is_missing c) is ∙ ap not miss in
@@ -135,7 +138,8 @@ nears_by Retired old new h = tt
 nears_by Waiting old new h = tt
 nears_by (Over cause) old new h = tt
 
-pub IsStep-acted : (g : Given) (h k : HartState) (c d : Contents) (held : Holding) (step : HartStep) → g.free ≡ held.free → IsSoundHart h → IsReady (moment h c held)
+pub IsStep-acted : (g : Given) (h k : HartState) (c d : Contents) (held : Holding) (step : HartStep) → g.free ≡ held.free → IsSoundHart h
+    → IsReady (moment h c held)
     → HitsNext c (next_block h) → IsMicroStep g c d h k step → IsStep g (moment h c held) (moment k d held) step
 IsStep-acted g h k c d held step free s r hit a =
     let before = flat c held.blocks in
@@ -144,7 +148,8 @@ IsStep-acted g h k c d held step free s r hit a =
     let exactly = done_by g c d h before (dirty_count c) h.hand s.in_hand hit in
     let hart : k ≡ acted_by g (dirty_count c) before h h.hand = a.hart held.blocks r.blocks in
     let memory : flat d held.blocks ≡ memory_by h.bytes before h.hand = a.memory held.blocks r.blocks in
-    let at_memory = subst (λ m. IsDone g c d h before (acted_by g (dirty_count c) before h h.hand) (answer_by g (dirty_count c) h h.hand) m) (sym memory) exactly in
+    let at_memory = subst (λ m. IsDone g c d h before (acted_by g (dirty_count c) before h h.hand) (answer_by g (dirty_count c) h h.hand) m)
+    (sym memory) exactly in
     let at_hart = subst (λ x. IsDone g c d h before x (answer_by g (dirty_count c) h h.hand) (flat d held.blocks)) (sym hart) at_memory in
     let w : IsDone g c d h before k step (flat d held.blocks) = subst (λ x. IsDone g c d h before k x (flat d held.blocks)) (sym a.says) at_hart in
     record {

@@ -63,7 +63,8 @@ with_hand hand h = record h { hand = hand }
 
 -- an effect that begins or continues reaches the same state as its bytes do
 pub begun-coming : (input : List ℕ) (h : HartState) (m : List Block) (e : Effect) (from to : Span)
-    → coming_by input h m (begun e from to) ≡ led input h e (h.bytes ++ gathered m from) (scattered m to (outgoing e (h.bytes ++ gathered m from)))
+    → coming_by input h m (begun e from to) ≡ led input h e (h.bytes ++ gathered m from)
+    (scattered m to (outgoing e (h.bytes ++ gathered m from)))
 begun-coming input h m e from to =
     let all : List ℕ = h.bytes ++ gathered m from in
     let none_read : from.len ≡ 0 → h.bytes ≡ all
@@ -115,7 +116,8 @@ fault : (p : Parameters) (cpu : CpuState) (m : List Block) → fetched_block p c
 unfolding fetched_block effect_in
 fault p cpu m h = fault_by (fetch_fault p.base (program_size p) cpu.pc) (first_block (span (cpu.pc - p.base) 4)) _ h
 
-fault-hand : (input : List ℕ) (m : List Block) (h : HartState) → fetched_block h.geometry h.cpu ≡ None → (cause : Cause) × ((fetched input m h).hand ≡ Retiring (Trap cause) false)
+fault-hand : (input : List ℕ) (m : List Block) (h : HartState) → fetched_block h.geometry h.cpu ≡ None
+    → (cause : Cause) × ((fetched input m h).hand ≡ Retiring (Trap cause) false)
 unfolding fetched begun moves_of
 fault-hand input m h none =
     let w = fault h.geometry h.cpu m none in
@@ -126,7 +128,8 @@ retiring_left : (d : Contents) (p : Parameters) (cpu : CpuState) (e : Effect) (w
 unfolding left_with
 retiring_left d p cpu e wrote = refl
 
-fetch-falls : (input : List ℕ) (c d : Contents) (h : HartState) (m : List Block) (o : Option ℕ) → fetched_block h.geometry h.cpu ≡ o → HitsNext c o
+fetch-falls : (input : List ℕ) (c d : Contents) (h : HartState) (m : List Block) (o : Option ℕ) → fetched_block h.geometry h.cpu ≡ o
+    → HitsNext c o
     → left_with d h.geometry h.cpu (fetched input m h).hand + 1 ≤ touch_left c o + 13
 unfolding fetched
 fetch-falls input c d h m None is hit =
@@ -194,7 +197,8 @@ module _ (g : Given) (c d : Contents) (h : HartState) (m : List Block) where
         leads = record {
           cpu = refl;
           coming = begun-coming g.input (block_read m e from to k) m e (rest_of from) to
-              ∙ ap (λ bs. led g.input k e bs (scattered m to (outgoing e bs))) (append_assoc h.bytes (head_read m from) (gathered m (rest_of from)) ∙ ap (λ t. h.bytes ++ t) (gathered-rest m from short));
+              ∙ ap (λ bs. led g.input k e bs (scattered m to (outgoing e bs))) (append_assoc h.bytes (head_read m from)
+              (gathered m (rest_of from)) ∙ ap (λ t. h.bytes ++ t) (gathered-rest m from short));
         };
         falls = omega (arith, touch_hit c (first_block from) hit, read-falls d h.geometry h.cpu e from to short);
         unwritten = λ _. refl;
@@ -246,12 +250,14 @@ module _ (g : Given) (c d : Contents) (h : HartState) (m : List Block) where
   }
 
   room-done : (e : Effect) (to : Span) (dirty : ℕ)
-      → IsDone g c d (with_hand (Securing e to) h) m (room_secured g.free g.under_way dirty e to (with_hand (Securing e to) h)) (room_answer g.free g.under_way dirty to) m
+      → IsDone g c d (with_hand (Securing e to) h) m (room_secured g.free g.under_way dirty e to (with_hand (Securing e to) h))
+      (room_answer g.free g.under_way dirty to) m
   unfolding room_secured room_answer
   room-done e to dirty = room_by (nat_lt g.free (dirty + blocks_of to)) g.under_way e to g.free dirty
 
   write-done : (e : Effect) (to : Span) (done : ℕ) → IsWriting h.geometry e to done (length h.bytes) → hits c (first_block to) ≡ true
-      → IsDone g c d (with_hand (Writing e to done) h) m (block_written e to done (with_hand (Writing e to done) h)) Moved (head_put m to (drop done (outgoing e h.bytes)))
+      → IsDone g c d (with_hand (Writing e to done) h) m (block_written e to done (with_hand (Writing e to done) h)) Moved
+      (head_put m to (drop done (outgoing e h.bytes)))
   unfolding coming left_with
   write-done e to done w hit =
       let k = with_hand (Writing e to done) h in
@@ -282,7 +288,8 @@ module _ (g : Given) (c d : Contents) (h : HartState) (m : List Block) where
   over_by P true false p q r = p
   over_by P false last p q r = r
 
-  retire-console : (e : Effect) → h.cpu.console_len ≤ console_room h.geometry → (cpu_after h.geometry g.input h.cpu e h.bytes).console_len ≤ console_room h.geometry
+  retire-console : (e : Effect) → h.cpu.console_len ≤ console_room h.geometry
+      → (cpu_after h.geometry g.input h.cpu e h.bytes).console_len ≤ console_room h.geometry
   unfolding cpu_after
   retire-console e l = finished-room h.cpu e (number_in e h.bytes) (calls_in h.geometry h.cpu (length g.input)) (console_room h.geometry) refl l
 
@@ -293,14 +300,16 @@ module _ (g : Given) (c d : Contents) (h : HartState) (m : List Block) where
       let k = with_hand (Retiring e wrote) h in
       let n = h.epoch.retired + 1 in
       let has_come : HasCome g.input k m (retired g.input e k) m = record { current = refl; hand = refl } in
-      over_by (λ step. IsDone g c d k m (retired g.input e k) step m) (is_running (cpu_after h.geometry g.input h.cpu e h.bytes).status) (n == h.epoch.span)
+      over_by (λ step. IsDone g c d k m (retired g.input e k) step m) (is_running (cpu_after h.geometry g.input h.cpu e h.bytes).status)
+      (n == h.epoch.span)
       (record { leads = has_come; falls = tt; unwritten = λ _. refl; clean = λ _. refl; written = tt; others = λ b no. refl; fixed = refl; long = λ l. l; console = retire-console e })
       (record { leads = has_come; falls = tt; unwritten = λ _. refl; clean = λ _. refl; written = tt; others = λ b no. refl; fixed = refl; long = λ l. l; console = retire-console e })
       (record { leads = has_come; falls = tt; unwritten = λ _. refl; clean = λ _. refl; written = tt; others = λ b no. refl; fixed = refl; long = λ l. l; console = retire-console e })
 
   -- each micro-step does what its definition says, by what is in hand
   pub done_by : (dirty : ℕ) (hand : Hand) → IsInHand h.geometry hand (length h.bytes) → HitsNext c (block_for h.geometry h.cpu hand)
-      → IsDone g c d (with_hand hand h) m (acted_by g dirty m (with_hand hand h) hand) (answer_by g dirty (with_hand hand h) hand) (memory_by h.bytes m hand)
+      → IsDone g c d (with_hand hand h) m (acted_by g dirty m (with_hand hand h) hand) (answer_by g dirty (with_hand hand h) hand)
+      (memory_by h.bytes m hand)
   done_by dirty Nothing w hit = fetch-done hit
   done_by dirty (Reading e from to) w hit = read-done e from to w.span_from.short hit
   done_by dirty (Securing e to) w hit = room-done e to dirty

@@ -4,6 +4,7 @@ ghost use Rattle.thy_block.specs.Device.{CountsOneFault};
 ghost use Rattle.thy_cache.specs.Contents.{dirty_count};
 ghost use Rattle.thy_isa.specs.declared.state.Status.TheVariants.{Running};
 ghost use Rattle.thy_isa.specs.Step.{cpu_crossed};
+ghost use Rattle.thy_processor.specs.Processor.{IsAloneIf};
 ghost use Rattle.thy_hart.specs.declared.hand.Hand.TheVariants.{Nothing};
 ghost use Rattle.thy_hart.specs.Epoch.{next_epoch};
 ghost use Rattle.thy_hart.specs.Bring.{CallsStore};
@@ -159,17 +160,28 @@ impl Hart {
         }
     }
 
+    /// Whether there is no other hart.
+    #[inline(always)]
+    pub fn is_alone(&self) -> bool
+        ensures { IsAloneIf result self.now.cpu }
+    {
+        self.parts.cpu.is_alone()
+    }
+
     /// Takes the steps of the next instruction in a row, if none is in hand: as far as they bring no line, if it moves at most
     /// 8 bytes within one block. It answers how many moved it on, 3 at most, and the step that ended the row, if one did. It
-    /// may take none, and can't fail.
+    /// may take none, and can't fail. There is no other hart if `alone` says so. The type `N` makes a copy of its own for each
+    /// caller.
     #[inline(always)]
     pub fn step_on<N>(
         &mut self,
+        alone: bool,
         cache: &mut Cache,
         free: u64,
         under_way: bool,
         input: &[u8],
     ) -> (u64, Option<HartStep>)
+        requires alone { IsAloneIf alone self.old.cpu }
         requires going { self.old.epoch.over ≡ None }
         requires count { self.old.cpu.count + 1 < 2 ^ 64 }
         ensures takes { (held : Holding) → IsReady (moment self.old cache.old held) → free ≡ held.free
@@ -178,6 +190,7 @@ impl Hart {
         ensures few { result.0 ≤ 3 }
         ensures left { result.0 ≡ 0 → (result.1 ≡ None) × (self.new ≡ self.old) × (cache.new ≡ cache.old) }
     {
-        self.parts.act_on::<N>(cache, free, under_way, input)
+        self.parts
+            .act_in_row::<N>(alone, cache, free, under_way, input)
     }
 }

@@ -672,6 +672,26 @@ impl HartParts {
         );
     }
 
+    /// Writes the bytes of the number that is stored into the line of their block, which is at this location. This is never made
+    /// part of the loop: there the bytes would be cleared for every instruction.
+    #[inline(never)]
+    fn put_value(&self, cache: &mut Cache, location: LineLocation)
+        requires sound { IsSoundParts self.now }
+        requires stage { self.now.hand.stage ≡ Stores }
+        requires found { location_of cache.old (first_block (span_of self.now.hand.access)) ≡ Some location }
+        ensures whole { first_byte (span_of self.now.hand.access) + (span_of self.now.hand.access).len ≤ 64 }
+        ensures cache { cache.new ≡ written_by cache.old (span_of self.now.hand.access) (drop 0 (value_bytes self.now.hand)) }
+        ensures memory { WritesIn (memory_blocks self.now.geometry) cache.old cache.new (span_of self.now.hand.access)
+            (drop 0 (value_bytes self.now.hand)) }
+        ensures agree { AgreesStill cache.old cache.new }
+        ensures room { dirty_count cache.new ≤ dirty_count cache.old + 1 }
+        ensures sized { KeepsSize cache.old cache.new }
+    {
+        let to = self.hand.access.span();
+        let bytes = self.hand.value.to_le_bytes();
+        self.put::<()>(cache, location, &bytes[..to.len as usize], to, 0);
+    }
+
     /// Writes the bytes of a store, whose block's line is at this location.
     #[inline(always)]
     fn store_at<N>(&mut self, cache: &mut Cache, location: LineLocation)
@@ -688,9 +708,7 @@ impl HartParts {
         ensures room { dirty_count cache.new ≤ dirty_count cache.old + 1 }
         ensures sized { KeepsSize cache.old cache.new }
     {
-        let to = self.hand.access.span();
-        let bytes = self.hand.value.to_le_bytes();
-        self.put::<N>(cache, location, &bytes[..to.len as usize], to, 0);
+        self.put_value(cache, location);
         self.hand.stage = Stage::Stored;
     }
 
@@ -907,7 +925,7 @@ impl HartParts {
         }
     }
 
-    /// Takes the micro-steps in a row of an instruction that was fetched, as `act_on` answers.
+    /// Takes the micro-steps in a row of an instruction that was fetched, as `act_in_row` answers.
     #[inline(always)]
     fn act_fetched<N>(
         &mut self,
@@ -938,7 +956,7 @@ impl HartParts {
         }
     }
 
-    /// Fetches the next instruction, and takes its other micro-steps in a row, as `act_on` answers.
+    /// Fetches the next instruction, and takes its other micro-steps in a row, as `act_in_row` answers.
     #[inline(always)]
     fn act_from_fetch<N>(
         &mut self,
@@ -968,9 +986,11 @@ impl HartParts {
         }
     }
 
-    /// Takes the micro-steps of the next instruction in a row, as `act_on` answers.
+    /// Takes the micro-steps of the next instruction in a row, if none is in hand: as long as each moves it on, its line is there,
+    /// and it is in no pieces. It answers how many moved it on, and the step that ended the row, if one did that was taken. The
+    /// number of a hart that is alone is a constant all through the row.
     #[inline(always)]
-    fn act_in_row<N>(
+    pub fn act_in_row<N>(
         &mut self,
         alone: bool,
         cache: &mut Cache,
@@ -999,53 +1019,5 @@ impl HartParts {
             | Stage::Stored
             | Stage::InPieces => (0, None),
         }
-    }
-
-    /// Takes the micro-steps of the next instruction in a row, if none is in hand: as long as each moves it on, its line is there,
-    /// and it is in no pieces. It answers how many moved it on, and the step that ended the row, if one did that was taken. The
-    /// number of a hart that is alone is a constant all through the row.
-    #[inline(always)]
-    pub fn act_on<N>(
-        &mut self,
-        cache: &mut Cache,
-        free: u64,
-        under_way: bool,
-        input: &[u8],
-    ) -> (u64, Option<HartStep>)
-        requires sound { IsSoundParts self.old }
-        requires count { self.old.cpu.count + 1 < 2 ^ 64 }
-        requires going { self.old.epoch.over ≡ None }
-        ensures acts { ActsAll (given input.now free under_way)
-            cache.old (hart_state_of self.old) (moved_then result.0 result.1) cache.new (hart_state_of self.new) }
-        ensures few { result.0 ≤ 3 }
-        ensures left { result.0 ≡ 0 → (result.1 ≡ None) × (hart_state_of self.new ≡ hart_state_of self.old) × (cache.new ≡ cache.old) }
-        ensures sound { IsSoundParts self.new }
-    {
-        if self.cpu.is_alone() {
-            self.act_in_row::<N>(true, cache, free, under_way, input)
-        } else {
-            self.act_among::<N>(cache, free, under_way, input)
-        }
-    }
-
-    /// Takes the micro-steps of the next instruction in a row, as `act_on` answers, of one hart of several.
-    #[inline(never)]
-    fn act_among<N>(
-        &mut self,
-        cache: &mut Cache,
-        free: u64,
-        under_way: bool,
-        input: &[u8],
-    ) -> (u64, Option<HartStep>)
-        requires sound { IsSoundParts self.old }
-        requires count { self.old.cpu.count + 1 < 2 ^ 64 }
-        requires going { self.old.epoch.over ≡ None }
-        ensures acts { ActsAll (given input.now free under_way)
-            cache.old (hart_state_of self.old) (moved_then result.0 result.1) cache.new (hart_state_of self.new) }
-        ensures few { result.0 ≤ 3 }
-        ensures left { result.0 ≡ 0 → (result.1 ≡ None) × (hart_state_of self.new ≡ hart_state_of self.old) × (cache.new ≡ cache.old) }
-        ensures sound { IsSoundParts self.new }
-    {
-        self.act_in_row::<(N, ())>(false, cache, free, under_way, input)
     }
 }

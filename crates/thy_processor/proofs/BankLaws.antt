@@ -42,7 +42,8 @@ pub losing-is : (at len k : ℕ) (l : List HartOf) (d e : HartOf) (r : Reservati
     → record { pc = (get_or l k e).pc; regs = (get_or l k e).regs; reserved = r } ≡ losing at len (hart_at l k)
 losing-is at len k l d e r h left =
     ap (λ (x : HartOf). record x { reserved = r }) (same_at l k e no_hart h)
-    ∙ ap (λ (s : Reservation). record (hart_at l k) { reserved = s }) (left ∙ ap (λ (x : HartOf). left_by at len x.reserved) (same_at l k d no_hart h))
+    ∙ ap (λ (s : Reservation). record (hart_at l k) { reserved = s })
+    (left ∙ ap (λ (x : HartOf). left_by at len x.reserved) (same_at l k d no_hart h))
 
 -- one more is put into its place
 pub changed-put : (f : HartOf → HartOf) (k : ℕ) (l m : List HartOf) (x : HartOf) → m ≡ changed_to f k l → k < length l → x ≡ f (hart_at m k)

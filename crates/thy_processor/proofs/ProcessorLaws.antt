@@ -151,7 +151,8 @@ served-harts h p (Break at) = length-set p.harts h _
 served-harts h p (Take at len) = length-set (written_by at len h p.harts) h _ ∙ length-written_by at len h p.harts
 served-harts h p (Give at len) = length-set p.harts h _
 
-pub finished-harts : (h : ℕ) (p : ProcessorState) (e : Effect) (n : ℕ) (c : CallState) → length (processor_finished h p e n c).harts ≡ length p.harts
+pub finished-harts : (h : ℕ) (p : ProcessorState) (e : Effect) (n : ℕ) (c : CallState)
+    → length (processor_finished h p e n c).harts ≡ length p.harts
 unfolding processor_finished
 finished-harts h p (Next pc) n c = length-set p.harts h _
 finished-harts h p (Set rd pc v) n c = length-set p.harts h _
@@ -185,7 +186,8 @@ finished-len len c (Modify op rd width pc at v) n k h = refl
 finished-len len c Environment n k h = absurd (h refl)
 finished-len len c (Trap cause) n k h = refl
 
-pub finished-front : (h len : ℕ) (p : ProcessorState) (e : Effect) (n : ℕ) (c : CallState) → length p.harts ≤ 2 → h < length p.harts → e ≢ Environment
+pub finished-front : (h len : ℕ) (p : ProcessorState) (e : Effect) (n : ℕ) (c : CallState) → length p.harts ≤ 2 → h < length p.harts
+    → e ≢ Environment
     → cpu_at h len (processor_finished h p e n c) ≡ finished (cpu_at h len p) e n c
 unfolding with_len
 finished-front h len p e n c few there alone =
@@ -225,14 +227,16 @@ alone-first zero (a ∷ b ∷ more) there alone = refl
 alone-first (suc h) (a ∷ b ∷ more) there alone = cc alone
 
 -- the number of harts says whether it is
-pub alone-few : (h : ℕ) (harts : List HartOf) → h < length harts → length harts ≤ 2 → nat_lt (length harts) 2 ≡ true → other_of h harts ≡ None
+pub alone-few : (h : ℕ) (harts : List HartOf) → h < length harts → length harts ≤ 2 → nat_lt (length harts) 2 ≡ true
+    → other_of h harts ≡ None
 alone-few h [] there few one = absurd (omega (arith, there))
 alone-few zero (a ∷ []) there few one = refl
 alone-few (suc h) (a ∷ []) there few one = absurd (omega (arith, there))
 alone-few h (a ∷ b ∷ []) there few one = cc one
 alone-few h (a ∷ b ∷ d ∷ more) there few one = absurd (omega (arith, few))
 
-pub few-alone : (h : ℕ) (harts : List HartOf) → h < length harts → length harts ≤ 2 → other_of h harts ≡ None → nat_lt (length harts) 2 ≡ true
+pub few-alone : (h : ℕ) (harts : List HartOf) → h < length harts → length harts ≤ 2 → other_of h harts ≡ None
+    → nat_lt (length harts) 2 ≡ true
 few-alone h [] there few alone = absurd (omega (arith, there))
 few-alone h (a ∷ []) there few alone = refl
 few-alone zero (a ∷ b ∷ []) there few alone = cc alone

@@ -7,13 +7,14 @@ ghost use Rattle.thy_isa.specs.declared.state.Effect.TheVariants.{Environment};
 ghost use Rattle.thy_isa.specs.Calls.{call_of};
 ghost use Rattle.thy_isa.specs.Reservations.{left_by};
 ghost use Rattle.thy_isa.specs.Effects.{after};
+ghost use Rattle.thy_isa.specs.Extending.{extended};
 ghost use Rattle.thy_isa.specs.Regs.{regs_with};
 ghost use Rattle.thy_processor.specs.Processor.{hart_at, losing, written_by, with_hart, after_write, retiring, hart_answered, processor_served, processor_finished, len_served, len_after, processor_of, other_of, cpu_at};
 
 use std::marker::Model;
 use thy_isa::{
-    Call, CallState, CpuState, Effect, Extend, OtherHart, Reg, Regs, Reservation, Status, after,
-    bytes_in, call, cause_number, extended, left_by, reservation,
+    Call, CallState, CpuState, Effect, Extend, OtherHart, Reg, Regs, Reservation, Status, Width,
+    after, bytes_in, call, cause_number, extended, left_by, reservation,
 };
 
 /// How many harts a processor has at most.
@@ -238,7 +239,7 @@ impl Processor {
                 extend,
                 rd,
                 ..
-            } => self.set(hart, pc, rd, extended(width, extend, number)),
+            } => self.set(hart, pc, rd, loaded(width, extend, number)),
             Effect::Reserve { rd, width, pc, at } => {
                 let value = extended(width, Extend::Sign, number);
                 self.set_reserving(hart, pc, rd, value, reservation(width, at));
@@ -382,6 +383,18 @@ impl Processor {
             status: self.status,
             other: self.other(hart),
         }
+    }
+}
+
+/// What a load makes of the number that it read. Most loads are of 8 bytes, which leave nothing to be filled.
+#[inline(always)]
+#[tactic(auto, unfolding(thy_isa::specs::Extending::extended))]
+fn loaded(width: Width, extend: Extend, number: u64) -> u64
+    ensures { result ≡ extended width extend number }
+{
+    match width {
+        Width::Double => number,
+        Width::Byte | Width::Half | Width::Word => extended(width, extend, number),
     }
 }
 

@@ -11,6 +11,8 @@ returns-clause-room g c = λ done.
     let set = c.victim_location-set.result.0 in
     let way = c.victim_location-set.result.1 in
     let cleaned : c.store_line.new.self ≡ cleaned_at set way old = rw done at c.store_line.ensures.cache in
-    let stored : StoresLine Done (line_at (set_at old set) way) (g.S.BlockStore.holding c.args.store.now c.args.nvm.now) (g.S.BlockStore.holding c.store_line.new.store c.store_line.new.nvm)
+    let stored : StoresLine Done (line_at (set_at old set) way) (g.S.BlockStore.holding c.args.store.now c.args.nvm.now)
+    (g.S.BlockStore.holding c.store_line.new.store c.store_line.new.nvm)
     = rw done at c.store_line.ensures.store in
-    evict-room_at old c.store_line.new.self c.args.b set way stored.line c.victim_location-set.ensures.set c.victim_location-set.ensures.inside c.victim_location-set.ensures.way cleaned stored.stands
+    evict-room_at old c.store_line.new.self c.args.b set way stored.line c.victim_location-set.ensures.set
+    c.victim_location-set.ensures.inside c.victim_location-set.ensures.way cleaned stored.stands

@@ -10,7 +10,8 @@ use Rattle.thy_cache.proofs.cache.Cache.fill.Goals as goal
 pub returns-clause-once : goal.returns-clause-once
 returns-clause-once g c = c.in_ok-block.ensures.once
 
-can : (g : Over) (c : goal.After-location g) → CanFill c.args.self.now (g.S.BlockStore.holding c.args.store.now c.args.nvm.now).blocks c.args.b c.in_ok-block.block
+can : (g : Over) (c : goal.After-location g)
+    → CanFill c.args.self.now (g.S.BlockStore.holding c.args.store.now c.args.nvm.now).blocks c.args.b c.in_ok-block.block
 can g c = record {
   set = c.location.ensures.inside;
   way = c.location.ensures.way;

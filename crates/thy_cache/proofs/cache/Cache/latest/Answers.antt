@@ -7,5 +7,6 @@ use Rattle.thy_cache.proofs.cache.Cache.latest.Goals as goal
 
 pub returns-in-Some-clause-hit : goal.returns-in-Some-clause-hit
 returns-in-Some-clause-hit c =
-    let found : location_of c.args.self.now c.args.b ≡ Some (record { set = c.index_of-set.result; way = c.in-Some.way }) = grind (arith, common_steps) in
+    let found : location_of c.args.self.now c.args.b ≡ Some (record { set = c.index_of-set.result; way = c.in-Some.way }) =
+    grind (arith, common_steps) in
     sym (location-hits c.args.self.now c.args.b) ∙ ap is_some found

@@ -14,5 +14,6 @@ overflow_add-self c =
     let hit : hits now c.args.b ≡ true = sym (location-hits now c.args.b) ∙ ap is_some c.requires.location in
     let clean : is_dirty (line_of now c.args.b) ≡ false = ap is_dirty c.line_in.ensures ∙ c.if-not-was_dirty.true in
     let fits : c.self.inside.dirty + 1 < 2 ^ 64
-    = write-fits now c.args.b c.args.at c.args.bytes.now c.self.inside.dirty c.self.inside.modulus sound (location-inside now c.args.b sound.some_set) hit clean in
+    = write-fits now c.args.b c.args.at c.args.bytes.now c.self.inside.dirty c.self.inside.modulus sound
+    (location-inside now c.args.b sound.some_set) hit clean in
     omega arith

@@ -9,12 +9,14 @@ use Rattle.thy_hart.proofs.micro_steps.HartParts.act.Goals as goal
 pub retire-requires-clause-number : goal.retire-requires-clause-number
 retire-requires-clause-number g c = λ calls.
     let i = c.args.self.now.hand in
-    finished-other c.args.self.now.cpu c.jump-effect.result _ (bytes_by i.stage i) calls c.jump-effect.ensures (number-jump i.pc (bytes_by i.stage i))
+    finished-other c.args.self.now.cpu c.jump-effect.result _ (bytes_by i.stage i) calls c.jump-effect.ensures
+    (number-jump i.pc (bytes_by i.stage i))
 
 pub retire-requires-in-Sets-clause-number : goal.retire-requires-in-Sets-clause-number
 retire-requires-in-Sets-clause-number g c = λ calls.
     let i = c.args.self.now.hand in
-    finished-other c.args.self.now.cpu c.set-effect.result _ (bytes_by i.stage i) calls c.set-effect.ensures (number-set i.rd i.pc i.value (bytes_by i.stage i))
+    finished-other c.args.self.now.cpu c.set-effect.result _ (bytes_by i.stage i) calls c.set-effect.ensures
+    (number-set i.rd i.pc i.value (bytes_by i.stage i))
 
 pub retire-requires-in-Loaded-clause-number : goal.retire-requires-in-Loaded-clause-number
 retire-requires-in-Loaded-clause-number g c = λ calls.
@@ -24,8 +26,10 @@ retire-requires-in-Loaded-clause-number g c = λ calls.
     let load = finished-loaded cpu i.rd i.access.1 i.extend i.pc i.address i.value calls fits in
     let here = subst (λ bytes. finished cpu (load_of i) i.value calls ≡ finished cpu (load_of i) (number_in (load_of i) bytes) calls)
     (sym (ap (λ st. bytes_by st i) c.in-Loaded.is)) load in
-    let effect = subst (λ e. finished cpu e i.value calls ≡ finished cpu e (number_in e (bytes_by i.stage i)) calls) (sym c.load-effect.ensures) here in
-    subst (λ n. finished cpu c.load-effect.result n calls ≡ finished cpu c.load-effect.result (number_in c.load-effect.result (bytes_by i.stage i)) calls)
+    let effect = subst (λ e. finished cpu e i.value calls ≡ finished cpu e (number_in e (bytes_by i.stage i)) calls)
+    (sym c.load-effect.ensures) here in
+    subst (λ n. finished cpu c.load-effect.result n calls ≡ finished cpu c.load-effect.result
+    (number_in c.load-effect.result (bytes_by i.stage i)) calls)
     (sym c.number-number.ensures) effect
 
 pub retire-requires-in-Stored-clause-number : goal.retire-requires-in-Stored-clause-number

@@ -9,5 +9,6 @@ returns-in-Loads-clause-acts g c = λ input. c.load_on.ensures.acts (given input
 
 pub returns-in-Idle-clause-acts : goal.returns-in-Idle-clause-acts
 returns-in-Idle-clause-acts g c = λ input.
-    ActsAll-last (given input c.args.free c.args.under_way) c.args.cache.now (hart_state_of c.args.self.now) (hart_state_of c.retire_next.new.self) c.retire_next.result
+    ActsAll-last (given input c.args.free c.args.under_way) c.args.cache.now (hart_state_of c.args.self.now)
+    (hart_state_of c.retire_next.new.self) c.retire_next.result
     c.retire_next.ensures.acts (λ none. ap hart_state_of (c.retire_next.ensures.left none)) c.retire_next.ensures.sound.hart

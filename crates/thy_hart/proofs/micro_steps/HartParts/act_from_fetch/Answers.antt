@@ -17,7 +17,8 @@ act_fetched-moved-requires-clause-count g c =
     let k : HartState = hart_state_of c.fetch.new.self in
     let x = c.args.cache.now in
     let d = c.fetch.new.cache in
-    let acts = moved-on t x d h k Nothing c.fetch.result c.in-Taken.field-0 c.in-Taken.is (ap (λ st. hand_by st i) c.requires.stage) refl (c.fetch.ensures.acts c.args.free c.args.under_way) in
+    let acts = moved-on t x d h k Nothing c.fetch.result c.in-Taken.field-0 c.in-Taken.is (ap (λ st. hand_by st i) c.requires.stage) refl
+    (c.fetch.ensures.acts c.args.free c.args.under_way) in
     omega (arith, c.requires.count, ap (λ (y : CpuState). y.count) (IsActed-stays t x d h k acts).cpu)
 
 pub act_fetched-moved-requires-clause-alone : goal.act_fetched-moved-requires-clause-alone
@@ -28,7 +29,8 @@ act_fetched-moved-requires-clause-alone g c = λ yes.
     let k : HartState = hart_state_of c.fetch.new.self in
     let x = c.args.cache.now in
     let d = c.fetch.new.cache in
-    let acts = moved-on t x d h k Nothing c.fetch.result c.in-Taken.field-0 c.in-Taken.is (ap (λ st. hand_by st i) c.requires.stage) refl (c.fetch.ensures.acts c.args.free c.args.under_way) in
+    let acts = moved-on t x d h k Nothing c.fetch.result c.in-Taken.field-0 c.in-Taken.is (ap (λ st. hand_by st i) c.requires.stage) refl
+    (c.fetch.ensures.acts c.args.free c.args.under_way) in
     ap (λ (y : CpuState). y.other) (IsActed-stays t x d h k acts).cpu ∙ c.requires.alone yes
 
 pub act_fetched-moved-requires-clause-going : goal.act_fetched-moved-requires-clause-going
@@ -39,7 +41,8 @@ act_fetched-moved-requires-clause-going g c =
     let k : HartState = hart_state_of c.fetch.new.self in
     let x = c.args.cache.now in
     let d = c.fetch.new.cache in
-    let acts = moved-on t x d h k Nothing c.fetch.result c.in-Taken.field-0 c.in-Taken.is (ap (λ st. hand_by st i) c.requires.stage) refl (c.fetch.ensures.acts c.args.free c.args.under_way) in
+    let acts = moved-on t x d h k Nothing c.fetch.result c.in-Taken.field-0 c.in-Taken.is (ap (λ st. hand_by st i) c.requires.stage) refl
+    (c.fetch.ensures.acts c.args.free c.args.under_way) in
     ap (λ (y : Epoch). y.over) (IsActed-stays t x d h k acts).epoch ∙ c.requires.going
 
 pub returns-in-Taken-clause-acts : goal.returns-in-Taken-clause-acts
@@ -50,8 +53,10 @@ returns-in-Taken-clause-acts g c =
     let k : HartState = hart_state_of c.fetch.new.self in
     let x = c.args.cache.now in
     let d = c.fetch.new.cache in
-    let acts = moved-on t x d h k Nothing c.fetch.result c.in-Taken.field-0 c.in-Taken.is (ap (λ st. hand_by st i) c.requires.stage) refl (c.fetch.ensures.acts c.args.free c.args.under_way) in
-    ActsAll-first t x d c.act_fetched-moved.new.cache h k (hart_state_of c.act_fetched-moved.new.self) c.act_fetched-moved.result.0 c.act_fetched-moved.result.1 acts c.fetch.ensures.sound.hart
+    let acts = moved-on t x d h k Nothing c.fetch.result c.in-Taken.field-0 c.in-Taken.is (ap (λ st. hand_by st i) c.requires.stage) refl
+    (c.fetch.ensures.acts c.args.free c.args.under_way) in
+    ActsAll-first t x d c.act_fetched-moved.new.cache h k (hart_state_of c.act_fetched-moved.new.self) c.act_fetched-moved.result.0
+    c.act_fetched-moved.result.1 acts c.fetch.ensures.sound.hart
     (c.act_fetched-moved.ensures.acts c.args.input.now)
 
 pub returns-in-Missing-clause-acts : goal.returns-in-Missing-clause-acts

@@ -16,9 +16,12 @@ returns-clause-hart g c =
     let s : Span = span_of i.access in
     let block = c.block_in.result.now in
     let whole : first_byte s + s.len ≤ 64 = subst (λ (x : Span). first_byte x + x.len ≤ 64) c.span.ensures.span c.span.ensures.whole in
-    let reading = subst (λ st. IsInHand c.args.self.now.geometry (hand_by st i) (length (bytes_by st i))) c.requires.stage c.requires.sound.hart.in_hand in
-    let inside : first_block s < memory_blocks c.args.self.now.geometry = first_block-inside (memory_blocks c.args.self.now.geometry) s reading.span_from reading.some in
-    let reads = subst (λ b. ReadsAs c.args.cache.now b block) (c.first_block-b.ensures ∙ ap first_block c.span.ensures.span) c.block_in.ensures.reads in
+    let reading = subst (λ st. IsInHand c.args.self.now.geometry (hand_by st i) (length (bytes_by st i))) c.requires.stage
+    c.requires.sound.hart.in_hand in
+    let inside : first_block s < memory_blocks c.args.self.now.geometry =
+    first_block-inside (memory_blocks c.args.self.now.geometry) s reading.span_from reading.some in
+    let reads = subst (λ b. ReadsAs c.args.cache.now b block)
+    (c.first_block-b.ensures ∙ ap first_block c.span.ensures.span) c.block_in.ensures.reads in
     load-reads c.args.self.now c.args.cache.now block c.number_of-self.result whole inside reads
     (c.number_of-self.ensures ∙ ap (λ t. take s.len (drop (first_byte s) t)) c.bytes.ensures.bytes)
 

@@ -20,7 +20,8 @@ returns-in-Some-clause-acts c =
     let new : HartState = hart_state_of c.load_at.new.self in
     let found = found_hits c.args.cache.now c.first_block-b.result c.find.result c.in-Some.location c.find.ensures.hit c.in-Some.is in
     let hit = subst (λ b. hits c.args.cache.now b ≡ true) (c.first_block-b.ensures ∙ ap first_block c.span.ensures.span) found in
-    λ t. subst (λ h. IsActed t c.args.cache.now c.load_at.new.cache h new (Taken Moved)) (ap (λ st. at_stage st c.args.self.now) (sym c.requires.stage))
+    λ t. subst (λ h. IsActed t c.args.cache.now c.load_at.new.cache h new (Taken Moved))
+    (ap (λ st. at_stage st c.args.self.now) (sym c.requires.stage))
     (IsActed-taken t c.args.cache.now c.load_at.new.cache old new (first_block s) (Reading (load_of i) s (span 0 0)) refl refl hit
     (IsMicroStep-read t c.args.cache.now c.load_at.new.cache old new (load_of i) s (span 0 0) refl c.load_at.ensures.hart
     c.load_at.ensures.unsecured c.load_at.ensures.lines c.load_at.ensures.cache))

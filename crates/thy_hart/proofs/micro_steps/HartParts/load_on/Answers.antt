@@ -18,7 +18,8 @@ retire_next-requires-clause-count g c =
     let t = given [] 0 false in
     let h : HartState = hart_state_of c.args.self.now in
     let k : HartState = hart_state_of c.load.new.self in
-    let acts = moved-on t c.args.cache.now c.load.new.cache h k hand c.load.result c.in-Taken.field-0 c.in-Taken.is (ap (λ st. hand_by st i) c.requires.stage) refl (c.load.ensures.acts t) in
+    let acts = moved-on t c.args.cache.now c.load.new.cache h k hand c.load.result c.in-Taken.field-0 c.in-Taken.is
+    (ap (λ st. hand_by st i) c.requires.stage) refl (c.load.ensures.acts t) in
     omega (arith, c.requires.count, ap (λ (x : CpuState). x.count) (IsActed-stays t c.args.cache.now c.load.new.cache h k acts).cpu)
 
 pub retire_next-requires-clause-alone : goal.retire_next-requires-clause-alone
@@ -28,7 +29,8 @@ retire_next-requires-clause-alone g c = λ yes.
     let t = given [] 0 false in
     let h : HartState = hart_state_of c.args.self.now in
     let k : HartState = hart_state_of c.load.new.self in
-    let acts = moved-on t c.args.cache.now c.load.new.cache h k hand c.load.result c.in-Taken.field-0 c.in-Taken.is (ap (λ st. hand_by st i) c.requires.stage) refl (c.load.ensures.acts t) in
+    let acts = moved-on t c.args.cache.now c.load.new.cache h k hand c.load.result c.in-Taken.field-0 c.in-Taken.is
+    (ap (λ st. hand_by st i) c.requires.stage) refl (c.load.ensures.acts t) in
     ap (λ (x : CpuState). x.other) (IsActed-stays t c.args.cache.now c.load.new.cache h k acts).cpu ∙ c.requires.alone yes
 
 pub retire_next-requires-clause-going : goal.retire_next-requires-clause-going
@@ -38,7 +40,8 @@ retire_next-requires-clause-going g c =
     let t = given [] 0 false in
     let h : HartState = hart_state_of c.args.self.now in
     let k : HartState = hart_state_of c.load.new.self in
-    let acts = moved-on t c.args.cache.now c.load.new.cache h k hand c.load.result c.in-Taken.field-0 c.in-Taken.is (ap (λ st. hand_by st i) c.requires.stage) refl (c.load.ensures.acts t) in
+    let acts = moved-on t c.args.cache.now c.load.new.cache h k hand c.load.result c.in-Taken.field-0 c.in-Taken.is
+    (ap (λ st. hand_by st i) c.requires.stage) refl (c.load.ensures.acts t) in
     ap (λ (x : Epoch). x.over) (IsActed-stays t c.args.cache.now c.load.new.cache h k acts).epoch ∙ c.requires.going
 
 pub returns-in-Taken-clause-acts : goal.returns-in-Taken-clause-acts
@@ -49,11 +52,14 @@ returns-in-Taken-clause-acts g c = λ t.
     let k : HartState = hart_state_of c.load.new.self in
     let l : HartState = hart_state_of c.retire_next.new.self in
     let d = c.load.new.cache in
-    let acts = moved-on t c.args.cache.now d h k hand c.load.result c.in-Taken.field-0 c.in-Taken.is (ap (λ st. hand_by st i) c.requires.stage) refl (c.load.ensures.acts t) in
+    let acts = moved-on t c.args.cache.now d h k hand c.load.result c.in-Taken.field-0 c.in-Taken.is
+    (ap (λ st. hand_by st i) c.requires.stage) refl (c.load.ensures.acts t) in
     ActsAll-first t c.args.cache.now d d h k l 0 c.retire_next.result acts c.load.ensures.sound.hart
-    (ActsAll-last t d k l c.retire_next.result c.retire_next.ensures.acts (λ none. ap hart_state_of (c.retire_next.ensures.left none)) c.retire_next.ensures.sound.hart)
+    (ActsAll-last t d k l c.retire_next.result c.retire_next.ensures.acts
+    (λ none. ap hart_state_of (c.retire_next.ensures.left none)) c.retire_next.ensures.sound.hart)
 
 pub returns-in-Missing-clause-acts : goal.returns-in-Missing-clause-acts
 returns-in-Missing-clause-acts g c = λ t.
-    let missing = subst (IsActed t c.args.cache.now c.load.new.cache (hart_state_of c.args.self.now) (hart_state_of c.load.new.self)) c.in-Missing.is (c.load.ensures.acts t) in
+    let missing = subst (IsActed t c.args.cache.now c.load.new.cache (hart_state_of c.args.self.now) (hart_state_of c.load.new.self))
+    c.in-Missing.is (c.load.ensures.acts t) in
     (missing.3, missing.2)

@@ -9,7 +9,8 @@ use Rattle.thy_hart.proofs.micro_steps.HartParts.read_piece.Goals as goal
 pub returns-clause-sound : goal.returns-clause-sound
 returns-clause-sound c = record {
   range = c.requires.range;
-  in_hand = read-sound c.args.self.now.geometry c.args.effect c.args.from c.args.to c.block_in.result.now c.args.self.now.hand.bytes.items c.take_head.new.piece.items c.begun-self.result
+  in_hand = read-sound c.args.self.now.geometry c.args.effect c.args.from c.args.to c.block_in.result.now c.args.self.now.hand.bytes.items
+      c.take_head.new.piece.items c.begun-self.result
       c.requires.reading c.take_head.ensures (c.begun-self.ensures ∙ ap (λ (s : Span). begun c.args.effect s c.args.to) c.rest.ensures);
 }
 

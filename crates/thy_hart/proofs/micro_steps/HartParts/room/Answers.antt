@@ -16,7 +16,8 @@ returns-clause-acts g c = λ input.
     let s : Span = span_of i.access in
     let t = given input c.args.free c.args.under_way in
     let new : HartState = hart_state_of c.secure.new.self in
-    subst (λ (h : HartState). IsActed t c.args.cache.now c.args.cache.now h new (Taken c.secure.result)) (ap (λ st. at_stage st c.args.self.now) (sym c.requires.stage))
+    subst (λ (h : HartState). IsActed t c.args.cache.now c.args.cache.now h new (Taken c.secure.result))
+    (ap (λ st. at_stage st c.args.self.now) (sym c.requires.stage))
     (IsActed-secured t c.args.cache.now (at_stage Secures c.args.self.now) new (store_of i) s c.secure.result refl
     (subst (λ (d : ℕ). new ≡ room_secured c.args.free c.args.under_way d (store_of i) s (at_stage Secures c.args.self.now)) c.dirty.ensures c.secure.ensures.hart)
     (subst (λ (d : ℕ). c.secure.result ≡ room_answer c.args.free c.args.under_way d s) c.dirty.ensures c.secure.ensures.says))

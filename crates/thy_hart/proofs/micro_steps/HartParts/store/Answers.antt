@@ -20,13 +20,16 @@ returns-in-Some-clause-acts g c =
     let new : HartState = hart_state_of c.store_at.new.self in
     let found = rw c.in-Some.is at c.latest.ensures.hit in
     let hit = subst (λ b. hits c.args.cache.now b ≡ true) (c.first_block-b.ensures ∙ ap first_block c.span.ensures.span) found in
-    let writing = subst (λ st. IsInHand c.args.self.now.geometry (hand_by st i) (length (bytes_by st i))) c.requires.stage c.requires.sound.hart.in_hand in
-    λ t. subst (λ h. IsActed t c.args.cache.now c.store_at.new.cache h new (Taken Moved)) (ap (λ st. at_stage st c.args.self.now) (sym c.requires.stage))
+    let writing = subst (λ st. IsInHand c.args.self.now.geometry (hand_by st i) (length (bytes_by st i))) c.requires.stage
+    c.requires.sound.hart.in_hand in
+    λ t. subst (λ h. IsActed t c.args.cache.now c.store_at.new.cache h new (Taken Moved))
+    (ap (λ st. at_stage st c.args.self.now) (sym c.requires.stage))
     (IsActed-taken t c.args.cache.now c.store_at.new.cache old new (first_block s) (Writing (store_of i) s 0) refl refl hit
     (IsMicroStep-write t c.args.cache.now c.store_at.new.cache old new (store_of i) s 0 refl writing c.store_at.ensures.hart
     c.store_at.ensures.memory c.store_at.ensures.agree c.store_at.ensures.room c.store_at.ensures.sized c.store_at.ensures.cache))
 
 pub returns-in-None-clause-acts : goal.returns-in-None-clause-acts
 returns-in-None-clause-acts g c = λ t.
-    subst (IsActed t c.args.cache.now c.store_far-step.new.cache (hart_state_of c.args.self.now) (hart_state_of c.store_far-step.new.self)) (sym c.came.ensures)
+    subst (IsActed t c.args.cache.now c.store_far-step.new.cache (hart_state_of c.args.self.now) (hart_state_of c.store_far-step.new.self))
+    (sym c.came.ensures)
     (c.store_far-step.ensures.acts t)

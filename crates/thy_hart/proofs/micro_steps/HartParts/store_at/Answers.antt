@@ -1,45 +1,15 @@
-use Rattle.std.proofs.Common.{◌≡◌, ◌+◌, ◌≤◌, take, sym, ◌∙◌, ap, subst}
-use Rattle.thy_cache.specs.Flat.{flat}
+use Rattle.std.proofs.Common.{◌+◌, sym, ap}
 use Rattle.thy_block.specs.declared.span.Span.{Span}
-use Rattle.thy_block.specs.Spans.{first_byte, head_len, head_put}
+use Rattle.thy_block.specs.Spans.{head_len}
 use Rattle.thy_hart.specs.declared.hand.Hand.{Hand}
 use Rattle.thy_hart.specs.declared.in_hand.Stage.TheVariants.{Stores}
 use Rattle.thy_hart.specs.HartState.{HartState}
-use Rattle.thy_hart.specs.Outcomes.{written_by}
-use Rattle.thy_hart.specs.InHand.{span_of, store_of, value_bytes, at_stage}
+use Rattle.thy_hart.specs.InHand.{span_of, store_of, at_stage}
 use Rattle.thy_hart.proofs.HandLemmas.{written_on-whole}
-use Rattle.thy_hart.proofs.NumberLemmas.{low_bytes}
 use Rattle.thy_hart.proofs.micro_steps.HartParts.store_at.Goals as goal
 
 pub returns-clause-hart : goal.returns-clause-hart
 returns-clause-hart g c =
     let s : Span = span_of c.args.self.now.hand.access in
     let old : HartState = at_stage Stores c.args.self.now in
-    let whole : first_byte s + s.len ≤ 64 = subst (λ (x : Span). first_byte x + x.len ≤ 64) c.span-to.ensures.span c.span-to.ensures.whole in
-    ap (λ (hand : Hand). record old { hand = hand }) (sym (written_on-whole (store_of c.args.self.now.hand) s (0 + head_len s) whole))
-
-pub returns-clause-cache : goal.returns-clause-cache
-returns-clause-cache g c =
-    let i = c.args.self.now.hand in
-    let s : Span = span_of i.access in
-    let given = take c.span-to.result.len c.to_le_bytes-bytes.result in
-    let bytes : given ≡ value_bytes i
-    = ap (λ (x : Span). take x.len c.to_le_bytes-bytes.result) c.span-to.ensures.span
-    ∙ ap (take s.len) c.to_le_bytes-bytes.ensures
-    ∙ low_bytes i.access.1 i.value in
-    c.put.ensures.cache
-    ∙ ap (λ (x : Span). written_by c.args.cache.now x given) c.span-to.ensures.span
-    ∙ ap (written_by c.args.cache.now s) bytes
-
-pub returns-clause-memory : goal.returns-clause-memory
-returns-clause-memory g c = λ blocks whole.
-    let i = c.args.self.now.hand in
-    let s : Span = span_of i.access in
-    let given = take c.span-to.result.len c.to_le_bytes-bytes.result in
-    let bytes : given ≡ value_bytes i
-    = ap (λ (x : Span). take x.len c.to_le_bytes-bytes.result) c.span-to.ensures.span
-    ∙ ap (take s.len) c.to_le_bytes-bytes.ensures
-    ∙ low_bytes i.access.1 i.value in
-    c.put.ensures.memory blocks whole
-    ∙ ap (λ (x : Span). head_put (flat c.args.cache.now blocks) x given) c.span-to.ensures.span
-    ∙ ap (head_put (flat c.args.cache.now blocks) s) bytes
+    ap (λ (hand : Hand). record old { hand = hand }) (sym (written_on-whole (store_of c.args.self.now.hand) s (0 + head_len s) c.put_value.ensures.whole))

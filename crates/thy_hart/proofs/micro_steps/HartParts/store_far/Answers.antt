@@ -20,8 +20,10 @@ returns-in-Some-clause-acts c =
     let new : HartState = hart_state_of c.store_at.new.self in
     let found = found_hits c.args.cache.now c.first_block-b.result c.find.result c.in-Some.location c.find.ensures.hit c.in-Some.is in
     let hit = subst (λ b. hits c.args.cache.now b ≡ true) (c.first_block-b.ensures ∙ ap first_block c.span.ensures.span) found in
-    let writing = subst (λ st. IsInHand c.args.self.now.geometry (hand_by st i) (length (bytes_by st i))) c.requires.stage c.requires.sound.hart.in_hand in
-    λ t. subst (λ h. IsActed t c.args.cache.now c.store_at.new.cache h new (Taken Moved)) (ap (λ st. at_stage st c.args.self.now) (sym c.requires.stage))
+    let writing = subst (λ st. IsInHand c.args.self.now.geometry (hand_by st i) (length (bytes_by st i))) c.requires.stage
+    c.requires.sound.hart.in_hand in
+    λ t. subst (λ h. IsActed t c.args.cache.now c.store_at.new.cache h new (Taken Moved))
+    (ap (λ st. at_stage st c.args.self.now) (sym c.requires.stage))
     (IsActed-taken t c.args.cache.now c.store_at.new.cache old new (first_block s) (Writing (store_of i) s 0) refl refl hit
     (IsMicroStep-write t c.args.cache.now c.store_at.new.cache old new (store_of i) s 0 refl writing c.store_at.ensures.hart
     c.store_at.ensures.memory c.store_at.ensures.agree c.store_at.ensures.room c.store_at.ensures.sized c.store_at.ensures.cache))

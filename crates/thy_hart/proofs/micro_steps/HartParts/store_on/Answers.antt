@@ -27,7 +27,8 @@ retire_next-requires-clause-count g c =
     let room = subst (λ (s : HartStep). IsActed t x x h k (Taken s)) c.in-Moved.is (c.room.ensures.acts []) in
     let j = c.room.new.self.hand in
     let hand : Hand = Writing (store_of j) (span_of j.access) 0 in
-    let store = moved-on t x d k l hand c.store.result c.in-Taken.field-0 c.in-Taken.is (ap (λ st. hand_by st j) (c.room.ensures.stage c.in-Moved.is)) refl (c.store.ensures.acts t) in
+    let store = moved-on t x d k l hand c.store.result c.in-Taken.field-0 c.in-Taken.is
+    (ap (λ st. hand_by st j) (c.room.ensures.stage c.in-Moved.is)) refl (c.store.ensures.acts t) in
     omega (arith, c.requires.count, ap (λ (y : CpuState). y.count) (IsActed-stays t x x h k room).cpu, ap (λ (y : CpuState). y.count) (IsActed-stays t x d k l store).cpu)
 
 pub retire_next-requires-clause-alone : goal.retire_next-requires-clause-alone
@@ -42,8 +43,10 @@ retire_next-requires-clause-alone g c = λ yes.
     let room = subst (λ (s : HartStep). IsActed t x x h k (Taken s)) c.in-Moved.is (c.room.ensures.acts []) in
     let j = c.room.new.self.hand in
     let hand : Hand = Writing (store_of j) (span_of j.access) 0 in
-    let store = moved-on t x d k l hand c.store.result c.in-Taken.field-0 c.in-Taken.is (ap (λ st. hand_by st j) (c.room.ensures.stage c.in-Moved.is)) refl (c.store.ensures.acts t) in
-    ap (λ (y : CpuState). y.other) (IsActed-stays t x d k l store).cpu ∙ ap (λ (y : CpuState). y.other) (IsActed-stays t x x h k room).cpu ∙ c.requires.alone yes
+    let store = moved-on t x d k l hand c.store.result c.in-Taken.field-0 c.in-Taken.is
+    (ap (λ st. hand_by st j) (c.room.ensures.stage c.in-Moved.is)) refl (c.store.ensures.acts t) in
+    ap (λ (y : CpuState). y.other) (IsActed-stays t x d k l store).cpu ∙ ap (λ (y : CpuState). y.other) (IsActed-stays t x x h k room).cpu
+    ∙ c.requires.alone yes
 
 pub retire_next-requires-clause-going : goal.retire_next-requires-clause-going
 retire_next-requires-clause-going g c =
@@ -57,8 +60,10 @@ retire_next-requires-clause-going g c =
     let room = subst (λ (s : HartStep). IsActed t x x h k (Taken s)) c.in-Moved.is (c.room.ensures.acts []) in
     let j = c.room.new.self.hand in
     let hand : Hand = Writing (store_of j) (span_of j.access) 0 in
-    let store = moved-on t x d k l hand c.store.result c.in-Taken.field-0 c.in-Taken.is (ap (λ st. hand_by st j) (c.room.ensures.stage c.in-Moved.is)) refl (c.store.ensures.acts t) in
-    ap (λ (y : Epoch). y.over) (IsActed-stays t x d k l store).epoch ∙ ap (λ (y : Epoch). y.over) (IsActed-stays t x x h k room).epoch ∙ c.requires.going
+    let store = moved-on t x d k l hand c.store.result c.in-Taken.field-0 c.in-Taken.is
+    (ap (λ st. hand_by st j) (c.room.ensures.stage c.in-Moved.is)) refl (c.store.ensures.acts t) in
+    ap (λ (y : Epoch). y.over) (IsActed-stays t x d k l store).epoch ∙ ap (λ (y : Epoch). y.over) (IsActed-stays t x x h k room).epoch
+    ∙ c.requires.going
 
 pub returns-in-Taken-clause-acts : goal.returns-in-Taken-clause-acts
 returns-in-Taken-clause-acts g c = λ input.
@@ -72,7 +77,8 @@ returns-in-Taken-clause-acts g c = λ input.
     let room = subst (λ (s : HartStep). IsActed t x x h k (Taken s)) c.in-Moved.is (c.room.ensures.acts input) in
     let j = c.room.new.self.hand in
     let hand : Hand = Writing (store_of j) (span_of j.access) 0 in
-    let store = moved-on t x d k l hand c.store.result c.in-Taken.field-0 c.in-Taken.is (ap (λ st. hand_by st j) (c.room.ensures.stage c.in-Moved.is)) refl (c.store.ensures.acts t) in
+    let store = moved-on t x d k l hand c.store.result c.in-Taken.field-0 c.in-Taken.is
+    (ap (λ st. hand_by st j) (c.room.ensures.stage c.in-Moved.is)) refl (c.store.ensures.acts t) in
     let n : HartState = hart_state_of c.retire_next.new.self in
     let last = c.retire_next.result in
     ActsAll-first t x x d h k n 1 last room c.room.ensures.sound.hart

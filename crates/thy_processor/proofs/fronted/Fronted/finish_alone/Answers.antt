@@ -7,7 +7,8 @@ use Rattle.thy_processor.proofs.fronted.Fronted.finish_alone.Goals as goal
 
 pub seat-hart-requires : goal.seat-hart-requires
 seat-hart-requires c = λ yes.
-    alone-first c.self.inside.hart c.self.inside.processor.harts c.self.invariant.0 (ap (λ (x : CpuState). x.other) c.self.view_is ∙ c.requires.alone yes)
+    alone-first c.self.inside.hart c.self.inside.processor.harts c.self.invariant.0
+    (ap (λ (x : CpuState). x.other) c.self.view_is ∙ c.requires.alone yes)
 
 pub invariant_of-self : goal.invariant_of-self
 invariant_of-self c =
@@ -22,6 +23,7 @@ returns c = λ calls.
     let h = c.self.inside.hart in
     let len = c.self.inside.console_len in
     let p = c.self.inside.processor in
-    ap (cpu_at h len) (c.finish_alone.ensures.processor calls ∙ ap (λ n. processor_finished n p c.args.effect.now c.args.number calls) c.seat-hart.ensures)
+    ap (cpu_at h len) (c.finish_alone.ensures.processor calls
+    ∙ ap (λ n. processor_finished n p c.args.effect.now c.args.number calls) c.seat-hart.ensures)
     ∙ finished-front h len p c.args.effect.now c.args.number calls c.self.invariant.1 c.self.invariant.0 c.requires.no_call
     ∙ ap (λ (x : CpuState). finished x c.args.effect.now c.args.number calls) c.self.view_is
