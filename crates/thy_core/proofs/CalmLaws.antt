@@ -114,7 +114,8 @@ module _ {S : Type 0} (K : SchemeOf S) (m : Machine S) (calm : is_calm K m ≡ t
 -- ---- how long it stays so
 
 -- while the scheme is left alone and the epoch goes on
-pub calm_on : {S : Type 0} (K : SchemeOf S) (m next : Machine S) → IsCalm K m → next.scheme ≡ m.scheme → next.phase ≡ m.phase → next.hart.epoch.over ≡ None
+pub calm_on : {S : Type 0} (K : SchemeOf S) (m next : Machine S) → IsCalm K m → next.scheme ≡ m.scheme → next.phase ≡ m.phase
+    → next.hart.epoch.over ≡ None
     → is_calm K next ≡ true
 calm_on K m next calm scheme phase none =
     let idle : K.under_way next.scheme ≡ false = ap K.under_way scheme ∙ calm.idle in
@@ -126,7 +127,8 @@ calm_on K m next calm scheme phase none =
     ∙ ap (λ (over : Option EndCause). if is_some over || K.promoting next.scheme then Some Sealing else None) none
     ∙ ap (λ (promoting : Bool). if promoting then Some Sealing else None) whole in
     and_from (not (K.under_way next.scheme)) (K.queued next.scheme == 0 && is_none (stall_now K next.phase next)) (ap not idle)
-    (and_from (K.queued next.scheme == 0) (is_none (stall_now K next.phase next)) (ap (λ (queued : ℕ). queued == 0) settled) (ap (λ (stall : Option Stall). is_none stall) free))
+    (and_from (K.queued next.scheme == 0) (is_none (stall_now K next.phase next)) (ap (λ (queued : ℕ). queued == 0) settled)
+    (ap (λ (stall : Option Stall). is_none stall) free))
 
 -- a step that does not end the epoch leaves it going on; it waits only for a checkpoint that is under way
 still : (step : HartStep) (b : Bool) (g : Given) (dirty : ℕ) (old new : HartState) → Stated step b g dirty old new → is_over step ≡ false
@@ -136,7 +138,8 @@ still Retired b g dirty old new t e idle none = t.over_is
 still Waiting b g dirty old new t e idle none = absurd (let way = t.way in cc)
 still (Over cause) b g dirty old new t e idle none = absurd (cc)
 
-pub goes_after : (g : Given) (old new : Moment) (step : HartStep) → IsStep g old new step → is_over step ≡ false → g.under_way ≡ false → old.hart.epoch.over ≡ None
+pub goes_after : (g : Given) (old new : Moment) (step : HartStep) → IsStep g old new step → is_over step ≡ false → g.under_way ≡ false
+    → old.hart.epoch.over ≡ None
     → new.hart.epoch.over ≡ None
 goes_after g old new step s goes idle none =
     let stated_by : Stated step (brings_line old) g (dirty_count old.cache) old.hart new.hart =
@@ -145,12 +148,14 @@ goes_after g old new step s goes idle none =
     still step (brings_line old) g (dirty_count old.cache) old.hart new.hart stated_by goes idle none
 
 -- a store that is still marked as calm was not asked for anything
-once_kept : {S N : Type 0} (K : SchemeOf S) (device : N → Device) (a b : SchemeStore S) (x y : N) → CalledOnce K device a x b y → b.calm ≡ true → b ≡ a
+once_kept : {S N : Type 0} (K : SchemeOf S) (device : N → Device) (a b : SchemeStore S) (x y : N) → CalledOnce K device a x b y
+    → b.calm ≡ true → b ≡ a
 once_kept K device a b x y (inl same) marked = same.0
 once_kept K device a b x y (inr once) marked = absurd (let un = once.unmarked in cc)
 
 -- a machine that is marked as calm after a step of a hart is calm
-pub calm_kept : {S N : Type 0} (K : SchemeOf S) (device : N → Device) (p begun next : MachineParts S) (b : SchemeStore S) (x y : N) (hart : ℕ) (step : HartStep) (h : HartState) (c : Contents) (g : Given)
+pub calm_kept : {S N : Type 0} (K : SchemeOf S) (device : N → Device) (p begun next : MachineParts S) (b : SchemeStore S) (x y : N)
+    (hart : ℕ) (step : HartStep) (h : HartState) (c : Contents) (g : Given)
     → KnowsCalm K p → machine_of begun ≡ begun_by_hart hart (machine_of p) → begun.store ≡ p.store → CalledOnce K device begun.store x b y
     → IsStep g (moment_of K (machine_of begun) (device x)) (moment h c (held_by_scheme K b.scheme (device y))) step
     → g.under_way ≡ K.under_way begun.store.scheme
@@ -181,24 +186,27 @@ moves_on (Over cause) calm e = absurd (cc)
 
 -- ---- what is noted of a cycle
 
-stall_noted : {S : Type 0} (K : SchemeOf S) (m : Machine S) (phase : Phase) → stall_now K phase (record m { failed = true }) ≡ stall_now K phase m
-stall_noted K m Boot = refl
-stall_noted K m Run = refl
-stall_noted K m Halt = refl
+module _ {S : Type 0} (K : SchemeOf S) where
+  stall_noted : (m : Machine S) (phase : Phase) → stall_now K phase (record m { failed = true }) ≡ stall_now K phase m
+  stall_noted m Boot = refl
+  stall_noted m Run = refl
+  stall_noted m Halt = refl
 
-calm_noted : {S : Type 0} (K : SchemeOf S) (taken : Result Did NvmError) (m : Machine S) → is_calm K (noted taken m) ≡ is_calm K m
-calm_noted K (Ok did) m = refl
-calm_noted K (Err e) m = ap (λ (stall : Option Stall). not (K.under_way m.scheme) && (K.queued m.scheme == 0 && is_none stall)) (stall_noted K m m.phase)
+  calm_noted : (taken : Result Did NvmError) (m : Machine S) → is_calm K (noted taken m) ≡ is_calm K m
+  calm_noted (Ok did) m = refl
+  calm_noted (Err e) m = ap (λ (stall : Option Stall). not (K.under_way m.scheme) && (K.queued m.scheme == 0 && is_none stall))
+      (stall_noted m m.phase)
 
-pub knows_noted : {S : Type 0} (K : SchemeOf S) (p next : MachineParts S) (taken : Result Did NvmError) → KnowsCalm K p → next.store ≡ p.store
-    → machine_of next ≡ noted taken (machine_of p) → KnowsCalm K next
-knows_noted {S = S} K p next taken known store is = λ marked.
-    ap (is_calm K) is ∙ calm_noted K taken (machine_of p) ∙ known (ap (λ (s : SchemeStore S). s.calm) (sym store) ∙ marked)
+  pub knows_noted : (p next : MachineParts S) (taken : Result Did NvmError) → KnowsCalm K p → next.store ≡ p.store
+      → machine_of next ≡ noted taken (machine_of p) → KnowsCalm K next
+  knows_noted p next taken known store is = λ marked.
+      ap (is_calm K) is ∙ calm_noted taken (machine_of p) ∙ known (ap (λ (s : SchemeStore S). s.calm) (sym store) ∙ marked)
 
--- a machine that is not marked as calm need not be calm
-pub knows_nothing : {S : Type 0} (K : SchemeOf S) (p : MachineParts S) → p.store.calm ≡ false → KnowsCalm K p
-knows_nothing K p unmarked = λ marked. absurd (cc)
+  -- a machine that is not marked as calm need not be calm
+  pub knows_nothing : (p : MachineParts S) → p.store.calm ≡ false → KnowsCalm K p
+  knows_nothing p unmarked = λ marked. absurd (cc)
 
 -- a hart that runs does not halt
 pub not_halted : (before behind : Phase) → before ≡ Run → behind ≡ before → false ≡ (not (is_halt before) && is_halt behind)
-not_halted before behind run same = ap (λ (p : Phase). not (is_halt p) && is_halt p) (sym run) ∙ ap (λ (p : Phase). not (is_halt before) && is_halt p) (sym same)
+not_halted before behind run same = ap (λ (p : Phase). not (is_halt p) && is_halt p) (sym run)
+    ∙ ap (λ (p : Phase). not (is_halt before) && is_halt p) (sym same)

@@ -82,7 +82,8 @@ due_boot (Restarted cpu epoch) p = tt
 due_boot (Refused bad) p = tt
 
 -- what the scheme was before the boot's step does not count
-pub boot_over : {S : Type 0} (o : Origin) (step : BootStep) (t : S) (m : Machine S) → after_boot o step t (record m { scheme = t }) ≡ after_boot o step t m
+pub boot_over : {S : Type 0} (o : Origin) (step : BootStep) (t : S) (m : Machine S)
+    → after_boot o step t (record m { scheme = t }) ≡ after_boot o step t m
 boot_over o GoesOn t m = refl
 boot_over o Loaded t m = refl
 boot_over o (Restarted cpu epoch) t m = refl
@@ -162,7 +163,8 @@ begun_back {S} hart m begun next own is same mine =
     ∙ begun-processor hart m.begun m.hart.cpu own
 
 module _ {S : Type 0} (K : SchemeOf S) (o : Origin) (cycles : ℕ) (m : Machine S) (n : Device) (at : IsMoment K o cycles m n) where
-  pub engine_failed : (next : Machine S) (new : Device) → IsEngineDue K m → EngineFails K o m.marks n new → StaysOf K m.scheme next.scheme → processor_of next ≡ processor_of m
+  pub engine_failed : (next : Machine S) (new : Device) → IsEngineDue K m → EngineFails K o m.marks n new → StaysOf K m.scheme next.scheme
+      → processor_of next ≡ processor_of m
       → HasFailedAs K o Checkpoint m next n new
   engine_failed next new due e left hart = record {
     did = engine_did m.lap e.step;
@@ -172,7 +174,8 @@ module _ {S : Type 0} (K : SchemeOf S) (o : Origin) (cycles : ℕ) (m : Machine 
     processor = hart;
   }
 
-  pub promotion_failed : (next : Machine S) (new : Device) → IsSealing K o m n → K.promoting m.scheme ≡ true → PromotionFails n new → StaysOf K m.scheme next.scheme
+  pub promotion_failed : (next : Machine S) (new : Device) → IsSealing K o m n → K.promoting m.scheme ≡ true → PromotionFails n new
+      → StaysOf K m.scheme next.scheme
       → processor_of next ≡ processor_of m → HasFailedAs K o (Stalled Sealing) m next n new
   promotion_failed next new sealing promoting f left hart = record {
     did = Promoted;
@@ -182,13 +185,15 @@ module _ {S : Type 0} (K : SchemeOf S) (o : Origin) (cycles : ℕ) (m : Machine 
     processor = hart;
   }
 
-  pub hart_failed : (hart : ℕ) (next : Machine S) (new : Device) → HartAdvances K o m n hart → IsOneAccess K m.scheme n next.scheme new → new.down ≡ true → processor_of next ≡ processor_of m
+  pub hart_failed : (hart : ℕ) (next : Machine S) (new : Device) → HartAdvances K o m n hart → IsOneAccess K m.scheme n next.scheme new
+      → new.down ≡ true → processor_of next ≡ processor_of m
       → HasFailedAs K o (Advances hart) m next n new
   hart_failed hart next new turn access down same =
       record { did = Moved; does = (hart, refl); due = tt; fails = hart_fails K o cycles m n next.scheme new at turn.goes access down; processor = same }
 
   pub flush_failed : (next : Machine S) (new : Device) → IsSealing K o m n → K.promoting m.scheme ≡ false → dirty_count m.cache ≢ 0
-      → IsOneAccess K m.scheme n next.scheme new → new.down ≡ true → processor_of next ≡ processor_of m → HasFailedAs K o (Stalled Sealing) m next n new
+      → IsOneAccess K m.scheme n next.scheme new → new.down ≡ true → processor_of next ≡ processor_of m
+      → HasFailedAs K o (Stalled Sealing) m next n new
   flush_failed next new sealing whole dirty access down hart = record {
     did = DidFlush;
     does = refl;
@@ -197,7 +202,8 @@ module _ {S : Type 0} (K : SchemeOf S) (o : Origin) (cycles : ℕ) (m : Machine 
     processor = hart;
   }
 
-  pub boot_failed : (next : Machine S) (new : Device) → m.phase ≡ Boot → BootFails K o m.scheme n new → StaysOf K m.scheme next.scheme → processor_of next ≡ processor_of m
+  pub boot_failed : (next : Machine S) (new : Device) → m.phase ≡ Boot → BootFails K o m.scheme n new → StaysOf K m.scheme next.scheme
+      → processor_of next ≡ processor_of m
       → HasFailedAs K o (Stalled Booting) m next n new
   boot_failed next new e b left hart = record {
     did = boot_did b.step;
@@ -221,7 +227,8 @@ module _ {S : Type 0} (K : SchemeOf S) (o : Origin) (cycles : ℕ) (m : Machine 
       → ((p : Origin) (d : Device) → IsBooting K p m.scheme d → BootDrains K p m.scheme d t)
       → SimulatesCycle K o cycles DramDrained m n (after_drain t m) n
   drains_in Boot t e some running booting =
-      boot_drain_simulates K o cycles m n t at e some (booting o n (record { boots = (sound-boot K o cycles m n at.sound e).boots; up = at.sound.up }))
+      boot_drain_simulates K o cycles m n t at e some
+      (booting o n (record { boots = (sound-boot K o cycles m n at.sound e).boots; up = at.sound.up }))
   drains_in Run t e some running booting =
       let behind : m.phase ≢ Boot = λ b. absurd (cc) in
       dram_drain_simulates K o cycles m n t at behind some (running o m.marks n (stands K o cycles m n at.sound behind))
@@ -274,7 +281,8 @@ module _ {S : Type 0} (K : SchemeOf S) (o : Origin) (cycles : ℕ) (m : Machine 
       (subst (λ b. MakesFirst K promotes b (K.overlaid m.scheme) m n did next new) (sym c)
       (subst (λ b. MakesFirst K promotes clean b m n did next new) (sym v) made))
 
-  pub promotion_cycle : (t : S) (new : Device) (done : Unit {0}) → IsSealing K o m n → K.promoting m.scheme ≡ true → Promotes K o m.marks m.scheme n t new
+  pub promotion_cycle : (t : S) (new : Device) (done : Unit {0}) → IsSealing K o m n → K.promoting m.scheme ≡ true
+      → Promotes K o m.marks m.scheme n t new
       → Makes (K.calls.promote m.scheme n) done n t new → IsCycle K o cycles (Stalled Sealing) Promoted m n (after_call t m) new
   promotion_cycle t new done sealing promoting p made = record {
     does = refl;
@@ -286,7 +294,8 @@ module _ {S : Type 0} (K : SchemeOf S) (o : Origin) (cycles : ℕ) (m : Machine 
         (record { did_is = refl; machine_is = ap (λ (s : S). after_call s m) made.scheme_is; nvm_is = made.nvm_is });
   }
 
-  pub merge_cycle : (t : S) → IsSealing K o m n → K.promoting m.scheme ≡ false → dirty_count m.cache ≡ 0 → K.overlaid m.scheme ≡ true → Merges K o m.marks m.scheme n t
+  pub merge_cycle : (t : S) → IsSealing K o m n → K.promoting m.scheme ≡ false → dirty_count m.cache ≡ 0 → K.overlaid m.scheme ≡ true
+      → Merges K o m.marks m.scheme n t
       → t ≡ K.calls.merged m.scheme → IsCycle K o cycles (Stalled Sealing) Merged m n (after_call t m) n
   merge_cycle t sealing whole clean overlaid p is = record {
     does = refl;
@@ -319,7 +328,8 @@ module _ {S : Type 0} (K : SchemeOf S) (o : Origin) (cycles : ℕ) (m : Machine 
         hands = handed refl refl;
         there = tt;
         simulates = λ mine. seal_simulates K o cycles m n t cause at sealing whole bare clean (sym over) p;
-        exact = first_by false true false (Sealed m.hart.epoch.number m.hart.cpu.count cause) (after_seal t m) n whole (eq-eqb (dirty_count m.cache) 0 clean) bare
+        exact = first_by false true false (Sealed m.hart.epoch.number m.hart.cpu.count cause) (after_seal t m) n whole
+            (eq-eqb (dirty_count m.cache) 0 clean) bare
             (subst (λ x. IsOutcome (sealed_for K x m) n (Sealed m.hart.epoch.number m.hart.cpu.count cause) (after_seal t m) n) over
             (record { did_is = refl; machine_is = ap (λ (s : S). after_seal s m) made; nvm_is = refl }));
       })))
@@ -331,33 +341,34 @@ module _ {S : Type 0} (K : SchemeOf S) (o : Origin) (cycles : ℕ) (m : Machine 
   runs_by (Exited v) e = absurd (cc)
   runs_by (Trapped v) e = absurd (cc)
 
-  -- the machine is as a hart's step finds it
-  begun_here : (hart : ℕ) → HartAdvances K o m n hart → IsBegun K o m n hart
-  begun_here hart turn =
-      is-begun K o m n hart (sound-run K o cycles m n at.sound turn.goes.phase) (is-going K o cycles m n at turn.goes).going turn.own
+  module _ (hart : ℕ) (turn : HartAdvances K o m n hart) where
+    -- the machine is as a hart's step finds it
+    begun_here : IsBegun K o m n hart
+    begun_here =
+        is-begun K o m n hart (sound-run K o cycles m n at.sound turn.goes.phase) (is-going K o cycles m n at turn.goes).going turn.own
 
-  -- while no instruction is begun nothing is in hand
-  pub hart_rests : (hart : ℕ) → HartAdvances K o m n hart → m.begun ≡ None → m.hart.hand ≡ NoHand
-  hart_rests hart turn = (sound-run K o cycles m n at.sound turn.goes.phase).front.rests
+    -- while no instruction is begun nothing is in hand
+    pub hart_rests : m.begun ≡ None → m.hart.hand ≡ NoHand
+    hart_rests = (sound-run K o cycles m n at.sound turn.goes.phase).front.rests
 
-  pub hart_runs : (hart : ℕ) → HartAdvances K o m n hart → (begun_by_hart hart m).hart.cpu.status ≡ Running
-  hart_runs hart turn =
-      let run = sound-run K o cycles m n at.sound turn.goes.phase in
-      (begun_here hart turn).status
-      ∙ runs_by m.hart.cpu.status (run.counted.running ∙ (is-going K o cycles m n at turn.goes).runs)
+    pub hart_runs : (begun_by_hart hart m).hart.cpu.status ≡ Running
+    hart_runs =
+        let run = sound-run K o cycles m n at.sound turn.goes.phase in
+        (begun_here).status
+        ∙ runs_by m.hart.cpu.status (run.counted.running ∙ (is-going K o cycles m n at turn.goes).runs)
 
-  pub hart_ready : (hart : ℕ) → HartAdvances K o m n hart → (begun : Machine S) → begun ≡ begun_by_hart hart m → IsReady (moment_of K begun n)
-  hart_ready hart turn begun is =
-      let run = sound-run K o cycles m n at.sound turn.goes.phase in
-      let holds = holds-run K at.lawful o cycles m n at.sound turn.goes.phase in
-      let going = is-going K o cycles m n at turn.goes in
-      subst (λ x. IsReady (moment_of K x n)) (sym is) (record {
-        blocks = holds.memory ∙ ap memory_blocks (sym at.sound.geometry);
-        agree = run.held.agree;
-        ready = holds.ready going.whole;
-        room = let free = at.lawful.free_is m.scheme n in omega (arith, run.held.room, free);
-        opened = (begun_here hart turn).opened;
-      })
+    pub hart_ready : (begun : Machine S) → begun ≡ begun_by_hart hart m → IsReady (moment_of K begun n)
+    hart_ready begun is =
+        let run = sound-run K o cycles m n at.sound turn.goes.phase in
+        let holds = holds-run K at.lawful o cycles m n at.sound turn.goes.phase in
+        let going = is-going K o cycles m n at turn.goes in
+        subst (λ x. IsReady (moment_of K x n)) (sym is) (record {
+          blocks = holds.memory ∙ ap memory_blocks (sym at.sound.geometry);
+          agree = run.held.agree;
+          ready = holds.ready going.whole;
+          room = let free = at.lawful.free_is m.scheme n in omega (arith, run.held.room, free);
+          opened = (begun_here).opened;
+        })
 
   due_hart : (hart : ℕ) (retired : Bool) (p : Pressure) → Prepares (if retired then Retired hart else Moved) p
   due_hart hart true p = tt
@@ -368,7 +379,8 @@ module _ {S : Type 0} (K : SchemeOf S) (o : Origin) (cycles : ℕ) (m : Machine 
   does_hart hart false = (hart, refl)
 
   -- the hart that moved or retired is there
-  there_hart : (hart : ℕ) → HartAdvances K o m n hart → (retired : Bool) → IsThere o (view_of K o m n) (if retired then Retired hart else Moved)
+  there_hart : (hart : ℕ) → HartAdvances K o m n hart → (retired : Bool)
+      → IsThere o (view_of K o m n) (if retired then Retired hart else Moved)
   there_hart hart turn true =
       let shown = view-run K o m n turn.goes.phase in
       record {
@@ -378,7 +390,8 @@ module _ {S : Type 0} (K : SchemeOf S) (o : Origin) (cycles : ℕ) (m : Machine 
       }
   there_hart hart turn false = tt
 
-  pub hart_cycle : (hart : ℕ) (h : HartState) (c : Contents) (t : S) (new : Device) (step : HartStep) (next : Machine S) (did : Did) → HartAdvances K o m n hart
+  pub hart_cycle : (hart : ℕ) (h : HartState) (c : Contents) (t : S) (new : Device) (step : HartStep) (next : Machine S) (did : Did)
+      → HartAdvances K o m n hart
       → HartCall K (given o.input (K.free m.scheme) (K.under_way m.scheme)) (begun_by_hart hart m) n h c t new step
       → next ≡ after_hart hart step h c t m → did ≡ hart_did hart step → IsCycle K o cycles (Advances hart) did m n next new
   hart_cycle hart h c t new step next did turn hs is says =
@@ -393,7 +406,8 @@ module _ {S : Type 0} (K : SchemeOf S) (o : Origin) (cycles : ℕ) (m : Machine 
         exact = record {
           did_is = ap (hart_did hart) hs.is_step.says;
           machine_is = ap₂ (λ (x : HartStep) (y : HartState). after_hart hart x y c t m) hs.is_step.says hs.is_step.hart
-              ∙ ap₂ (λ (x : Contents) (y : S). after_hart hart (answer_to (given_to K o m) (found_by K hart m n)) (hart_after (given_to K o m) (found_by K hart m n)) x y m)
+              ∙ ap₂ (λ (x : Contents) (y : S). after_hart hart (answer_to (given_to K o m) (found_by K hart m n))
+              (hart_after (given_to K o m) (found_by K hart m n)) x y m)
               hs.below.cache_is hs.below.scheme_is;
           nvm_is = hs.below.nvm_is;
         };
@@ -401,7 +415,8 @@ module _ {S : Type 0} (K : SchemeOf S) (o : Origin) (cycles : ℕ) (m : Machine 
 
   -- ---- a flush
 
-  pub flush_cycle : (c : Contents) (t : S) (new : Device) (flushed : Flushed) → IsSealing K o m n → K.promoting m.scheme ≡ false → dirty_count m.cache ≢ 0
+  pub flush_cycle : (c : Contents) (t : S) (new : Device) (flushed : Flushed) → IsSealing K o m n → K.promoting m.scheme ≡ false
+      → dirty_count m.cache ≢ 0
       → FlushCall K m n flushed c t new → IsCycle K o cycles (Stalled Sealing) DidFlush m n (after_flush c t m) new
   flush_cycle c t new flushed sealing whole dirty f = record {
     does = refl;
@@ -598,14 +613,16 @@ module _ {S N : Type 0} (K : SchemeOf S) (device : N → Device) (p : MachinePar
   evicted_is : (at : ℕ) → EvictsBy (stores_by K device) at p.cache c p.store x b y
       → IsBelow (line_evicted K at (victim_line_of p.cache at) (machine_of p) (device x)) (device x) c b.scheme (device y)
   evicted_is at e =
-      subst (λ (l : Option Line). IsBelow (line_evicted K at l (machine_of p) (device x)) (device x) c b.scheme (device y)) (sym e.made.stands) (record {
+      subst (λ (l : Option Line). IsBelow (line_evicted K at l (machine_of p) (device x)) (device x) c b.scheme (device y))
+      (sym e.made.stands) (record {
         cache_is = e.cache ∙ ap (λ (s : Stored). evicted_for s at p.cache) e.made.made.answer_is;
         scheme_is = e.made.made.scheme_is;
         nvm_is = e.made.made.nvm_is;
       })
 
   -- a line was brought
-  brought_is : (at : ℕ) (victim : Victim) → (device y).down ≡ false → BringsBy (loads_by device) (stores_by K device) victim at p.cache c p.store x b y
+  brought_is : (at : ℕ) (victim : Victim) → (device y).down ≡ false
+      → BringsBy (loads_by device) (stores_by K device) victim at p.cache c p.store x b y
       → BringsLine victim at p.cache (held_by_scheme K p.store.scheme (device x)) c
       → IsBelow (line_brought K at victim (machine_of p) (device x)) (device x) c b.scheme (device y)
   brought_is at Room up called filled = record { cache_is = filled; scheme_is = called.scheme; nvm_is = called.nvm up }
@@ -615,20 +632,24 @@ module _ {S N : Type 0} (K : SchemeOf S) (device : N → Device) (p : MachinePar
   below_is : (g : Given) (h : HartState) (step : HartStep) → (device y).down ≡ false
       → IsStep g (moment_of K (machine_of p) (device x)) (moment h c (held_by_scheme K b.scheme (device y))) step
       → (brings_line (moment_of K (machine_of p) (device x)) ≡ false → (b ≡ p.store) × (y ≡ x))
-      → CallsStore (loads_by device) (stores_by K device) (brings_line (moment_of K (machine_of p) (device x))) (next_block p.hart) p.cache c p.store x b y
+      → CallsStore (loads_by device) (stores_by K device) (brings_line (moment_of K (machine_of p) (device x)))
+      (next_block p.hart) p.cache c p.store x b y
       → IsBelow (below_after K (machine_of p) (device x)) (device x) c b.scheme (device y)
   below_is g h step up s untouched called = by_line (brings_line (moment_of K (machine_of p) (device x))) refl (next_block p.hart) refl called
     where
-      by_line : (brings : Bool) → brings_line (moment_of K (machine_of p) (device x)) ≡ brings → (block : Option ℕ) → next_block p.hart ≡ block
+      by_line : (brings : Bool) → brings_line (moment_of K (machine_of p) (device x)) ≡ brings → (block : Option ℕ)
+          → next_block p.hart ≡ block
           → CallsStore (loads_by device) (stores_by K device) brings block p.cache c p.store x b y
           → IsBelow (below_by K brings block (machine_of p) (device x)) (device x) c b.scheme (device y)
       by_line false is block at calls =
-          let kept = untouched is in record { cache_is = s.used is; scheme_is = ap (λ (a : SchemeStore S). a.scheme) kept.0; nvm_is = ap device kept.1 }
+          let kept = untouched is in
+          record { cache_is = s.used is; scheme_is = ap (λ (a : SchemeStore S). a.scheme) kept.0; nvm_is = ap device kept.1 }
       by_line true is None at calls = absurd (true≢false (sym is ∙ ap (is_missing p.cache) at))
       by_line true is (Some k) at calls = brought_is k (victim_of p.cache k) up calls (s.brought k is at)
 
   -- after a step of a flush that was not the last
-  stored_is : (stored : Stored) → StoresBy (stores_by K device) stored (dirty_line p.cache) p.store x b y → c ≡ flushed_from (flushed_as stored) p.cache
+  stored_is : (stored : Stored) → StoresBy (stores_by K device) stored (dirty_line p.cache) p.store x b y
+      → c ≡ flushed_from (flushed_as stored) p.cache
       → IsBelow (line_flushed K (machine_of p) (device x)) (device x) c b.scheme (device y)
   stored_is stored e is =
       subst (λ (l : Option Line). IsBelow (flushed_line K l (machine_of p) (device x)) (device x) c b.scheme (device y)) (sym e.stands) (record {
@@ -637,7 +658,8 @@ module _ {S N : Type 0} (K : SchemeOf S) (device : N → Device) (p : MachinePar
         nvm_is = e.made.nvm_is;
       })
 
-  pub flushed_is : (flushed : Flushed) → flushed ≢ Clean → FlushesBy (stores_by K device) flushed p.cache p.store x b y → c ≡ flushed_from flushed p.cache
+  pub flushed_is : (flushed : Flushed) → flushed ≢ Clean → FlushesBy (stores_by K device) flushed p.cache p.store x b y
+      → c ≡ flushed_from flushed p.cache
       → IsBelow (line_flushed K (machine_of p) (device x)) (device x) c b.scheme (device y)
   flushed_is Clean more made is = absurd (more refl)
   flushed_is StoredLine more made is = stored_is Done made is
@@ -648,13 +670,16 @@ pub given_is : (input other : List ℕ) (free before : ℕ) (way under : Bool) �
 given_is input other free before way under i f w =
     ap (λ x. given x free way) (sym i) ∙ ap (λ x. given other x way) f ∙ ap (λ x. given other before x) w
 
-pub hart_call : {S N : Type 0} (K : SchemeOf S) (device : N → Device) (o : Origin) (p : MachineParts S) (b : SchemeStore S) (x y : N) (h : HartState) (c : Contents)
-    (step : HartStep) (input : List ℕ) (free : ℕ) (way : Bool) → o.input ≡ input → free ≡ K.free p.store.scheme → way ≡ K.under_way p.store.scheme
+pub hart_call : {S N : Type 0} (K : SchemeOf S) (device : N → Device) (o : Origin) (p : MachineParts S) (b : SchemeStore S) (x y : N)
+    (h : HartState) (c : Contents)
+    (step : HartStep) (input : List ℕ) (free : ℕ) (way : Bool) → o.input ≡ input → free ≡ K.free p.store.scheme
+    → way ≡ K.under_way p.store.scheme
     → IsStep (given input free way) (moment_of K (machine_of p) (device x)) (moment h c (held_by_scheme K b.scheme (device y))) step
     → CalledOnce K device p.store x b y → K.stays p.store.scheme (device x) b.scheme (device y)
     → (brings_line (moment_of K (machine_of p) (device x)) ≡ false → (b ≡ p.store) × (y ≡ x))
     → (dirty_count p.cache ≡ 0 → ((b ≡ p.store) × (y ≡ x)) ⊎ loads_by device p.store x b y) → (device y).down ≡ false
-    → CallsStore (loads_by device) (stores_by K device) (brings_line (moment_of K (machine_of p) (device x))) (next_block p.hart) p.cache c p.store x b y
+    → CallsStore (loads_by device) (stores_by K device) (brings_line (moment_of K (machine_of p) (device x)))
+    (next_block p.hart) p.cache c p.store x b y
     → HartCall K (given o.input (K.free p.store.scheme) (K.under_way p.store.scheme)) (machine_of p) (device x) h c b.scheme (device y) step
 hart_call K device o p b x y h c step input free way i f w s once stays untouched loads up called =
     let same = given_is input o.input free (K.free p.store.scheme) way (K.under_way p.store.scheme) i f w in
@@ -672,11 +697,13 @@ hart_call K device o p b x y h c step input free way i f w s once stays untouche
 -- ---- the record of a turn
 
 -- a cycle whose call failed, by what the exit of the call returns
-pub taken_err : {S : Type 0} (K : SchemeOf S) (P : Origin → Type 0) (actor : Actor) (m next : Machine S) (n new : Device) (r : Result Did NvmError) → IsErr r
+pub taken_err : {S : Type 0} (K : SchemeOf S) (P : Origin → Type 0) (actor : Actor) (m next : Machine S) (n new : Device)
+    (r : Result Did NvmError) → IsErr r
     → ((o : Origin) (cycles : ℕ) → P o → IsMoment K o cycles m n → IsActorOf K o m n actor → HasFailedAs K o actor m next n new)
     → IsFramed n new → Rose n.faults new.faults → HasTaken K P actor m n next new r
 taken_err K P actor m next n new (Ok did) is fails frame rose = absurd (true≢false (sym is))
-taken_err K P actor m next n new (Err e) is fails frame rose = record { simulates = λ o cycles q at turn. tt; fails = fails; frame = frame; cause = rose }
+taken_err K P actor m next n new (Err e) is fails frame rose =
+    record { simulates = λ o cycles q at turn. tt; fails = fails; frame = frame; cause = rose }
 
 -- a hart's cycle that failed is one
 pub err_by : (r : Result Advance NvmError) → IsErr r → IsErr (did_by r)
@@ -689,7 +716,8 @@ reported_by (Ok a) = refl
 reported_by (Err e) = refl
 
 -- the turn by another name
-pub taken_is : {S : Type 0} (K : SchemeOf S) (P Q : Origin → Type 0) (a b : Actor) (m next : Machine S) (n new : Device) (r : Result Did NvmError)
+pub taken_is : {S : Type 0} (K : SchemeOf S) (P Q : Origin → Type 0) (a b : Actor) (m next : Machine S) (n new : Device)
+    (r : Result Did NvmError)
     → b ≡ a → ((o : Origin) → Q o → P o) → HasTaken K P a m n next new r → HasTaken K Q b m n next new r
 taken_is K P Q a b m next n new r e kind taken = record {
   simulates = λ o cycles q at turn.

@@ -10,17 +10,18 @@ use Rattle.thy_scheme.specs.Scheme.{SchemeOf}
 use Rattle.thy_scheme.specs.Machine.{Machine, run_view, view_in, view_of, has_read_in, has_read_of}
 use Rattle.thy_scheme.specs.Sound.{SoundIn, Sound}
 
--- at a moment the scheme is one of the run's geometry
-geometry_in : {S : Type 0} (K : SchemeOf S) (l : IsLawful K) (o : Origin) (m : Machine S) (n : Device) (phase : Phase) → n.down ≡ false → SoundIn K o phase m n
-    → K.is_of o.geometry m.scheme
-geometry_in K l o m n Boot up s = (l.boot_holds o m.scheme n (record { boots = s.boots; up = up })).of_geometry
-geometry_in K l o m n Run up s = (l.run_holds o m.marks m.scheme n (record { sound = s.checkpoints; up = up })).of_geometry
-geometry_in K l o m n Halt up s = (l.run_holds o m.marks m.scheme n (record { sound = s.checkpoints; up = up })).of_geometry
+module _ {S : Type 0} (K : SchemeOf S) (l : IsLawful K) (o : Origin) where
+  -- at a moment the scheme is one of the run's geometry
+  geometry_in : (m : Machine S) (n : Device) (phase : Phase) → n.down ≡ false → SoundIn K o phase m n → K.is_of o.geometry m.scheme
+  geometry_in m n Boot up s = (l.boot_holds o m.scheme n (record { boots = s.boots; up = up })).of_geometry
+  geometry_in m n Run up s = (l.run_holds o m.marks m.scheme n (record { sound = s.checkpoints; up = up })).of_geometry
+  geometry_in m n Halt up s = (l.run_holds o m.marks m.scheme n (record { sound = s.checkpoints; up = up })).of_geometry
 
-pub geometry_is : {S : Type 0} (K : SchemeOf S) (l : IsLawful K) (o : Origin) (k : ℕ) (m : Machine S) (n : Device) → Sound K o k m n → K.is_of o.geometry m.scheme
-geometry_is K l o k m n s = geometry_in K l o m n m.phase s.up s.moment
+  pub geometry_is : (k : ℕ) (m : Machine S) (n : Device) → Sound K o k m n → K.is_of o.geometry m.scheme
+  geometry_is k m n s = geometry_in m n m.phase s.up s.moment
 
-pub loading_boot : {S : Type 0} (K : SchemeOf S) (o : Origin) (k : ℕ) (m : Machine S) (n : Device) (loading : Bool) → m.phase ≡ Boot → Sound K o k m n
+pub loading_boot : {S : Type 0} (K : SchemeOf S) (o : Origin) (k : ℕ) (m : Machine S) (n : Device) (loading : Bool) → m.phase ≡ Boot
+    → Sound K o k m n
     → ((p : Origin) (v : Device) → K.boots p m.scheme v → loading ≡ (K.has_read m.scheme && loads (K.boot_view p m.scheme v)))
     → loading ≡ (has_read_of K m && loads (view_of K o m n))
 loading_boot K o k m n loading e s shown_loading =
@@ -28,7 +29,8 @@ loading_boot K o k m n loading e s shown_loading =
     shown_loading o n boots.boots ∙ ap (λ phase. has_read_in K phase m && loads (view_in K o phase m n)) (sym e)
 
 loading_at : {S : Type 0} (K : SchemeOf S) (o : Origin) (m : Machine S) (n : Device) (phase : Phase) → m.phase ≡ phase
-    → has_read_in K phase m ≡ true → (view_in K o phase m n) ≡ run_view m → is_boot phase ≡ false → false ≡ (has_read_of K m && loads (view_of K o m n))
+    → has_read_in K phase m ≡ true → (view_in K o phase m n) ≡ run_view m → is_boot phase ≡ false
+    → false ≡ (has_read_of K m && loads (view_of K o m n))
 loading_at K o m n phase e read view behind =
     sym (ap (λ p. has_read_in K p m && loads (view_in K o p m n)) e
     ∙ ap (λ r. r && loads (view_in K o phase m n)) read

@@ -14,18 +14,19 @@ use Rattle.thy_block.proofs.FlatLemmas.{flat-nil, flat-one, flat-append, flat-ta
 
 -- ---- a block through the cache
 
-pub loads_inside : (c : Contents) (blocks : List Block) (b : ℕ) → b < length (cached c blocks) → b < length blocks
-loads_inside c blocks b l = omega (arith, l, length-flat c blocks)
+module _ (c : Contents) (blocks : List Block) (b : ℕ) where
+  pub loads_inside : b < length (cached c blocks) → b < length blocks
+  loads_inside l = omega (arith, l, length-flat c blocks)
 
-pub block_hit : (c : Contents) (blocks : List Block) (b : ℕ) (line : Option Block) (block : Block) → b < length (cached c blocks)
-    → line ≡ peeked c b → line ≡ Some block → block ≡ block_at (cached c blocks) b
-block_hit c blocks b line block l is some =
-    sym (block_at-flat c blocks b (loads_inside c blocks b l) ∙ ap (λ (o : Option Block). unwrap_or o (block_at blocks b)) (sym is ∙ some))
+  pub block_hit : (line : Option Block) (block : Block) → b < length (cached c blocks) → line ≡ peeked c b → line ≡ Some block
+      → block ≡ block_at (cached c blocks) b
+  block_hit line block l is some =
+      sym (block_at-flat c blocks b (loads_inside l) ∙ ap (λ (o : Option Block). unwrap_or o (block_at blocks b)) (sym is ∙ some))
 
-pub block_miss : (c : Contents) (blocks : List Block) (b : ℕ) (line : Option Block) → b < length (cached c blocks)
-    → line ≡ peeked c b → line ≡ None → block_at blocks b ≡ block_at (cached c blocks) b
-block_miss c blocks b line l is none =
-    sym (block_at-flat c blocks b (loads_inside c blocks b l) ∙ ap (λ (o : Option Block). unwrap_or o (block_at blocks b)) (sym is ∙ none))
+  pub block_miss : (line : Option Block) → b < length (cached c blocks) → line ≡ peeked c b → line ≡ None
+      → block_at blocks b ≡ block_at (cached c blocks) b
+  block_miss line l is none =
+      sym (block_at-flat c blocks b (loads_inside l) ∙ ap (λ (o : Option Block). unwrap_or o (block_at blocks b)) (sym is ∙ none))
 
 -- ---- blocks one after the other
 
@@ -34,7 +35,8 @@ read_none first bs =
     let same : first + 0 ≡ first = omega arith in
     sym (ap flat (ap (λ n. drop first (take n bs)) (sym same) ∙ drop-take first 0 bs) ∙ flat-nil)
 
-one_more : (first i : ℕ) (bs : List Block) → first ≤ i → i < length bs → flat (drop first (take (i + 1) bs)) ≡ flat (drop first (take i bs)) ++ block_bytes (block_at bs i)
+one_more : (first i : ℕ) (bs : List Block) → first ≤ i → i < length bs
+    → flat (drop first (take (i + 1) bs)) ≡ flat (drop first (take i bs)) ++ block_bytes (block_at bs i)
 one_more first i bs l within =
     let whole : length (take i bs) ≡ i = length-take-le i bs (omega arith) in
     ap (λ (xs : List Block). flat (drop first xs)) (take_more bs i zero_block within)

@@ -1,6 +1,9 @@
 -- Steps of a hart in a row are cycles of a calm machine, whatever the picks are.
 use Rattle.std.proofs.Common.{◌≡◌, ℕ, zero, suc, ◌+◌, ◌==◌, Bool, true, false, if◌then◌else◌, List, [], ◌∷◌, ◌++◌, length, replicate, Option, Some, None, Result, Ok, refl, sym, ◌∙◌, ap, subst, inl, arith}
 use Rattle.std.specs.Prelude.{unwrap_or}
+use Rattle.std.specs.Option.{option_map}
+use Rattle.thy_isa.specs.declared.state.CpuState.{CpuState}
+use Rattle.thy_isa.specs.Step.{exchanged, cpu_crossed}
 use Rattle.thy_block.specs.declared.parameters.Parameters.{Parameters}
 use Rattle.thy_block.specs.declared.mix.Pick.{Pick}
 use Rattle.thy_block.specs.declared.nvm.NvmError.{NvmError}
@@ -26,7 +29,7 @@ use Rattle.thy_view.specs.NextActor.{Advances, begins}
 use Rattle.thy_scheme.specs.Laws.{IsLawful}
 use Rattle.thy_scheme.specs.Scheme.{SchemeOf}
 use Rattle.thy_scheme.specs.SchemeStore.{held_by_scheme}
-use Rattle.thy_scheme.specs.MachineCalls.{IsBelow, HartCall, below_by, below_after, retires_by, begun_by_hart, after_hart}
+use Rattle.thy_scheme.specs.MachineCalls.{cpu_begun, IsBelow, HartCall, below_by, below_after, retires_by, begun_by_hart, after_hart}
 use Rattle.thy_scheme.specs.Kind.{kind_over}
 use Rattle.thy_scheme.specs.Machine.{Machine, moment_of}
 use Rattle.thy_scheme.proofs.BegunLaws.{ended-hand, cpu-fronted-twice}
@@ -39,7 +42,8 @@ use Rattle.thy_core.proofs.CycleLaws.{framed_same, given_is, hart_cycle}
 use Rattle.thy_core.proofs.TakenLaws.{reported_steps}
 
 -- what a step did, as the view names it
-did_by_hart : (number : ℕ) (retires : Bool) → did_of (if retires then hart.Retired number else hart.Moved) ≡ (if retires then did_of (hart.Retired number) else did_of hart.Moved)
+did_by_hart : (number : ℕ) (retires : Bool)
+    → did_of (if retires then hart.Retired number else hart.Moved) ≡ (if retires then did_of (hart.Retired number) else did_of hart.Moved)
 did_by_hart number true = refl
 did_by_hart number false = refl
 
@@ -49,7 +53,8 @@ stays_hart true x number is = is
 stays_hart false x number is = refl
 
 -- what a step did, from what is reported of it
-pub advance_is : (number : ℕ) (retires : Bool) (a : Advance) → did_of a ≡ (if retires then did_of (hart.Retired number) else did_of hart.Moved)
+pub advance_is : (number : ℕ) (retires : Bool) (a : Advance)
+    → did_of a ≡ (if retires then did_of (hart.Retired number) else did_of hart.Moved)
     → (if retires then hart.Retired number else hart.Moved) ≡ a
 advance_is number true (hart.Retired x) is = cc
 advance_is number true hart.Moved is = absurd (cc)
@@ -67,6 +72,15 @@ moved-more moved = ap (λ (k : ℕ). replicate k hart.Moved) e ∙ more moved
     more zero = refl
     more (suc k) = ap (λ (others : List Advance). hart.Moved ∷ others) (more k)
 
+-- a hart that is alone is so when its instruction is begun
+fronted-alone : (b : Bool) (c : CpuState) → c.other ≡ None → (if b then c else cpu_crossed c).other ≡ None
+fronted-alone true c is = is
+fronted-alone false c is = ap (option_map (exchanged c.pc c.regs)) is
+
+pub begun-alone : (number : ℕ) (begun : Option ℕ) (c : CpuState) → c.other ≡ None → (cpu_begun number begun c).other ≡ None
+begun-alone number None c is = fronted-alone (number == 0) c is
+begun-alone number (Some other) c is = is
+
 -- ---- how the instruction ends
 
 -- nothing is in hand once it has ended
@@ -79,7 +93,8 @@ row_hand g held (suc moved) (Some s) h k c d ends (l, e, there, step, others) = 
 
 -- ---- how long the epoch goes on
 
-over_row : (g : Given) (held : Holding) (moved : ℕ) (last : Option HartStep) (h k : HartState) (c d : Contents) → g.under_way ≡ false → h.epoch.over ≡ None
+over_row : (g : Given) (held : Holding) (moved : ℕ) (last : Option HartStep) (h k : HartState) (c d : Contents) → g.under_way ≡ false
+    → h.epoch.over ≡ None
     → ends_epoch last ≡ false → Takes g held h c (moved_then moved last) k d → k.epoch.over ≡ None
 over_row g held zero None h k c d idle none goes (same, used) = ap (λ (x : HartState). x.epoch.over) same ∙ none
 over_row g held zero (Some s) h k c d idle none goes (l, e, there, step, (same, used)) =
@@ -91,7 +106,8 @@ over_row g held (suc moved) (Some s) h k c d idle none goes (l, e, there, step, 
 
 -- ---- the cycles
 
-module _ {S : Type 0} (K : SchemeOf S) (l : IsLawful K) (start : Start) (n : Device) (number : ℕ) (input : List ℕ) (from : (o : Origin) → HasStart start o → o.input ≡ input)
+module _ {S : Type 0} (K : SchemeOf S) (l : IsLawful K) (start : Start) (n : Device) (number : ℕ) (input : List ℕ)
+    (from : (o : Origin) → HasStart start o → o.input ≡ input)
     (empty : length n.queue ≡ 0) where
   -- what the hart is handed
   abbrev hands : Machine S → Given
@@ -136,7 +152,8 @@ module _ {S : Type 0} (K : SchemeOf S) (l : IsLawful K) (start : Start) (n : Dev
       let done : Result Did NvmError = Ok (did_of a) in
       let taken : HasTaken K (HasStart start) (Advances number) m n next n done = record {
         simulates = λ o cycles starts at turn.
-            hart_cycle K o cycles m n at number h c m.scheme n s next (did_of a) turn (one_call m h c s o.input calm (from o starts) there step) refl (did_by_hart number (retires_by s));
+            hart_cycle K o cycles m n at number h c m.scheme n s next (did_of a) turn
+            (one_call m h c s o.input calm (from o starts) there step) refl (did_by_hart number (retires_by s));
         fails = λ o cycles starts at turn. tt;
         frame = framed_same n;
         cause = refl;
@@ -162,7 +179,8 @@ module _ {S : Type 0} (K : SchemeOf S) (l : IsLawful K) (start : Start) (n : Dev
   counted-row moved (Some s) h c m = refl
 
   -- while the instruction goes on, the machine stays calm, and each pick is the same hart's
-  calm_moved : (m : Machine S) (h : HartState) (c : Contents) → is_calm K m ≡ true → IsStep (hands m) (moment_of K (found m) n) (moment h c (held m)) Moved
+  calm_moved : (m : Machine S) (h : HartState) (c : Contents) → is_calm K m ≡ true
+      → IsStep (hands m) (moment_of K (found m) n) (moment h c (held m)) Moved
       → is_calm K (after_hart number Moved h c m.scheme m) ≡ true
   calm_moved m h c calm step =
       calm_on K m (after_hart number Moved h c m.scheme m) (calm_parts K m calm) refl refl
@@ -174,9 +192,11 @@ module _ {S : Type 0} (K : SchemeOf S) (l : IsLawful K) (start : Start) (n : Dev
       ap (λ (p : Parameters). if p.harts == 1 then 0 else number) fixed
       ∙ stays_hart (m.hart.geometry.harts == 1) (unwrap_or m.begun (begins pick m.last)) number mine
 
-  pub row_from : (moved : ℕ) (last : Option HartStep) (pick : Pick) (m next : Machine S) (h : HartState) (c : Contents) → is_calm K m ≡ true → hart_of K pick m ≡ number
+  pub row_from : (moved : ℕ) (last : Option HartStep) (pick : Pick) (m next : Machine S) (h : HartState) (c : Contents) → is_calm K m ≡ true
+      → hart_of K pick m ≡ number
       → (moved ≡ 0 → last ≡ None → found m ≡ m) → Takes (hands m) (held m) (found m).hart m.cache (moved_then moved last) h c
-      → next ≡ counted last h c (found m) (m.spent + moved) m.lap → SimulatesRow (kind_over K) start pick (advances_by number moved last) m next n
+      → next ≡ counted last h c (found m) (m.spent + moved) m.lap
+      → SimulatesRow (kind_over K) start pick (advances_by number moved last) m next n
   row_from zero None pick m next h c calm mine here (same, used) is =
       let e : m.spent + zero ≡ m.spent = omega arith in
       is ∙ ap (λ (x : HartState). counted None x c (found m) (m.spent + zero) m.lap) same
@@ -198,7 +218,8 @@ module _ {S : Type 0} (K : SchemeOf S) (l : IsLawful K) (start : Start) (n : Dev
         between,
         one_cycle pick m k d Moved calm mine there step,
         λ later.
-            row_from moved None later between next h c (calm_moved m k d calm step) (mine_moved pick later m k d mine step.fixed) (λ first none. refl) others
+            row_from moved None later between next h c (calm_moved m k d calm step) (mine_moved pick later m k d mine step.fixed)
+            (λ first none. refl) others
             (is ∙ ap (λ (x : ℕ). counted None h c (found m) x m.lap) e ∙ ap (λ (x : ℕ). counted None h c (found m) ((m.spent + 1) + moved) x) f),
       )
   row_from (suc moved) (Some s) pick m next h c calm mine here (k, d, there, step, others) is =
@@ -208,13 +229,17 @@ module _ {S : Type 0} (K : SchemeOf S) (l : IsLawful K) (start : Start) (n : Dev
         between,
         one_cycle pick m k d Moved calm mine there step,
         λ later.
-            row_from moved (Some s) later between next h c (calm_moved m k d calm step) (mine_moved pick later m k d mine step.fixed) (λ first none. refl) others
-            (is ∙ ap (λ (x : ℕ). counted (Some s) h c (found m) x m.lap) e ∙ ap (λ (x : ℕ). counted (Some s) h c (found m) ((m.spent + 1) + moved) x) f),
+            row_from moved (Some s) later between next h c (calm_moved m k d calm step) (mine_moved pick later m k d mine step.fixed)
+            (λ first none. refl) others
+            (is ∙ ap (λ (x : ℕ). counted (Some s) h c (found m) x m.lap) e
+            ∙ ap (λ (x : ℕ). counted (Some s) h c (found m) ((m.spent + 1) + moved) x) f),
       )
 
   -- a machine after a row that did not end the epoch is calm
-  pub row_calm : (moved spent lap : ℕ) (last : Option HartStep) (m next : Machine S) (h : HartState) (c : Contents) → is_calm K m ≡ true → ends_epoch last ≡ false
-      → Takes (hands m) (held m) (found m).hart m.cache (moved_then moved last) h c → next ≡ counted last h c (found m) spent lap → is_calm K next ≡ true
+  pub row_calm : (moved spent lap : ℕ) (last : Option HartStep) (m next : Machine S) (h : HartState) (c : Contents) → is_calm K m ≡ true
+      → ends_epoch last ≡ false
+      → Takes (hands m) (held m) (found m).hart m.cache (moved_then moved last) h c → next ≡ counted last h c (found m) spent lap
+      → is_calm K next ≡ true
   row_calm moved spent lap None m next h c calm goes all is =
       ap (is_calm K) is
       ∙ calm_on K m (counted None h c (found m) spent lap) (calm_parts K m calm) refl refl
@@ -225,14 +250,16 @@ module _ {S : Type 0} (K : SchemeOf S) (l : IsLawful K) (start : Start) (n : Dev
       (over_row (hands m) (held m) moved (Some s) (found m).hart h m.cache c refl (calm_over K m calm) goes all)
 
   -- no step of a row fails
-  pub row_failed : (last : Option HartStep) (h : HartState) (c : Contents) (m : Machine S) (spent lap : ℕ) → (counted last h c m spent lap).failed ≡ m.failed
+  pub row_failed : (last : Option HartStep) (h : HartState) (c : Contents) (m : Machine S) (spent lap : ℕ)
+      → (counted last h c m spent lap).failed ≡ m.failed
   row_failed None h c m spent lap = refl
   row_failed (Some s) h c m spent lap = refl
 
 -- ---- no step was taken
 
 -- the machine is as before its instruction was begun
-pub put-back : {S : Type 0} (number : ℕ) (m : Machine S) (begun : Option ℕ) → m.begun ≡ begun → ((b : ℕ) → begun ≡ Some b → b ≡ number) → put_back number begun (begun_by_hart number m) ≡ m
+pub put-back : {S : Type 0} (number : ℕ) (m : Machine S) (begun : Option ℕ) → m.begun ≡ begun → ((b : ℕ) → begun ≡ Some b → b ≡ number)
+    → put_back number begun (begun_by_hart number m) ≡ m
 put-back {S = S} number m None is own =
     ap (λ (b : Option ℕ). put_back number None (begun_by_hart number (record m { begun = b }))) is
     ∙ ap (λ c. record m { hart = record m.hart { cpu = c }; begun = None }) (cpu-fronted-twice number m.hart.cpu)

@@ -64,7 +64,8 @@ put_back_sized m blocks s = record {
   console = subst (λ x. x ≤ console_room m.hart.geometry) (sym (console_fronted (front_of m.begun) m.hart.cpu)) s.console;
 }
 
-current_fronted : (hart : ℕ) (h : HartState) (blocks : List Block) → current (record h { cpu = cpu_fronted hart h.cpu }) blocks ≡ fronted hart (current h blocks)
+current_fronted : (hart : ℕ) (h : HartState) (blocks : List Block)
+    → current (record h { cpu = cpu_fronted hart h.cpu }) blocks ≡ fronted hart (current h blocks)
 unfolding current
 current_fronted zero h blocks = refl
 current_fronted (suc hart) h blocks =
@@ -73,54 +74,53 @@ current_fronted (suc hart) h blocks =
 
 -- ---- after a step that failed
 
--- a machine of which none has is at a moment
-pub at_moment : {S : Type 0} (K : SchemeOf S) (m : Machine S) (n : Device) → m.failed ≡ false → CanSnapshot (kind_over K) m n → CanRead (kind_over K) m n
-at_moment K m n unfailed (inl run) = run
-at_moment K m n unfailed (inr stopped) = let is = stopped.failed.failed in absurd (cc)
+module _ {S : Type 0} (K : SchemeOf S) where
+  -- a machine of which none has is at a moment
+  pub at_moment : (m : Machine S) (n : Device) → m.failed ≡ false → CanSnapshot (kind_over K) m n → CanRead (kind_over K) m n
+  at_moment m n unfailed (inl run) = run
+  at_moment m n unfailed (inr stopped) = let is = stopped.failed.failed in absurd (cc)
 
-pub not_stopped : {S : Type 0} (K : SchemeOf S) (o : Origin) (before : View) (m : Machine S) → m.failed ≡ false → SoundStopped K o before m → ⊥
-not_stopped K o before m unfailed stopped = let is = stopped.failed in cc
+  pub not_stopped : (o : Origin) (before : View) (m : Machine S) → m.failed ≡ false → SoundStopped K o before m → ⊥
+  not_stopped o before m unfailed stopped = let is = stopped.failed in cc
 
-pub not_failed : {S : Type 0} (K : SchemeOf S) (o : Origin) (k : ℕ) (m : Machine S) (n : Device) → m.failed ≡ true → Sound K o k m n → ⊥
-not_failed K o k m n failed sound = let is = sound.unfailed in cc
+module _ {S : Type 0} (K : SchemeOf S) (o : Origin) where
+  pub not_failed : (k : ℕ) (m : Machine S) (n : Device) → m.failed ≡ true → Sound K o k m n → ⊥
+  not_failed k m n failed sound = let is = sound.unfailed in cc
 
--- what is read of it is the processor's part
-pub processor_is : {S : Type 0} (K : SchemeOf S) (o : Origin) (before : View) (m : Machine S) (s : MachState) → state_of s ≡ state_with (processor_of m) [] []
-    → SoundStopped K o before m → IsProcessor o before s
-processor_is K o before m s is stopped = record {
-  bare = is ∙ sym (ap without_memory is);
-  processor = λ over. is ∙ stopped.processor over;
-}
+  -- what is read of it is the processor's part
+  pub processor_is : (before : View) (m : Machine S) (s : MachState) → state_of s ≡ state_with (processor_of m) [] []
+      → SoundStopped K o before m → IsProcessor o before s
+  processor_is before m s is stopped = record {
+    bare = is ∙ sym (ap without_memory is);
+    processor = λ over. is ∙ stopped.processor over;
+  }
 
--- ---- after the boot
+  -- ---- after the boot
 
-pub sound-behind : {S : Type 0} (K : SchemeOf S) (o : Origin) (k : ℕ) (m : Machine S) (n : Device) → Sound K o k m n
-    → ((m.phase ≡ Run) ⊎ (m.phase ≡ Halt)) → SoundRun K o m n
-sound-behind K o k m n s (inl e) = subst (λ phase. SoundIn K o phase m n) e s.moment
-sound-behind K o k m n s (inr e) = subst (λ phase. SoundIn K o phase m n) e s.moment
+  pub sound-behind : (k : ℕ) (m : Machine S) (n : Device) → Sound K o k m n → ((m.phase ≡ Run) ⊎ (m.phase ≡ Halt)) → SoundRun K o m n
+  sound-behind k m n s (inl e) = subst (λ phase. SoundIn K o phase m n) e s.moment
+  sound-behind k m n s (inr e) = subst (λ phase. SoundIn K o phase m n) e s.moment
 
-pub view-behind : {S : Type 0} (K : SchemeOf S) (o : Origin) (m : Machine S) (n : Device) → ((m.phase ≡ Run) ⊎ (m.phase ≡ Halt)) → view_of K o m n ≡ run_view m
-view-behind K o m n (inl e) = ap (λ phase. view_in K o phase m n) e
-view-behind K o m n (inr e) = ap (λ phase. view_in K o phase m n) e
+  pub view-behind : (m : Machine S) (n : Device) → ((m.phase ≡ Run) ⊎ (m.phase ≡ Halt)) → view_of K o m n ≡ run_view m
+  view-behind m n (inl e) = ap (λ phase. view_in K o phase m n) e
+  view-behind m n (inr e) = ap (λ phase. view_in K o phase m n) e
 
-pub can_run : {S : Type 0} (K : SchemeOf S) (o : Origin) (k : ℕ) (m : Machine S) (n : Device) → Sound K o k m n
-    → ((m.phase ≡ Run) ⊎ (m.phase ≡ Halt)) → CanRun K m.scheme n
-can_run K o k m n s e = record { o = o; k = m.marks; stands = record { sound = (sound-behind K o k m n s e).checkpoints; up = s.up } }
+  pub can_run : (k : ℕ) (m : Machine S) (n : Device) → Sound K o k m n → ((m.phase ≡ Run) ⊎ (m.phase ≡ Halt)) → CanRun K m.scheme n
+  can_run k m n s e = record { o = o; k = m.marks; stands = record { sound = (sound-behind k m n s e).checkpoints; up = s.up } }
 
--- the boot is not between two instructions
-pub boot_between : {S : Type 0} (K : SchemeOf S) (l : IsLawful K) (o : Origin) (k : ℕ) (m : Machine S) (n : Device) → Sound K o k m n → m.phase ≡ Boot
-    → is_between (view_of K o m n) ≡ true → ⊥
-boot_between K l o k m n s e between =
-    let v : View = view_of K o m n in
-    let shown = ap (λ phase. is_halt phase || (not (is_boot phase) && v.spent == 0)) (phase_in K l o k m n Boot s e) in
-    let none : false ≡ true = sym shown ∙ between in
-    cc
+module _ {S : Type 0} (K : SchemeOf S) (l : IsLawful K) (o : Origin) (k : ℕ) (m : Machine S) (n : Device) (s : Sound K o k m n) where
+  -- the boot is not between two instructions
+  pub boot_between : m.phase ≡ Boot → is_between (view_of K o m n) ≡ true → ⊥
+  boot_between e between =
+      let v : View = view_of K o m n in
+      let shown = ap (λ phase. is_halt phase || (not (is_boot phase) && v.spent == 0)) (phase_in K l o k m n Boot s e) in
+      let none : false ≡ true = sym shown ∙ between in
+      cc
 
-pub boot_shown : {S : Type 0} (K : SchemeOf S) (l : IsLawful K) (o : Origin) (k : ℕ) (m : Machine S) (n : Device) → Sound K o k m n → m.phase ≡ Boot
-    → is_boot (view_of K o m n).phase ≡ false → ⊥
-boot_shown K l o k m n s e behind =
-    let both : true ≡ false = sym (ap is_boot (phase_in K l o k m n Boot s e)) ∙ behind in
-    cc
+  pub boot_shown : m.phase ≡ Boot → is_boot (view_of K o m n).phase ≡ false → ⊥
+  boot_shown e behind =
+      let both : true ≡ false = sym (ap is_boot (phase_in K l o k m n Boot s e)) ∙ behind in
+      cc
 
 -- in the boot it does not hold that the boot is over and nothing is written
 pub boot_unwritten : {S : Type 0} (m : Machine S) → m.phase ≡ Boot → IsUnwritten m → ⊥
@@ -145,14 +145,16 @@ unwritten_behind K o k m n phase s e behind booted between = record {
   unwritten = ap has_written (no_hand K o k m n s behind (sym (ap is_between (view-behind K o m n behind)) ∙ between));
 }
 
-unwritten_in : {S : Type 0} (K : SchemeOf S) (l : IsLawful K) (o : Origin) (k : ℕ) (m : Machine S) (n : Device) (phase : Phase) → Sound K o k m n
+unwritten_in : {S : Type 0} (K : SchemeOf S) (l : IsLawful K) (o : Origin) (k : ℕ) (m : Machine S) (n : Device) (phase : Phase)
+    → Sound K o k m n
     → m.phase ≡ phase → is_between (view_of K o m n) ≡ true → IsUnwritten m
 unwritten_in K l o k m n Boot s e between = absurd (boot_between K l o k m n s e between)
 unwritten_in K l o k m n Run s e between = unwritten_behind K o k m n Run s e (inl e) refl between
 unwritten_in K l o k m n Halt s e between = unwritten_behind K o k m n Halt s e (inr e) refl between
 
 -- what is read while no instruction has written a block is the state between two instructions
-pub reads_between : {S : Type 0} (K : SchemeOf S) (l : IsLawful K) (m : Machine S) (n : Device) (r : Result MachState CoreError) → ReadsState K m n r
+pub reads_between : {S : Type 0} (K : SchemeOf S) (l : IsLawful K) (m : Machine S) (n : Device) (r : Result MachState CoreError)
+    → ReadsState K m n r
     → Snapshots (kind_over K) m n r
 reads_between K l m n r reads = λ o k at between.
     let s = sound-here K o k m n at in
@@ -174,7 +176,8 @@ snapshot_is K o k m n s sound e calm is =
       count = ap (λ (t : State). t.count) now ∙ run.counted.count;
     })
 
-pub snapshot_when : {S : Type 0} (K : SchemeOf S) (o : Origin) (k : ℕ) (m : Machine S) (n : Device) (r : Result MachState CoreError) → Sound K o k m n
+pub snapshot_when : {S : Type 0} (K : SchemeOf S) (o : Origin) (k : ℕ) (m : Machine S) (n : Device) (r : Result MachState CoreError)
+    → Sound K o k m n
     → ((m.phase ≡ Run) ⊎ (m.phase ≡ Halt)) → IsUnwritten m → IfOk r (λ s. state_of s ≡ current (hart_put_back m) (memory_of K m n))
     → IfOk r (λ s. IsSnapshot o (view_of K o m n) s)
 snapshot_when K o k m n (Ok s) sound e calm is = snapshot_is K o k m n s sound e calm is
@@ -182,7 +185,8 @@ snapshot_when K o k m n (Err error) sound e calm is = tt
 
 -- ---- the committed checkpoint's console
 
-console_from : (p : Parameters) (cpu : CpuState) (blocks : List Block) (s : State) → state_from p cpu blocks ≡ s → s.console ≡ console_bytes p blocks cpu.console_len
+console_from : (p : Parameters) (cpu : CpuState) (blocks : List Block) (s : State) → state_from p cpu blocks ≡ s
+    → s.console ≡ console_bytes p blocks cpu.console_len
 unfolding state_from
 console_from p cpu blocks s is = sym (ap (λ (t : State). t.console) is)
 
@@ -199,7 +203,8 @@ pub committed_room : {S : Type 0} (K : SchemeOf S) (l : IsLawful K) (o : Origin)
     → ((m.phase ≡ Run) ⊎ (m.phase ≡ Halt)) → IsRoomy m.hart.geometry m.consoles.done (K.committed m.scheme n)
 committed_room K l o k m n s e =
     let run = sound-behind K o k m n s e in
-    let found : IsCommitted K o m.marks.done.count m.scheme n = (l.run_holds o m.marks m.scheme n (record { sound = run.checkpoints; up = s.up })).committed in
+    let found : IsCommitted K o m.marks.done.count m.scheme n =
+    (l.run_holds o m.marks m.scheme n (record { sound = run.checkpoints; up = s.up })).committed in
     let pages : List ℕ = drop (program_size o.geometry) (flat (K.committed m.scheme n)) in
     let len : m.consoles.done ≡ length (take found.cpu.console_len pages) =
     run.shown.done ∙ ap length (console_from o.geometry found.cpu (K.committed m.scheme n) (at o m.marks.done.count) found.state) in
@@ -216,12 +221,15 @@ committed_room K l o k m n s e =
     } in
     subst (λ p. IsRoomy p m.consoles.done (K.committed m.scheme n)) (sym s.geometry) roomy
 
-pub console_is : {S : Type 0} (K : SchemeOf S) (l : IsLawful K) (o : Origin) (k : ℕ) (m : Machine S) (n : Device) (done : Mark) (from : ℕ) (bytes : List ℕ)
+pub console_is : {S : Type 0} (K : SchemeOf S) (l : IsLawful K) (o : Origin) (k : ℕ) (m : Machine S) (n : Device) (done : Mark)
+    (from : ℕ) (bytes : List ℕ)
     → Sound K o k m n → ((m.phase ≡ Run) ⊎ (m.phase ≡ Halt)) → (view_of K o m n).done ≡ Some done
-    → bytes ≡ drop from (console_bytes m.hart.geometry (K.committed m.scheme n) m.consoles.done) → bytes ≡ drop from (at o done.count).console
+    → bytes ≡ drop from (console_bytes m.hart.geometry (K.committed m.scheme n) m.consoles.done)
+    → bytes ≡ drop from (at o done.count).console
 console_is K l o k m n done from bytes s e seen is =
     let run = sound-behind K o k m n s e in
-    let found : IsCommitted K o m.marks.done.count m.scheme n = (l.run_holds o m.marks m.scheme n (record { sound = run.checkpoints; up = s.up })).committed in
+    let found : IsCommitted K o m.marks.done.count m.scheme n =
+    (l.run_holds o m.marks m.scheme n (record { sound = run.checkpoints; up = s.up })).committed in
     let marked : Some m.marks.done ≡ Some done = sym (ap (λ (v : View). v.done) (view-behind K o m n e)) ∙ seen in
     let same : m.marks.done ≡ done = cc in
     is
@@ -232,14 +240,16 @@ console_is K l o k m n done from bytes s e seen is =
 
 -- the machine's console has no byte from one on if the committed checkpoint's has none
 pub console_past : {S : Type 0} (K : SchemeOf S) (o : Origin) (k : ℕ) (m : Machine S) (n : Device) (done : Mark) (from : ℕ)
-    → Sound K o k m n → ((m.phase ≡ Run) ⊎ (m.phase ≡ Halt)) → (view_of K o m n).done ≡ Some done → length (at o done.count).console ≤ from → m.consoles.done ≤ from
+    → Sound K o k m n → ((m.phase ≡ Run) ⊎ (m.phase ≡ Halt)) → (view_of K o m n).done ≡ Some done → length (at o done.count).console ≤ from
+    → m.consoles.done ≤ from
 console_past K o k m n done from s e seen past =
     let run = sound-behind K o k m n s e in
     let marked : Some m.marks.done ≡ Some done = sym (ap (λ (v : View). v.done) (view-behind K o m n e)) ∙ seen in
     let same : m.marks.done ≡ done = cc in
     omega (arith, run.shown.done, ap (λ (d : Mark). length (at o d.count).console) same)
 
-pub console_when : {S : Type 0} (K : SchemeOf S) (l : IsLawful K) (o : Origin) (k : ℕ) (m : Machine S) (n : Device) (done : Mark) (from : ℕ) (r : Result Bytes CoreError)
+pub console_when : {S : Type 0} (K : SchemeOf S) (l : IsLawful K) (o : Origin) (k : ℕ) (m : Machine S) (n : Device) (done : Mark) (from : ℕ)
+    (r : Result Bytes CoreError)
     → Sound K o k m n → ((m.phase ≡ Run) ⊎ (m.phase ≡ Halt)) → (view_of K o m n).done ≡ Some done
     → IfOk r (λ b. bytes_of b ≡ drop from (console_bytes m.hart.geometry (K.committed m.scheme n) m.consoles.done))
     → IfOk r (λ b. bytes_of b ≡ drop from (at o done.count).console)

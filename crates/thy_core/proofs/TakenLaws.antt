@@ -35,29 +35,32 @@ use Rattle.thy_scheme.proofs.BootingLaws.{view-boot, holds-boot, uncounted}
 use Rattle.thy_scheme.proofs.StepLaws.{simulating_is_step, failing_is_safe}
 use Rattle.thy_core.proofs.TurnLaws.{turn_is, at_turn}
 
-pub at_run : {S : Type 0} (K : SchemeOf S) (l : IsLawful K) (o : Origin) (cycles : ℕ) (m : Machine S) (n : Device) → Sound K o cycles m n → cycles < 2 ^ 62
-    → At K o cycles m n
-at_run K l o cycles m n sound few = record { lawful = l; sound = sound; few = few }
+module _ {S : Type 0} (K : SchemeOf S) where
+  pub at_run : (l : IsLawful K) (o : Origin) (cycles : ℕ) (m : Machine S) (n : Device) → Sound K o cycles m n → cycles < 2 ^ 62
+      → At K o cycles m n
+  at_run l o cycles m n sound few = record { lawful = l; sound = sound; few = few }
 
-pub moment_of : {S : Type 0} (K : SchemeOf S) (o : Origin) (cycles : ℕ) (m : Machine S) (n : Device) → At K o cycles m n → IsMoment K o cycles m n
-moment_of K o cycles m n at = record { lawful = at.lawful; sound = at.sound }
+  pub moment_of : (o : Origin) (cycles : ℕ) (m : Machine S) (n : Device) → At K o cycles m n → IsMoment K o cycles m n
+  moment_of o cycles m n at = record { lawful = at.lawful; sound = at.sound }
 
--- the phase of the view is the machine's
-pub phase_in : {S : Type 0} (K : SchemeOf S) (l : IsLawful K) (o : Origin) (cycles : ℕ) (m : Machine S) (n : Device) (phase : Phase) → Sound K o cycles m n → m.phase ≡ phase
-    → (view_of K o m n).phase ≡ phase
-phase_in K l o cycles m n Boot s e = ap (λ v. v.phase) (view-boot K o m n e) ∙ (uncounted o (K.boot_view o m.scheme n) (holds-boot K l o cycles m n s e).shown).phase
-phase_in K l o cycles m n Run s e = ap (λ v. v.phase) (view-run K o m n e) ∙ e
-phase_in K l o cycles m n Halt s e = ap (λ phase. (view_in K o phase m n).phase) e ∙ e
+  -- the phase of the view is the machine's
+  pub phase_in : (l : IsLawful K) (o : Origin) (cycles : ℕ) (m : Machine S) (n : Device) (phase : Phase) → Sound K o cycles m n
+      → m.phase ≡ phase → (view_of K o m n).phase ≡ phase
+  phase_in l o cycles m n Boot s e = ap (λ v. v.phase) (view-boot K o m n e)
+      ∙ (uncounted o (K.boot_view o m.scheme n) (holds-boot K l o cycles m n s e).shown).phase
+  phase_in l o cycles m n Run s e = ap (λ v. v.phase) (view-run K o m n e) ∙ e
+  phase_in l o cycles m n Halt s e = ap (λ phase. (view_in K o phase m n).phase) e ∙ e
 
-pub turned : {S : Type 0} (K : SchemeOf S) (o : Origin) (cycles : ℕ) (pick : Pick) (nvm : ℕ) (actor : Actor) (m : Machine S) (n : Device) → IsMoment K o cycles m n
-    → nvm ≡ length n.queue → actor ≡ actor_now K pick nvm m → IsActorOf K o m n actor
-turned K o cycles pick nvm actor m n at queued is = subst (IsActorOf K o m n) (sym is) (at_turn K o cycles m n at pick nvm queued)
+  pub turned : (o : Origin) (cycles : ℕ) (pick : Pick) (nvm : ℕ) (actor : Actor) (m : Machine S) (n : Device) → IsMoment K o cycles m n
+      → nvm ≡ length n.queue → actor ≡ actor_now K pick nvm m → IsActorOf K o m n actor
+  turned o cycles pick nvm actor m n at queued is = subst (IsActorOf K o m n) (sym is) (at_turn K o cycles m n at pick nvm queued)
 
--- the actor is the one of the view
-pub actor_is : {S : Type 0} (K : SchemeOf S) (o : Origin) (cycles : ℕ) (pick : Pick) (nvm : ℕ) (actor : Actor) (m : Machine S) (n : Device) → IsMoment K o cycles m n
-    → nvm ≡ length n.queue → actor ≡ actor_now K pick nvm m → actor ≡ actor_of o pick (length n.queue) (view_of K o m n) (pressure_of K m)
-actor_is K o cycles pick nvm actor m n at queued is =
-    is ∙ turn_is K o cycles m n at pick nvm ∙ ap (λ q. actor_of o pick q (view_of K o m n) (pressure_of K m)) queued
+  -- the actor is the one of the view
+  pub actor_is : (o : Origin) (cycles : ℕ) (pick : Pick) (nvm : ℕ) (actor : Actor) (m : Machine S) (n : Device) → IsMoment K o cycles m n
+      → nvm ≡ length n.queue → actor ≡ actor_now K pick nvm m
+      → actor ≡ actor_of o pick (length n.queue) (view_of K o m n) (pressure_of K m)
+  actor_is o cycles pick nvm actor m n at queued is =
+      is ∙ turn_is K o cycles m n at pick nvm ∙ ap (λ q. actor_of o pick q (view_of K o m n) (pressure_of K m)) queued
 
 -- another actor than a hart that advances
 pub is_other : (actor : ActorHere) (hart : ℕ) → actor_seen actor ≡ Advances hart → ⊥
@@ -73,9 +76,11 @@ others_turn K l pick nvm actor m n queued is = λ o k hart here turn.
     let at : IsMoment K o k m n = record { lawful = l; sound = sound-here K o k m n here } in
     is_other actor hart (actor_is K o k pick nvm (actor_seen actor) m n at queued is ∙ turn)
 
-pub step_taken : {S : Type 0} (K : SchemeOf S) (o : Origin) (cycles : ℕ) (pick : Pick) (nvm : ℕ) (actor : Actor) (m next : Machine S) (n new : Device) (r : Stepped)
+pub step_taken : {S : Type 0} (K : SchemeOf S) (o : Origin) (cycles : ℕ) (pick : Pick) (nvm : ℕ) (actor : Actor) (m next : Machine S)
+    (n new : Device) (r : Stepped)
     → At K o cycles m n → nvm ≡ length n.queue → actor ≡ actor_now K pick nvm m → IsCycle K o cycles actor r.did m n next new
-    → HasTurn o (view_of K o m n) r.did → IsAt K o (cycles + 1) next new → r.stall ≡ stall_at actor → r.ended ≡ (not (is_halt m.phase) && is_halt next.phase) → IsStep (kind_over K) o cycles pick m next n new r
+    → HasTurn o (view_of K o m n) r.did → IsAt K o (cycles + 1) next new → r.stall ≡ stall_at actor
+    → r.ended ≡ (not (is_halt m.phase) && is_halt next.phase) → IsStep (kind_over K) o cycles pick m next n new r
 step_taken K o cycles pick nvm actor m next n new r at queued is c mine at_next stall ended =
     let turn = actor_is K o cycles pick nvm actor m n (moment_of K o cycles m n at) queued is in
     let before = phase_in K at.lawful o cycles m n m.phase at.sound refl in
@@ -91,7 +96,8 @@ step_taken K o cycles pick nvm actor m next n new r at queued is c mine at_next 
 -- ---- whatever turns are to come
 
 -- a cycle that is the actor's along all turns that agree so far is a step of a machine
-pub steps_taken : {S : Type 0} (K : SchemeOf S) (l : IsLawful K) (o : Origin) (cycles : ℕ) (pick : Pick) (nvm : ℕ) (actor : Actor) (start : Start) (m next : Machine S) (n new : Device) (r : Stepped)
+pub steps_taken : {S : Type 0} (K : SchemeOf S) (l : IsLawful K) (o : Origin) (cycles : ℕ) (pick : Pick) (nvm : ℕ) (actor : Actor)
+    (start : Start) (m next : Machine S) (n new : Device) (r : Stepped)
     → cycles < 2 ^ 62 → Begins o start → IsAt K o cycles m n → nvm ≡ length n.queue → actor ≡ actor_now K pick nvm m
     → ((p : Origin) → Begins p start → Sound K p cycles m n → IsCycle K p cycles actor r.did m n next new)
     → r.stall ≡ stall_at actor → r.ended ≡ (not (is_halt m.phase) && is_halt next.phase)
@@ -108,8 +114,10 @@ steps_taken K l o cycles pick nvm actor start m next n new r few begins at queue
     )
 
 -- a machine has failed in nothing after a cycle that succeeded
-pub unfailed_after : {S : Type 0} (K : SchemeOf S) (l : IsLawful K) (o : Origin) (cycles : ℕ) (actor : Actor) (start : Start) (m next : Machine S) (n new : Device) (did : Did)
-    → Begins o start → IsAt K o cycles m n → ((p : Origin) → Begins p start → Sound K p cycles m n → IsCycle K p cycles actor did m n next new)
+pub unfailed_after : {S : Type 0} (K : SchemeOf S) (l : IsLawful K) (o : Origin) (cycles : ℕ) (actor : Actor) (start : Start)
+    (m next : Machine S) (n new : Device) (did : Did)
+    → Begins o start → IsAt K o cycles m n
+    → ((p : Origin) → Begins p start → Sound K p cycles m n → IsCycle K p cycles actor did m n next new)
     → next.failed ≡ false
 unfailed_after K l o cycles actor start m next n new did begins at cycle =
     let found = finds-turns o (view_of K o m n) did (cycle o begins (sound-here K o cycles m n at)).there in
@@ -117,7 +125,8 @@ unfailed_after K l o cycles actor start m next n new did begins at cycle =
     = subst (λ (v : View). HasTurn (with_turns o found.0) v did) (sym (view-alike K l o found.0 m n)) found.2 in
     ((cycle (with_turns o found.0) (Begins-with_turns o found.0 start begins) (at found.0 found.1)).simulates theirs).at_next.unfailed
 
-pub step_failed : {S : Type 0} (K : SchemeOf S) (o : Origin) (cycles : ℕ) (pick : Pick) (nvm : ℕ) (actor : Actor) (m next : Machine S) (n new : Device)
+pub step_failed : {S : Type 0} (K : SchemeOf S) (o : Origin) (cycles : ℕ) (pick : Pick) (nvm : ℕ) (actor : Actor)
+    (m next : Machine S) (n new : Device)
     → IsMoment K o cycles m n → nvm ≡ length n.queue → actor ≡ actor_now K pick nvm m → HasFailedAs K o actor m next n new
     → LeavesSafe (kind_over K) o pick m (record next { failed = true }) n new
 step_failed K o cycles pick nvm actor m next n new at queued is f =
@@ -131,17 +140,20 @@ step_failed K o cycles pick nvm actor m next n new at queued is f =
 abbrev ended_by : {S : Type 0} → Machine S → Machine S → Bool
 ended_by m behind = not (is_halt m.phase) && is_halt behind.phase
 
-module _ {S : Type 0} (K : SchemeOf S) (l : IsLawful K) (start : Start) (pick : Pick) (nvm : ℕ) (actor : Actor) (m next behind : Machine S) (n new : Device) (result : Result Stepped NvmError)
+module _ {S : Type 0} (K : SchemeOf S) (l : IsLawful K) (start : Start) (pick : Pick) (nvm : ℕ) (actor : Actor) (m next behind : Machine S)
+    (n new : Device) (result : Result Stepped NvmError)
     (queued : nvm ≡ length n.queue) (is : actor ≡ actor_now K pick nvm m) where
   turn_at : (o : Origin) (k : ℕ) → IsMoment K o k m n → IsActorOf K o m n actor
   turn_at o k at = turned K o k pick nvm actor m n at queued is
 
-  cycle_at : (did : Did) → HasTaken K (HasStart start) actor m n behind new (Ok did) → (k : ℕ) → k < 2 ^ 62 → (p : Origin) → Begins p start → Sound K p k m n → IsCycle K p k actor did m n behind new
+  cycle_at : (did : Did) → HasTaken K (HasStart start) actor m n behind new (Ok did) → (k : ℕ) → k < 2 ^ 62 → (p : Origin) → Begins p start
+      → Sound K p k m n → IsCycle K p k actor did m n behind new
   cycle_at did t k few p starts sound =
       let at = at_run K l p k m n sound few in
       t.simulates p k starts at (turn_at p k (moment_of K p k m n at))
 
-  steps_by : (taken : Result Did NvmError) → HasTaken K (HasStart start) actor m n behind new taken → next ≡ noted taken behind → result ≡ reported (stall_at actor) (ended_by m behind) taken
+  steps_by : (taken : Result Did NvmError) → HasTaken K (HasStart start) actor m n behind new taken → next ≡ noted taken behind
+      → result ≡ reported (stall_at actor) (ended_by m behind) taken
       → Simulates (kind_over K) start pick m next n new result
   steps_by (Ok did) t next_is result_is = λ o k begins here few.
       rw result_is
@@ -150,18 +162,21 @@ module _ {S : Type 0} (K : SchemeOf S) (l : IsLawful K) (start : Start) (pick : 
       few begins here queued is (cycle_at did t k few) refl refl))
   steps_by (Err e) t next_is result_is = λ o k begins here few. rw result_is tt
 
-  fails_by : (taken : Result Did NvmError) → HasTaken K (HasStart start) actor m n behind new taken → next ≡ noted taken behind → result ≡ reported (stall_at actor) (ended_by m behind) taken
+  fails_by : (taken : Result Did NvmError) → HasTaken K (HasStart start) actor m n behind new taken → next ≡ noted taken behind
+      → result ≡ reported (stall_at actor) (ended_by m behind) taken
       → FailsSafe (kind_over K) start pick m next n new result
   fails_by (Ok did) t next_is result_is = λ o k begins here. rw result_is tt
   fails_by (Err e) t next_is result_is = λ o k begins here.
       let at : IsMoment K o k m n = record { lawful = l; sound = sound-here K o k m n here } in
       rw result_is (rw next_is (step_failed K o k pick nvm actor m behind n new at queued is (t.fails o k begins at (turn_at o k at))))
 
-  counts_by : (taken : Result Did NvmError) → HasTaken K (HasStart start) actor m n behind new taken → result ≡ reported (stall_at actor) (ended_by m behind) taken → CountsFault result n.faults new.faults
+  counts_by : (taken : Result Did NvmError) → HasTaken K (HasStart start) actor m n behind new taken
+      → result ≡ reported (stall_at actor) (ended_by m behind) taken → CountsFault result n.faults new.faults
   counts_by (Ok did) t result_is = rw result_is t.cause
   counts_by (Err e) t result_is = rw result_is t.cause
 
-  notes_by : (taken : Result Did NvmError) → HasTaken K (HasStart start) actor m n behind new taken → next ≡ noted taken behind → result ≡ reported (stall_at actor) (ended_by m behind) taken
+  notes_by : (taken : Result Did NvmError) → HasTaken K (HasStart start) actor m n behind new taken → next ≡ noted taken behind
+      → result ≡ reported (stall_at actor) (ended_by m behind) taken
       → CanStep (kind_over K) start m n → next.failed ≡ is_err result
   notes_by (Ok did) t next_is result_is run =
       rw result_is
@@ -169,8 +184,10 @@ module _ {S : Type 0} (K : SchemeOf S) (l : IsLawful K) (start : Start) (pick : 
   notes_by (Err e) t next_is result_is run = rw result_is (rw next_is refl)
 
 -- a cycle that was reported is a step of the run
-module _ {S : Type 0} (K : SchemeOf S) (l : IsLawful K) (start : Start) (pick : Pick) (nvm : ℕ) (actor : Actor) (m next : Machine S) (n new : Device) (result : Result Stepped NvmError)
-    (queued : nvm ≡ length n.queue) (is : actor ≡ actor_now K pick nvm m) (r : HasReported K (HasStart start) actor m n next new result) where
+module _ {S : Type 0} (K : SchemeOf S) (l : IsLawful K) (start : Start) (pick : Pick) (nvm : ℕ) (actor : Actor) (m next : Machine S)
+    (n new : Device) (result : Result Stepped NvmError)
+    (queued : nvm ≡ length n.queue) (is : actor ≡ actor_now K pick nvm m)
+    (r : HasReported K (HasStart start) actor m n next new result) where
   pub reported_steps : Simulates (kind_over K) start pick m next n new result
   reported_steps = steps_by K l start pick nvm actor m next r.behind n new result queued is r.cycle r.taken r.next_is r.result_is
 

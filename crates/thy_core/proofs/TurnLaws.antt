@@ -76,14 +76,16 @@ module _ {S : Type 0} (K : SchemeOf S) (o : Origin) (cycles : ℕ) (m : Machine 
   stall_run e =
       let run = sound-run K o cycles m n at.sound e in
       let whole : Bool = not (K.promoting m.scheme) in
-      let same = barred_is (K.under_way m.scheme) K.overlaps (is_some m.hart.epoch.over) (is_some (shortage_of K m)) (stopped_now K m) (has_stopped o m.marks.sealed && whole)
+      let same = barred_is (K.under_way m.scheme) K.overlaps (is_some m.hart.epoch.over) (is_some (shortage_of K m)) (stopped_now K m)
+      (has_stopped o m.marks.sealed && whole)
       (ended_is o m.marks.sealed m.ends whole run.shown.ends) in
       ap (λ w. if w then Some Waiting else (if is_some m.hart.epoch.over || K.promoting m.scheme then Some Sealing else None)) same
       ∙ ap (λ v. stall_in o Run v (pressure_of K m)) (sym (view-run K o m n e))
 
   -- the phase of the view is the machine's
   phase_is : (phase : Phase) → m.phase ≡ phase → (view_of K o m n).phase ≡ phase
-  phase_is Boot e = ap (λ v. v.phase) (view-boot K o m n e) ∙ (uncounted o (K.boot_view o m.scheme n) (holds-boot K at.lawful o cycles m n at.sound e).shown).phase
+  phase_is Boot e = ap (λ v. v.phase) (view-boot K o m n e)
+      ∙ (uncounted o (K.boot_view o m.scheme n) (holds-boot K at.lawful o cycles m n at.sound e).shown).phase
   phase_is Run e = ap (λ v. v.phase) (view-run K o m n e) ∙ e
   phase_is Halt e = ap (λ phase. (view_in K o phase m n).phase) e ∙ e
 
@@ -101,7 +103,8 @@ module _ {S : Type 0} (K : SchemeOf S) (o : Origin) (cycles : ℕ) (m : Machine 
       ∙ ap (λ phase. advancing (stall_in o phase (view_of K o m n) (pressure_of K m)) (hart_of K pick m)) (sym (phase_is m.phase refl))
       ∙ ap (advancing (stall_in o (view_of K o m n).phase (view_of K o m n) (pressure_of K m))) (hart_of_is pick)
 
-  engine_is : (pick : Pick) (phase : Phase) → m.phase ≡ phase → engine_now K pick phase m ≡ engine_actor o pick phase (view_of K o m n) (pressure_of K m)
+  engine_is : (pick : Pick) (phase : Phase) → m.phase ≡ phase
+      → engine_now K pick phase m ≡ engine_actor o pick phase (view_of K o m n) (pressure_of K m)
   engine_is pick Boot e = hart_is pick
   engine_is pick Halt e = hart_is pick
   engine_is pick Run e =
@@ -118,7 +121,8 @@ module _ {S : Type 0} (K : SchemeOf S) (o : Origin) (cycles : ℕ) (m : Machine 
 
   -- ---- what holds at the turn
 
-  waiting_by : (waits : Bool) (rest : Option Stall) → waits_now K m ≡ waits → rest ≢ Some Waiting → (if waits then Some Waiting else rest) ≡ Some Waiting → waits_now K m ≡ true
+  waiting_by : (waits : Bool) (rest : Option Stall) → waits_now K m ≡ waits → rest ≢ Some Waiting
+      → (if waits then Some Waiting else rest) ≡ Some Waiting → waits_now K m ≡ true
   waiting_by true rest e other is = e
   waiting_by false rest e other is = absurd (other is)
 
@@ -161,13 +165,16 @@ module _ {S : Type 0} (K : SchemeOf S) (o : Origin) (cycles : ℕ) (m : Machine 
   harts_turn pick (Some Waiting) Halt e is = absurd (cc)
   harts_turn pick (Some Booting) Halt e is = absurd (cc)
   harts_turn pick (Some Halted) Boot e is = absurd (cc)
-  harts_turn pick (Some Booting) Run e is = absurd (no_other (waits_now K m) (is_some m.hart.epoch.over || K.promoting m.scheme) Booting (λ w. cc w) (λ w. cc w) is)
-  harts_turn pick (Some Halted) Run e is = absurd (no_other (waits_now K m) (is_some m.hart.epoch.over || K.promoting m.scheme) Halted (λ w. cc w) (λ w. cc w) is)
+  harts_turn pick (Some Booting) Run e is =
+      absurd (no_other (waits_now K m) (is_some m.hart.epoch.over || K.promoting m.scheme) Booting (λ w. cc w) (λ w. cc w) is)
+  harts_turn pick (Some Halted) Run e is =
+      absurd (no_other (waits_now K m) (is_some m.hart.epoch.over || K.promoting m.scheme) Halted (λ w. cc w) (λ w. cc w) is)
 
   at_hart : (pick : Pick) → IsActorOf K o m n (hart_now K pick m)
   at_hart pick = harts_turn pick (stall_now K m.phase m) m.phase refl refl
 
-  by_engine : (pick : Pick) (way : Bool) → m.phase ≡ Run → K.under_way m.scheme ≡ way → IsActorOf K o m n (if way then Checkpoint else hart_now K pick m)
+  by_engine : (pick : Pick) (way : Bool) → m.phase ≡ Run → K.under_way m.scheme ≡ way
+      → IsActorOf K o m n (if way then Checkpoint else hart_now K pick m)
   by_engine pick false e way = at_hart pick
   by_engine pick true e way = (e, way)
 
@@ -178,11 +185,13 @@ module _ {S : Type 0} (K : SchemeOf S) (o : Origin) (cycles : ℕ) (m : Machine 
 
   by_nvm : (nvm : ℕ) → nvm ≡ length n.queue → IsActorOf K o m n (if nvm == 0 then hart_now K NvmDrain m else Nvm)
   by_nvm zero e = at_hart NvmDrain
-  by_nvm (suc k) e = subst (λ b. IsActorOf K o m n (if b then hart_now K NvmDrain m else Nvm)) (sym (ne_eqb (suc k) 0 (λ z. omega (arith, z)))) (omega (arith, e))
+  by_nvm (suc k) e = subst (λ b. IsActorOf K o m n (if b then hart_now K NvmDrain m else Nvm))
+      (sym (ne_eqb (suc k) 0 (λ z. omega (arith, z)))) (omega (arith, e))
 
   by_dram : (queued : ℕ) → K.queued m.scheme ≡ queued → IsActorOf K o m n (if queued == 0 then hart_now K DramDrain m else Dram)
   by_dram zero e = at_hart DramDrain
-  by_dram (suc k) e = subst (λ b. IsActorOf K o m n (if b then hart_now K DramDrain m else Dram)) (sym (ne_eqb (suc k) 0 (λ z. omega (arith, z)))) (omega (arith, e))
+  by_dram (suc k) e = subst (λ b. IsActorOf K o m n (if b then hart_now K DramDrain m else Dram))
+      (sym (ne_eqb (suc k) 0 (λ z. omega (arith, z)))) (omega (arith, e))
 
   pub at_turn : (pick : Pick) (nvm : ℕ) → nvm ≡ length n.queue → IsActorOf K o m n (actor_now K pick nvm m)
   at_turn Hart nvm e = at_hart Hart

@@ -1,5 +1,6 @@
 //! A hart's turn while nothing keeps it.
 ghost use Rattle.std.specs.Prelude.{◌≡◌, ℕ, None, Some, true, ◌+◌, ◌<◌, ◌≤◌, ◌^◌, ◌&&◌, not, length};
+ghost use Rattle.thy_block.specs.declared.mix.Pick.{Pick as PickOf};
 ghost use Rattle.thy_view.specs.Advances.{did_of, SimulatesRow, row_of};
 ghost use Rattle.thy_view.specs.NextActor.{Advances};
 ghost use Rattle.thy_hart.specs.declared.hand.Hand.TheVariants.{Nothing};
@@ -44,8 +45,18 @@ pub(crate) fn execute<N: Nvm, S: Scheme>(
     Ok(count(m, hart, step))
 }
 
+/// Whether there is one hart.
+#[inline(always)]
+fn is_single<S>(m: &MachineParts<S>) -> bool
+    ensures one { result ≡ true → m.now.hart.geometry.harts ≡ 1 }
+    ensures alone { result ≡ true → m.now.hart.cpu.other ≡ None }
+{
+    m.hart.geometry().harts() == 1 && m.hart.is_alone()
+}
+
 /// Takes cycles in a row, the first of them this pick's: steps of its hart's next instruction, as far as they bring no line.
-/// Whatever the later picks are, each comes to the same hart. A machine stays marked as calm until the epoch is over.
+/// Whatever the later picks are, each comes to the same hart. A machine stays marked as calm until the epoch is over. The row of
+/// a hart that is alone is made part of the loop over cycles, and its number is a constant there.
 #[inline(always)]
 pub(crate) fn execute_row<N: Nvm, S: Scheme>(
     m: &mut MachineParts<S>,
@@ -63,13 +74,55 @@ pub(crate) fn execute_row<N: Nvm, S: Scheme>(
     ensures failed { m.new.failed ≡ m.old.failed }
     ensures known { KnowsCalm S.scheme m.new }
 {
+    if is_single(m) {
+        row_of::<N, S, (N, S)>(m, 0, true, start, nvm)
+    } else {
+        row_among(m, pick, start, nvm)
+    }
+}
+
+/// Takes cycles in a row, as `execute_row` does, of one hart of several. It is called.
+#[inline(never)]
+fn row_among<N: Nvm, S: Scheme>(m: &mut MachineParts<S>, pick: Pick, start: &Start, nvm: &N) -> Row
+    requires turn { CanTake S.scheme (HasStart start.now) (Advances (hart_of S.scheme pick (machine_of m.old)))
+        (machine_of m.old) (N.device nvm.now) }
+    requires calm { is_calm S.scheme (machine_of m.old) ≡ true }
+    requires empty { length (N.device nvm.now).queue ≡ 0 }
+    ensures steps { SimulatesRow (kind_over S.scheme) start.now pick (row_of result)
+        (machine_of m.old) (machine_of m.new) (N.device nvm.now) }
+    ensures few { result.moved ≤ 4 }
+    ensures failed { m.new.failed ≡ m.old.failed }
+    ensures known { KnowsCalm S.scheme m.new }
+{
     let hart = hart_of(m, pick);
+    row_of::<N, S, (N, ())>(m, hart, false, start, nvm)
+}
+
+/// Takes cycles in a row of this hart, to whom each pick comes. It is alone if `alone` says so. The type `C` makes a copy of the
+/// hart's micro-steps for each caller.
+#[inline(always)]
+fn row_of<N: Nvm, S: Scheme, C>(
+    m: &mut MachineParts<S>,
+    hart: u8,
+    alone: bool,
+    start: &Start,
+    nvm: &N,
+) -> Row
+    requires turn { CanTake S.scheme (HasStart start.now) (Advances hart) (machine_of m.old) (N.device nvm.now) }
+    requires alone { alone ≡ true → m.old.hart.cpu.other ≡ None }
+    requires calm { is_calm S.scheme (machine_of m.old) ≡ true }
+    requires empty { length (N.device nvm.now).queue ≡ 0 }
+    ensures steps { (pick : PickOf) → hart_of S.scheme pick (machine_of m.old) ≡ hart
+        → SimulatesRow (kind_over S.scheme) start.now pick (row_of result) (machine_of m.old) (machine_of m.new) (N.device nvm.now) }
+    ensures few { result.moved ≤ 4 }
+    ensures failed { m.new.failed ≡ m.old.failed }
+    ensures known { KnowsCalm S.scheme m.new }
+{
     let begun = m.begun;
     begin(m, hart);
     let free = m.store.scheme.free();
-    let (moved, last) = m
-        .hart
-        .step_on::<(N, S)>(&mut m.cache, free, false, start.input.as_slice());
+    let input = start.input.as_slice();
+    let (moved, last) = m.hart.step_on::<C>(alone, &mut m.cache, free, false, input);
     if moved == 0 {
         put_back(m, hart, begun);
         return Row {

@@ -35,7 +35,8 @@ returns g c =
           let new = g.N.Nvm.device c.boot_step.new.nvm in
           let made = subst (λ (s : State). K.calls.boot s m.scheme n c.in_ok-step.step t new) (sym begins.state) done.exact in
           boot_cycle K o cycles m n at t new c.in_ok-step.step (machine_of c.boot_on.new.m) c.boot_on.result booting
-          (done.ok o begins (record { boots = boots; up = at.sound.up })) made (c.boot_on.ensures.parts o begins ∙ boot_over o c.in_ok-step.step c.boot_step.new.self m) c.boot_on.ensures.did;
+          (done.ok o begins (record { boots = boots; up = at.sound.up })) made
+          (c.boot_on.ensures.parts o begins ∙ boot_over o c.in_ok-step.step c.boot_step.new.self m) c.boot_on.ensures.did;
       fails = λ o cycles begins at booting. tt;
       frame = done.frame;
       cause = done.cause;

@@ -19,7 +19,8 @@ returns g c =
     let done = c.in_ok-drain.ensures in
     record {
       simulates = λ o cycles _ at some.
-          land_cycle g.S.Scheme.scheme o cycles (machine_of c.args.m.now) (g.N.Nvm.device c.args.nvm.now) at (g.N.Nvm.device c.drain.new.self) some done.ok;
+          land_cycle g.S.Scheme.scheme o cycles (machine_of c.args.m.now) (g.N.Nvm.device c.args.nvm.now) at
+          (g.N.Nvm.device c.drain.new.self) some done.ok;
       fails = λ o cycles _ at some. tt;
       frame = done.frame;
       cause = done.cause;

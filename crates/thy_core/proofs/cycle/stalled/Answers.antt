@@ -8,20 +8,24 @@ use Rattle.thy_core.proofs.cycle.stalled.Goals as goal
 
 pub returns-in-Booting : goal.returns-in-Booting
 returns-in-Booting g c =
-    taken_is g.S.Scheme.scheme (HasStart c.args.start.now) (HasStart c.args.start.now) (Stalled Booting) (Stalled c.args.why) (machine_of c.args.m.now) (machine_of c.boot.new.m) (g.N.Nvm.device c.args.nvm.now) (g.N.Nvm.device c.boot.new.nvm)
+    taken_is g.S.Scheme.scheme (HasStart c.args.start.now) (HasStart c.args.start.now) (Stalled Booting) (Stalled c.args.why)
+    (machine_of c.args.m.now) (machine_of c.boot.new.m) (g.N.Nvm.device c.args.nvm.now) (g.N.Nvm.device c.boot.new.nvm)
     c.boot.result (ap Stalled c.in-Booting.is) (λ o begins. begins) c.boot.ensures
 
 pub returns-in-Sealing : goal.returns-in-Sealing
 returns-in-Sealing g c =
-    taken_is g.S.Scheme.scheme IsAnyRun (HasStart c.args.start.now) (Stalled Sealing) (Stalled c.args.why) (machine_of c.args.m.now) (machine_of c.prepare.new.m) (g.N.Nvm.device c.args.nvm.now) (g.N.Nvm.device c.prepare.new.nvm)
+    taken_is g.S.Scheme.scheme IsAnyRun (HasStart c.args.start.now) (Stalled Sealing) (Stalled c.args.why) (machine_of c.args.m.now)
+    (machine_of c.prepare.new.m) (g.N.Nvm.device c.args.nvm.now) (g.N.Nvm.device c.prepare.new.nvm)
     c.prepare.result (ap Stalled c.in-Sealing.is) (λ o begins. tt) c.prepare.ensures
 
 pub returns-in-Waiting : goal.returns-in-Waiting
 returns-in-Waiting g c =
-    taken_is g.S.Scheme.scheme IsAnyRun (HasStart c.args.start.now) (Stalled Waiting) (Stalled c.args.why) (machine_of c.args.m.now) (machine_of c.wait.new.m) (g.N.Nvm.device c.args.nvm.now) (g.N.Nvm.device c.wait.new.nvm)
+    taken_is g.S.Scheme.scheme IsAnyRun (HasStart c.args.start.now) (Stalled Waiting) (Stalled c.args.why) (machine_of c.args.m.now)
+    (machine_of c.wait.new.m) (g.N.Nvm.device c.args.nvm.now) (g.N.Nvm.device c.wait.new.nvm)
     c.wait.result (ap Stalled c.in-Waiting.is) (λ o begins. tt) c.wait.ensures
 
 pub returns-in-Halted : goal.returns-in-Halted
 returns-in-Halted g c =
-    taken_is g.S.Scheme.scheme IsAnyRun (HasStart c.args.start.now) (Stalled Halted) (Stalled c.args.why) (machine_of c.args.m.now) (machine_of c.args.m.now) (g.N.Nvm.device c.args.nvm.now) (g.N.Nvm.device c.args.nvm.now)
+    taken_is g.S.Scheme.scheme IsAnyRun (HasStart c.args.start.now) (Stalled Halted) (Stalled c.args.why) (machine_of c.args.m.now)
+    (machine_of c.args.m.now) (g.N.Nvm.device c.args.nvm.now) (g.N.Nvm.device c.args.nvm.now)
     (Ok c.rest.result) (ap Stalled c.in-Halted.is) (λ o begins. tt) c.rest.ensures

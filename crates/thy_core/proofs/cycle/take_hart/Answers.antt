@@ -22,9 +22,11 @@ returns-clause-steps g c =
       next_is = c.note.ensures.notes;
       result_is = ap stepped_by c.note.ensures.same
           ∙ reported_by c.execute-taken.result
-          ∙ ap (λ ended. reported None ended (did_by c.execute-taken.result)) (not_halted m.phase behind.phase run.turn.goes.phase c.execute-taken.ensures.phase);
+          ∙ ap (λ ended. reported None ended (did_by c.execute-taken.result))
+          (not_halted m.phase behind.phase run.turn.goes.phase c.execute-taken.ensures.phase);
     }
 
 pub returns-clause-known : goal.returns-clause-known
 returns-clause-known g c =
-    knows_noted g.S.Scheme.scheme c.execute-taken.new.m c.note.new.m (did_by c.execute-taken.result) c.execute-taken.ensures.known c.note.ensures.store c.note.ensures.notes
+    knows_noted g.S.Scheme.scheme c.execute-taken.new.m c.note.new.m
+    (did_by c.execute-taken.result) c.execute-taken.ensures.known c.note.ensures.store c.note.ensures.notes

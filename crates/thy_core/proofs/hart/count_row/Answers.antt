@@ -30,7 +30,8 @@ pub returns-in-Moved-clause-row : goal.returns-in-Moved-clause-row
 returns-in-Moved-clause-row g c =
     let moves : List Advance = replicate c.args.moved Moved in
     moved-more c.args.moved
-    ∙ ap (λ (a : Advance). moves ++ a ∷ []) (sym c.in-Moved.is ∙ sym (advance_is c.args.hart (retires_by c.in-Some.step) c.count.result c.count.ensures.did))
+    ∙ ap (λ (a : Advance). moves ++ a ∷ [])
+    (sym c.in-Moved.is ∙ sym (advance_is c.args.hart (retires_by c.in-Some.step) c.count.result c.count.ensures.did))
     ∙ sym (ap (advances_by c.args.hart c.args.moved) c.in-Some.is)
 
 pub returns-in-Moved-clause-calm : goal.returns-in-Moved-clause-calm
@@ -45,7 +46,8 @@ returns-in-Retired-clause-parts g c =
 pub returns-in-Retired-clause-row : goal.returns-in-Retired-clause-row
 returns-in-Retired-clause-row g c =
     let moves : List Advance = replicate c.args.moved Moved in
-    ap (λ (a : Advance). moves ++ a ∷ []) (sym c.in-Retired.is ∙ sym (advance_is c.args.hart (retires_by c.in-Some.step) c.count.result c.count.ensures.did))
+    ap (λ (a : Advance). moves ++ a ∷ [])
+    (sym c.in-Retired.is ∙ sym (advance_is c.args.hart (retires_by c.in-Some.step) c.count.result c.count.ensures.did))
     ∙ sym (ap (advances_by c.args.hart c.args.moved) c.in-Some.is)
 
 pub returns-in-Retired-clause-calm : goal.returns-in-Retired-clause-calm

@@ -43,7 +43,8 @@ returns-in_err-step-clause-taken g c =
     let failed = failed_once K g.N.Nvm.device c.begin.new.m.store c.step.new.store c.args.nvm.now c.step.new.nvm c.requires.turn.at_moment.sound.up
     c.in_err-step.ensures.once c.in_err-step.ensures.cause in
     let access = subst (λ t. IsOneAccess K t n next.scheme new) (ap (λ (x : Machine _). x.scheme) c.begin.ensures.parts) failed.0.access in
-    taken_err K (HasInput c.args.input.now) (Advances c.args.hart) m next n new (did_by c.from_residual.result) (err_by c.from_residual.result c.from_residual.ensures.0)
+    taken_err K (HasInput c.args.input.now) (Advances c.args.hart) m next n new (did_by c.from_residual.result)
+    (err_by c.from_residual.result c.from_residual.ensures.0)
     (λ o cycles input at turn. hart_failed K o cycles m n at c.args.hart next new turn access failed.1
     (begun_back c.args.hart m begun next turn.own c.begin.ensures.parts c.in_err-step.ensures.hart refl))
     failed.0.access.frame (failed.0.counted failed.1)
@@ -89,7 +90,8 @@ returns-clause-phase g c = ap (λ (m : Machine _). m.phase) c.count.ensures.part
 -- a store that was asked in vain is not marked
 pub returns-in_err-step-clause-known : goal.returns-in_err-step-clause-known
 returns-in_err-step-clause-known g c = λ marked.
-    let failed = failed_once g.S.Scheme.scheme g.N.Nvm.device c.begin.new.m.store c.step.new.store c.args.nvm.now c.step.new.nvm c.requires.turn.at_moment.sound.up
+    let failed = failed_once g.S.Scheme.scheme g.N.Nvm.device c.begin.new.m.store c.step.new.store c.args.nvm.now
+    c.step.new.nvm c.requires.turn.at_moment.sound.up
     c.in_err-step.ensures.once c.in_err-step.ensures.cause in
     let unmarked = failed.0.unmarked in
     absurd (cc)
@@ -97,6 +99,8 @@ returns-in_err-step-clause-known g c = λ marked.
 pub returns-clause-known : goal.returns-clause-known
 returns-clause-known g c =
     let done = c.in_ok-step.ensures in
-    calm_kept g.S.Scheme.scheme g.N.Nvm.device c.args.m.now c.begin.new.m c.count.new.m c.step.new.store c.args.nvm.now c.step.new.nvm c.args.hart c.in_ok-step.step
-    c.step.new.self c.step.new.cache (given c.args.input.now c.free-free.result c.under_way-under_way.result) c.requires.known c.begin.ensures.parts c.begin.ensures.store
+    calm_kept g.S.Scheme.scheme g.N.Nvm.device c.args.m.now c.begin.new.m c.count.new.m c.step.new.store c.args.nvm.now c.step.new.nvm
+    c.args.hart c.in_ok-step.step
+    c.step.new.self c.step.new.cache (given c.args.input.now c.free-free.result c.under_way-under_way.result) c.requires.known
+    c.begin.ensures.parts c.begin.ensures.store
     done.once done.step c.under_way-under_way.ensures c.count.ensures.parts c.count.ensures.calm

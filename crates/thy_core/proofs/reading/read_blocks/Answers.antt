@@ -13,7 +13,8 @@ read_block-requires-clause-stands g c =
 
 pub read_block-requires-clause-inside : goal.read_block-requires-clause-inside
 read_block-requires-clause-inside g c =
-    subst (λ (n : Device). c.loop-i.i < length (blocks_in g.S.Scheme.scheme c.args.version (machine_of c.args.m.now) n)) (sym c.loop-i.invariant.same)
+    subst (λ (n : Device). c.loop-i.i < length (blocks_in g.S.Scheme.scheme c.args.version (machine_of c.args.m.now) n))
+    (sym c.loop-i.invariant.same)
     (omega (arith, c.loop-i-test.true, c.requires.inside))
 
 pub loop-i-init : goal.loop-i-init
@@ -31,6 +32,7 @@ loop-i-preserved g c =
       same = c.in_ok-read_block.ensures.same ∙ c.loop-i.invariant.same;
       bytes = read_more c.args.first c.loop-i.i (blocks_in K c.args.version m (g.N.Nvm.device c.args.nvm.now))
           (blocks_in K c.args.version m (g.N.Nvm.device c.loop-i.nvm)) (bytes_of c.loop-i.bytes) (bytes_of c.read_block.new.bytes)
-          (ap (λ (n : Device). blocks_in K c.args.version m n) c.loop-i.invariant.same) c.loop-i.auto.i (omega (arith, c.loop-i-test.true, c.requires.inside))
+          (ap (λ (n : Device). blocks_in K c.args.version m n) c.loop-i.invariant.same) c.loop-i.auto.i
+          (omega (arith, c.loop-i-test.true, c.requires.inside))
           c.loop-i.invariant.bytes c.in_ok-read_block.ensures.bytes;
     }

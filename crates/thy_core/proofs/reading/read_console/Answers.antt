@@ -16,7 +16,8 @@ returns-clause-console g c =
     let end : ℕ = c.div_ceil.result in
     let is : base ≡ program_size p = c.program_size-base.ensures.size ∙ ap (λ (x : Parameters). program_size x) c.geometry.ensures in
     let enough : base + c.args.len ≤ 64 * end = omega (arith, c.div_ceil.ensures) in
-    let within : end ≤ length bs = omega (arith, c.div_ceil.ensures, is, c.requires.roomy.room, c.requires.roomy.whole, console_below p c.requires.roomy.range) in
+    let within : end ≤ length bs =
+    omega (arith, c.div_ceil.ensures, is, c.requires.roomy.room, c.requires.roomy.whole, console_below p c.requires.roomy.range) in
     c.from_vec.ensures.bytes ∙ c.in_ok-bytes.ensures.items ∙ c.part-piece.ensures
     ∙ ap (λ (xs : List ℕ). take (c.args.len - c.args.from) (drop ((base + c.args.from) % 64) xs)) (c.as_slice.ensures ∙ c.in_ok-all.ensures.bytes)
     ∙ console_piece p base c.args.from c.args.len end bs is c.if-len-from.false enough within

@@ -22,7 +22,8 @@ returns-in-Boot-clause-console g c = λ o k done at behind shown.
 
 pub returns-in-Run-clause-console : goal.returns-in-Run-clause-console
 returns-in-Run-clause-console g c = λ o k done at behind shown.
-    console_when g.S.Scheme.scheme g.met.S.Scheme.lawful o k (machine_of c.args.m.now) (g.N.Nvm.device c.args.nvm.now) done c.args.from c.read_console.result
+    console_when g.S.Scheme.scheme g.met.S.Scheme.lawful o k (machine_of c.args.m.now)
+    (g.N.Nvm.device c.args.nvm.now) done c.args.from c.read_console.result
     (sound-here g.S.Scheme.scheme o k (machine_of c.args.m.now) (g.N.Nvm.device c.args.nvm.now) at) c.in-Run.is shown c.read_console.ensures.console
 
 pub returns-in-Boot-clause-past : goal.returns-in-Boot-clause-past

@@ -19,7 +19,8 @@ returns-clause-state g c =
     let numbers = c.numbers-numbers.result in
     let memory = bytes_of c.in_ok-memory.memory in
     let console = bytes_of c.in_ok-console.console in
-    state_read h (memory_of K m (g.N.Nvm.device c.args.nvm.now)) (state_of c.state_with.result) (64 * (numbers.pages - numbers.console)) memory console (put_back_sized m (memory_of K m (g.N.Nvm.device c.args.nvm.now)) c.requires.sized)
+    state_read h (memory_of K m (g.N.Nvm.device c.args.nvm.now)) (state_of c.state_with.result) (64 * (numbers.pages - numbers.console))
+    memory console (put_back_sized m (memory_of K m (g.N.Nvm.device c.args.nvm.now)) c.requires.sized)
     (ap (λ (p : Parameters). 64 * (p.pages - p.console)) (c.numbers-numbers.ensures.same ∙ c.geometry.ensures))
     (c.state_with.ensures ∙ ap (λ (cpu : CpuState). state_with cpu memory console) c.processor.ensures)
     c.in_ok-memory.ensures.bytes

@@ -31,26 +31,32 @@ take_hart-requires-clause-take g c =
 
 pub returns-in-Ok-clause-steps : goal.returns-in-Ok-clause-steps
 returns-in-Ok-clause-steps g c =
-    reported_steps g.S.Scheme.scheme g.met.S.Scheme.lawful c.args.start.now c.args.pick (length (g.N.Nvm.device c.args.nvm.now).queue) (Advances c.in-Advances.hart)
-    (machine_of c.args.m.now) (machine_of c.take_hart.new.m) (g.N.Nvm.device c.args.nvm.now) (g.N.Nvm.device c.take_hart.new.nvm) (Ok (stepped_of c.in-Ok.advance))
+    reported_steps g.S.Scheme.scheme g.met.S.Scheme.lawful c.args.start.now c.args.pick (length (g.N.Nvm.device c.args.nvm.now).queue)
+    (Advances c.in-Advances.hart)
+    (machine_of c.args.m.now) (machine_of c.take_hart.new.m) (g.N.Nvm.device c.args.nvm.now) (g.N.Nvm.device c.take_hart.new.nvm)
+    (Ok (stepped_of c.in-Ok.advance))
     refl (sym (ap next_actor_seen c.in-Advances.is) ∙ c.actor_now.ensures) c.in-Ok.ensures.steps
 
 pub returns-in-Ok-clause-failed : goal.returns-in-Ok-clause-failed
 returns-in-Ok-clause-failed g c =
-    reported_notes g.S.Scheme.scheme g.met.S.Scheme.lawful c.args.start.now c.args.pick (length (g.N.Nvm.device c.args.nvm.now).queue) (Advances c.in-Advances.hart)
-    (machine_of c.args.m.now) (machine_of c.take_hart.new.m) (g.N.Nvm.device c.args.nvm.now) (g.N.Nvm.device c.take_hart.new.nvm) (Ok (stepped_of c.in-Ok.advance))
+    reported_notes g.S.Scheme.scheme g.met.S.Scheme.lawful c.args.start.now c.args.pick (length (g.N.Nvm.device c.args.nvm.now).queue)
+    (Advances c.in-Advances.hart)
+    (machine_of c.args.m.now) (machine_of c.take_hart.new.m) (g.N.Nvm.device c.args.nvm.now) (g.N.Nvm.device c.take_hart.new.nvm)
+    (Ok (stepped_of c.in-Ok.advance))
     refl (sym (ap next_actor_seen c.in-Advances.is) ∙ c.actor_now.ensures) c.in-Ok.ensures.steps c.requires.can
 
 pub returns-in-Err-clause-safe : goal.returns-in-Err-clause-safe
 returns-in-Err-clause-safe g c =
     let result : Result Stepped NvmError = Err c.in-Err.error in
-    reported_fails g.S.Scheme.scheme g.met.S.Scheme.lawful c.args.start.now c.args.pick (length (g.N.Nvm.device c.args.nvm.now).queue) (Advances c.in-Advances.hart)
+    reported_fails g.S.Scheme.scheme g.met.S.Scheme.lawful c.args.start.now c.args.pick (length (g.N.Nvm.device c.args.nvm.now).queue)
+    (Advances c.in-Advances.hart)
     (machine_of c.args.m.now) (machine_of c.take_hart.new.m) (g.N.Nvm.device c.args.nvm.now) (g.N.Nvm.device c.take_hart.new.nvm) result
     refl (sym (ap next_actor_seen c.in-Advances.is) ∙ c.actor_now.ensures) c.in-Err.ensures.steps
 
 pub returns-in-Other-clause-others : goal.returns-in-Other-clause-others
 returns-in-Other-clause-others g c = λ _.
-    others_turn g.S.Scheme.scheme g.met.S.Scheme.lawful c.args.pick (length (g.N.Nvm.device c.args.nvm.now).queue) c.in-Other.field-0 (machine_of c.args.m.now) (g.N.Nvm.device c.args.nvm.now)
+    others_turn g.S.Scheme.scheme g.met.S.Scheme.lawful c.args.pick (length (g.N.Nvm.device c.args.nvm.now).queue) c.in-Other.field-0
+    (machine_of c.args.m.now) (g.N.Nvm.device c.args.nvm.now)
     refl (sym (ap next_actor_seen c.in-Other.is) ∙ c.actor_now.ensures)
 
 pub returns-in-Other-clause-failed : goal.returns-in-Other-clause-failed

@@ -35,20 +35,23 @@ take_other-requires g c =
       cycles = run.cycles;
       of_kind = run.begins;
       at_moment = at;
-      turn = turned K run.o run.cycles c.args.pick c.queued.result (actor_seen c.in-Other.actor) m n (moment_of K run.o run.cycles m n at) c.queued.ensures
+      turn = turned K run.o run.cycles c.args.pick c.queued.result (actor_seen c.in-Other.actor) m n
+          (moment_of K run.o run.cycles m n at) c.queued.ensures
           (sym (ap next_actor_seen c.in-Other.is) ∙ c.actor_of.ensures);
     }
 
 pub returns-clause-steps : goal.returns-clause-steps
 returns-clause-steps g c =
     reported_steps g.S.Scheme.scheme g.met.S.Scheme.lawful c.args.start.now c.args.pick c.queued.result (actor_seen c.in-Other.actor)
-    (machine_of c.args.m.now) (machine_of c.take_other.new.m) (g.N.Nvm.device c.args.nvm.now) (g.N.Nvm.device c.take_other.new.nvm) c.take_other.result
+    (machine_of c.args.m.now) (machine_of c.take_other.new.m) (g.N.Nvm.device c.args.nvm.now)
+    (g.N.Nvm.device c.take_other.new.nvm) c.take_other.result
     c.queued.ensures (sym (ap next_actor_seen c.in-Other.is) ∙ c.actor_of.ensures) c.take_other.ensures.steps
 
 pub returns-clause-safe : goal.returns-clause-safe
 returns-clause-safe g c =
     reported_fails g.S.Scheme.scheme g.met.S.Scheme.lawful c.args.start.now c.args.pick c.queued.result (actor_seen c.in-Other.actor)
-    (machine_of c.args.m.now) (machine_of c.take_other.new.m) (g.N.Nvm.device c.args.nvm.now) (g.N.Nvm.device c.take_other.new.nvm) c.take_other.result
+    (machine_of c.args.m.now) (machine_of c.take_other.new.m) (g.N.Nvm.device c.args.nvm.now)
+    (g.N.Nvm.device c.take_other.new.nvm) c.take_other.result
     c.queued.ensures (sym (ap next_actor_seen c.in-Other.is) ∙ c.actor_of.ensures) c.take_other.ensures.steps
 
 pub returns-clause-frame : goal.returns-clause-frame
@@ -57,13 +60,15 @@ returns-clause-frame g c = c.take_other.ensures.steps.taken.frame
 pub returns-clause-cause : goal.returns-clause-cause
 returns-clause-cause g c =
     reported_counts g.S.Scheme.scheme g.met.S.Scheme.lawful c.args.start.now c.args.pick c.queued.result (actor_seen c.in-Other.actor)
-    (machine_of c.args.m.now) (machine_of c.take_other.new.m) (g.N.Nvm.device c.args.nvm.now) (g.N.Nvm.device c.take_other.new.nvm) c.take_other.result
+    (machine_of c.args.m.now) (machine_of c.take_other.new.m) (g.N.Nvm.device c.args.nvm.now)
+    (g.N.Nvm.device c.take_other.new.nvm) c.take_other.result
     c.queued.ensures (sym (ap next_actor_seen c.in-Other.is) ∙ c.actor_of.ensures) c.take_other.ensures.steps
 
 pub returns-clause-failed : goal.returns-clause-failed
 returns-clause-failed g c =
     reported_notes g.S.Scheme.scheme g.met.S.Scheme.lawful c.args.start.now c.args.pick c.queued.result (actor_seen c.in-Other.actor)
-    (machine_of c.args.m.now) (machine_of c.take_other.new.m) (g.N.Nvm.device c.args.nvm.now) (g.N.Nvm.device c.take_other.new.nvm) c.take_other.result
+    (machine_of c.args.m.now) (machine_of c.take_other.new.m) (g.N.Nvm.device c.args.nvm.now)
+    (g.N.Nvm.device c.take_other.new.nvm) c.take_other.result
     c.queued.ensures (sym (ap next_actor_seen c.in-Other.is) ∙ c.actor_of.ensures) c.take_other.ensures.steps c.requires.can
 
 pub returns-clause-known : goal.returns-clause-known

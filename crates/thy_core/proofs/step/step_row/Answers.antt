@@ -35,6 +35,7 @@ execute_row-requires-clause-turn g c =
       cycles = run.cycles;
       of_kind = run.begins;
       at_moment = at;
-      turn = turned K run.o run.cycles c.args.pick (length n.queue) (Advances (hart_of K c.args.pick m)) m n (moment_of K run.o run.cycles m n at) refl
+      turn = turned K run.o run.cycles c.args.pick (length n.queue) (Advances (hart_of K c.args.pick m)) m n
+          (moment_of K run.o run.cycles m n at) refl
           (sym (calm_turn K m (execute_row-requires-clause-calm g c) c.args.pick (length n.queue) (execute_row-requires-clause-empty g c)));
     }

@@ -7,5 +7,6 @@ use Rattle.thy_core.proofs.machine.Machine.advance_on.Goals as goal
 
 pub returns-clause-steps : goal.returns-clause-steps
 returns-clause-steps g c =
-    subst (λ (m : Machine g.row.S.Denot). SimulatesRow (kind_over g.S.Scheme.scheme) c.args.start.now c.args.pick (row_of c.step_row.result) m (machine_of c.step_row.new.m)
+    subst (λ (m : Machine g.row.S.Denot). SimulatesRow (kind_over g.S.Scheme.scheme) c.args.start.now c.args.pick
+    (row_of c.step_row.result) m (machine_of c.step_row.new.m)
     (g.N.Nvm.device c.args.nvm.now)) c.self.view_is c.step_row.ensures.steps

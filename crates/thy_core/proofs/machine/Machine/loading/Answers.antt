@@ -5,4 +5,5 @@ use Rattle.thy_scheme.specs.Machine.{Machine}
 use Rattle.thy_core.proofs.machine.Machine.loading.Goals as goal
 
 pub returns : goal.returns
-returns g c = subst (λ (m : Machine g.row.S.Denot). ShowsLoading (kind_over g.S.Scheme.scheme) m c.is_loading.result) c.self.view_is c.is_loading.ensures
+returns g c = subst (λ (m : Machine g.row.S.Denot). ShowsLoading (kind_over g.S.Scheme.scheme) m c.is_loading.result)
+    c.self.view_is c.is_loading.ensures

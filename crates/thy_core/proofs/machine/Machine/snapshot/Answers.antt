@@ -12,7 +12,8 @@ returns-clause-state g c =
 
 pub returns-clause-stopped : goal.returns-clause-stopped
 returns-clause-stopped g c =
-    subst (λ (m : Machine g.row.S.Denot). SnapshotsStopped (kind_over g.S.Scheme.scheme) m c.snapshot.result) c.self.view_is c.snapshot.ensures.stopped
+    subst (λ (m : Machine g.row.S.Denot). SnapshotsStopped (kind_over g.S.Scheme.scheme) m c.snapshot.result)
+    c.self.view_is c.snapshot.ensures.stopped
 
 pub returns-clause-bare : goal.returns-clause-bare
 returns-clause-bare g c = subst (λ (m : Machine g.row.S.Denot). ReadsBare m c.snapshot.result) c.self.view_is c.snapshot.ensures.bare

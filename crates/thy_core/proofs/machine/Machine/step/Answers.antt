@@ -11,7 +11,8 @@ returns-in-Ok-Some-clause-steps g c =
     let n = g.N.Nvm.device c.args.nvm.now in
     let new = g.N.Nvm.device c.advance.new.nvm in
     subst (λ r. Simulates K c.args.start.now c.args.pick c.args.self.now c.advance.new.self n new (Ok r)) (sym c.stepped.ensures)
-    (subst (λ r. IfAdvanced r (Simulates K c.args.start.now c.args.pick c.args.self.now c.advance.new.self n new)) (c.in-Ok-Some.is ∙ ap Ok c.in-Ok-Some.field-0-is) c.advance.ensures.steps)
+    (subst (λ r. IfAdvanced r (Simulates K c.args.start.now c.args.pick c.args.self.now c.advance.new.self n new))
+    (c.in-Ok-Some.is ∙ ap Ok c.in-Ok-Some.field-0-is) c.advance.ensures.steps)
 
 -- the cycle is another actor's, and nothing was done before it
 pub take_other-requires-clause-others : goal.take_other-requires-clause-others
