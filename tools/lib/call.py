@@ -8,10 +8,13 @@ from lib.program import OPERANDS
 # Words of the script alone.
 QUIET, OBSERVE, BUILD = "--quiet", "observe", "build"
 
-# The options of observe, between OUT and the command: what each does, and whether a number follows it. And the commands that they
-# go with.
-TORN = "--torn"
+# The options of observe, between OUT and the command: what each does, and whether a number or a name follows it. The one with a
+# name stands first. And the commands that they go with.
+TORN, ACCESSES = "--torn", "--accesses"
 WISHES = {
+    ACCESSES: "lists the accesses to the NVM under a name",
+    "--accesses-from": "leaves out those before a cycle",
+    "--accesses-to": "leaves out those after a cycle",
     "--pcs": "says how often each program counter retired",
     "--state": "says the state after a cycle",
     "--state-at": "says the state at a count of instructions",
@@ -23,8 +26,9 @@ WISHES = {
     "--wear": "says how many writes each place of the NVM took",
     TORN: "lets a cut tear blocks",
 }
-BOUNDS = ("--trace-from", "--trace-to")
+BOUNDS = {"--trace-from": "--trace", "--trace-to": "--trace", "--accesses-from": ACCESSES, "--accesses-to": ACCESSES}
 NUMBERED, OBSERVED_RUNS = ("--state", "--state-at", *BOUNDS), ("run", "resume", "bench")
+FOLLOWED = (ACCESSES, *NUMBERED)
 
 # The options of sweep, between OUT and the command, that have a value: what each does. `--torn` is one too.
 SWEPT = {
@@ -58,7 +62,7 @@ def after_sweep(words):
 
 class Call:
     """The words of a call; `fault` is the first that has no place, in words. `out` is the OUT of observe, or None; `wishes` are the
-    options of observe, each with its number or None."""
+    options of observe, each with its number, its name or None."""
 
     def __init__(self, words):
         self.operands, self.options, self.fault, self.out, self.wishes = [], {}, "", None, {}
@@ -83,12 +87,12 @@ class Call:
 
     def take_wishes(self, rest):
         """Takes the options of observe, each once; the words that are left."""
-        while rest and rest[0] in WISHES and rest[0] not in self.wishes:
+        while rest and rest[0] in WISHES and rest[0] not in self.wishes and not (rest[0] == ACCESSES and self.wishes):
             wish = rest.pop(0)
-            if wish in NUMBERED and not rest:
-                self.fault = f"{wish} needs a number"
+            if wish in FOLLOWED and not rest:
+                self.fault = f"{wish} needs a {'number' if wish in NUMBERED else 'name'}"
                 return [wish]
-            self.wishes[wish] = rest.pop(0) if wish in NUMBERED else None
+            self.wishes[wish] = rest.pop(0) if wish in FOLLOWED else None
         return rest
 
     def command_fault(self, rest):
@@ -96,13 +100,15 @@ class Call:
         if not rest:
             return f"a command is missing: {COMMANDS}"
         if self.command in OPERANDS:
-            bound = next((wish for wish in self.wishes if wish in BOUNDS), "")
-            if bound and "--trace" not in self.wishes:
-                return f"{bound} goes with --trace"
+            bound = next((wish for wish in self.wishes if wish in BOUNDS and BOUNDS[wish] not in self.wishes), "")
+            if bound:
+                return f"{bound} goes with {BOUNDS[bound]}"
             goes = f"{next(iter(self.wishes), '')} goes with {', '.join(OBSERVED_RUNS[:-1])} or {OBSERVED_RUNS[-1]}"
             return goes if self.wishes and self.command == "plain" else ""
         if self.command in self.wishes:
             return f"{self.command} stands twice"
+        if self.command == ACCESSES:
+            return f"{ACCESSES} stands directly after OUT"
         if self.command.startswith("-"):
             return f"{self.command} stands before the command"
         if self.command in (OBSERVE, BUILD):

@@ -250,6 +250,23 @@ class Explain(ToolTest):
         bound = ("observe", "out", "--trace-from", "8", "--trace", "--trace-to", "7", "run", "a")
         said = "--trace-to may not be below --trace-from, and has to be above 0"
         self.explains(said, "2", *bound, line="value trace-to 7")
+        for bound in ("--accesses-from", "--accesses-to"):
+            said = f"{bound} goes with --accesses{USAGE}"
+            self.explains(said, "2", "observe", "out", bound, "7", "run", "a", line="usage")
+        table = ("observe", "out", "--accesses", "table")
+        self.explains(f"--accesses needs a name{USAGE}", "2", "observe", "out", "--accesses", line="usage")
+        self.explains(f"--accesses stands twice{USAGE}", "2", *table, "--accesses", "other", "run", "a", line="usage")
+        late = ("observe", "out", "--pcs", "--accesses", "table", "run", "a")
+        self.explains(f"--accesses stands directly after OUT{USAGE}", "2", *late, line="usage")
+        self.explains(f"--accesses goes with run, resume or bench{USAGE}", "2", *table, "plain", "a", line="usage")
+        said = "TRACE is to be another name than table, which the call reads or writes itself"
+        self.explains(said, "2", *table, "run", "a", "--save", "table", line="usage")
+        self.explains(said, "2", "observe", "table", "--accesses", "table", "run", "a", line="usage")
+        said = "with --accesses no power may be cut: --cuts has to be left out"
+        self.explains(said, "2", *table, "run", "a", "--cuts", "7", line="usage")
+        self.explains("with --accesses no line may wander: --gap has to be 0", "2", *table, "bench", "7", "--gap", "3", line="usage")
+        said = "--accesses-to takes 1 to 19 decimal digits"
+        self.explains(said, "2", *table, "--accesses-to", "x", "run", "a", line="word accesses-to")
         self.explains("make has no run to observe", "2", "observe", "out", "make", "7", "x", line="usage")
         self.explains("make has no run to observe", "2", "observe", "out", "--pcs", "make", "7", "x", line="usage")
         said = "compare has three runs: observe run, once with each --scheme"

@@ -395,13 +395,15 @@ class Completion(ToolTest):
         self.assertCountEqual(self.proposed("observe", "ot"), ["other"])
         counts = ["--causes", "--epochs", "--wear"]
         traces = ["--trace", "--trace-from", "--trace-to"]
-        wishes = ["--pcs", "--state", "--state-at", *traces, *counts, "--torn"]
+        accesses = ["--accesses", "--accesses-from", "--accesses-to"]
+        wishes = ["--pcs", "--state", "--state-at", *traces, *counts, "--torn", *accesses]
         self.assertCountEqual(self.proposed("observe", "out", ""), [*wishes, "run", "resume", "bench", "plain"])
         self.assertCountEqual(self.proposed("observe", "out", "--pcs", ""), [*wishes[1:], "run", "resume", "bench"])
-        left = ["--state-at", *traces, *counts, "run", "resume", "bench"]
+        left = ["--state-at", *traces, *counts, *accesses, "run", "resume", "bench"]
         self.assertCountEqual(self.proposed("observe", "out", "--torn", "--state", "7", "--pcs", ""), left)
         self.assertEqual(self.proposed("observe", "out", "--state", ""), [])
         self.assertEqual(self.proposed("observe", "out", "--trace", "--trace-to", ""), [])
+        self.assertCountEqual(self.proposed("observe", "out", "--accesses", "ot"), [])
         self.assertCountEqual(self.proposed("--quiet", "observe", "out", "r"), ["run", "resume"])
 
     def test_commands_of_sweep(self):

@@ -43,6 +43,8 @@ class AtOnce(ScriptTest):
             calls += (["observe", "out", option], ["observe", "out", option, option, "run"], [option, "run", "file"])
         calls += (["observe", "out", "--pcs", "--torn", "--pcs", "run"], ["observe", "out", "--trace", "--trace-from"])
         calls += (["observe", "out", "--trace-to", "7", "--trace", "--trace-to", "8", "run"], ["--trace-to", "7", "run", "file"])
+        calls += (["observe", "out", "--accesses"], ["observe", "out", "--accesses", "table"], ["--accesses", "table", "run", "file"])
+        calls += (["observe", "out", "--pcs", "--accesses", "table", "run"], ["observe", "out", "--accesses-from", "7"])
         calls += (["observe", "out", "--state"], ["observe", "out", "--state", "7"], ["observe", "out", "--state", "run", "file"])
         calls += (["observe", "out", "--state-at", "7", "--pcs", "--state-at", "8", "run"], ["--state", "7", "run", "file"])
         for words in calls:

@@ -6,3 +6,5 @@ pub mod EventLemmas
 pub mod HeadLemmas
 pub mod CountLemmas
 pub mod PuttingLemmas
+pub mod TabledLemmas
+pub mod NameLemmas

@@ -8,3 +8,6 @@ pub mod TotalsText
 pub mod HeadText
 pub mod CountText
 pub mod Observing
+pub mod AccessText
+pub mod Again
+pub mod Tabled

@@ -12,7 +12,7 @@ use Rattle.observe.specs.declared.options.Options.{Options}
 use Rattle.observe.specs.declared.options.WindowFault.{WindowFault}
 use Rattle.observe.specs.declared.options.WindowFault.TheVariants.{First, Last}
 use Rattle.observe.specs.declared.options.Wish.{Wish}
-use Rattle.observe.specs.declared.options.Wish.TheVariants.{Pcs, State, StateAt, Trace, TraceFrom, TraceTo, Causes, Epochs, Wear, Torn}
+use Rattle.observe.specs.declared.options.Wish.TheVariants.{Pcs, State, StateAt, Trace, TraceFrom, TraceTo, Causes, Epochs, Wear, Torn, AccessesFrom, AccessesTo}
 
 -- ---- the options, a row each in every table
 
@@ -29,6 +29,8 @@ wish_of word =
     else if bytes_eq word (codes "--epochs") then Some Epochs
     else if bytes_eq word (codes "--wear") then Some Wear
     else if bytes_eq word (codes "--torn") then Some Torn
+    else if bytes_eq word (codes "--accesses-from") then Some AccessesFrom
+    else if bytes_eq word (codes "--accesses-to") then Some AccessesTo
     else None
 
 -- a number follows it
@@ -43,6 +45,8 @@ takes_number Causes = false
 takes_number Epochs = false
 takes_number Wear = false
 takes_number Torn = false
+takes_number AccessesFrom = true
+takes_number AccessesTo = true
 
 -- it is asked for already
 abbrev pub has : Options → Wish → Bool
@@ -56,6 +60,8 @@ has o Causes = o.causes
 has o Epochs = o.epochs
 has o Wear = o.wear
 has o Torn = o.torn
+has o AccessesFrom = not (is_none o.accesses_from)
+has o AccessesTo = not (is_none o.accesses_to)
 
 -- it is asked for, with this number
 abbrev pub with_wish : Options → Wish → ℕ → Options
@@ -69,6 +75,8 @@ with_wish o Causes n = record o { causes = true }
 with_wish o Epochs n = record o { epochs = true }
 with_wish o Wear n = record o { wear = true }
 with_wish o Torn n = record o { torn = true }
+with_wish o AccessesFrom n = record o { accesses_from = Some n }
+with_wish o AccessesTo n = record o { accesses_to = Some n }
 
 -- the line that refuses a number of it that can't be read
 abbrev pub word_line : Wish → List ℕ
@@ -82,6 +90,8 @@ word_line Causes = codes "word causes\n"
 word_line Epochs = codes "word epochs\n"
 word_line Wear = codes "word wear\n"
 word_line Torn = codes "word torn\n"
+word_line AccessesFrom = codes "word accesses-from\n"
+word_line AccessesTo = codes "word accesses-to\n"
 
 abbrev pub no_options : Options
 no_options = record {
@@ -95,11 +105,13 @@ no_options = record {
   epochs = false;
   wear = false;
   torn = false;
+  accesses_from = None;
+  accesses_to = None;
 }
 
 -- how many options there are
 abbrev pub most_options : ℕ
-most_options = 10
+most_options = 12
 
 -- something is asked for that is found out by executing the run again
 abbrev pub asks : Options → Bool

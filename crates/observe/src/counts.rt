@@ -12,7 +12,7 @@ use std::alloc::{AllocError, Global};
 use thy_observe::{Cause, End, Ledger, Row, Watch};
 
 /// The name of a cause.
-fn name_of(cause: Cause) -> &'static str
+pub(crate) fn name_of(cause: Cause) -> &'static str
     ensures { result.now ≡ cause_name cause }
 {
     match cause {

@@ -26,7 +26,7 @@ fn is_of_job(out: &str, job: &Job) -> bool
 }
 
 /// Whether OUT is the name of a file that a command reads or stores, or the command has nothing to observe.
-fn is_taken(out: &str, command: &Command) -> bool
+pub(crate) fn is_taken(out: &str, command: &Command) -> bool
     ensures { result ≡ is_taken out.now (order_of command.now) }
 {
     match command {

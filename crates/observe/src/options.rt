@@ -11,7 +11,7 @@ use thy_cli::{Refusal, refuse};
 use thy_observe::Window;
 
 /// How many options there are.
-const OPTIONS: usize = 10;
+const OPTIONS: usize = 12;
 
 /// An option. In each of the functions below, and in what they are specified by, it has a row.
 #[derive(Clone, Copy, Debug, PartialEq, Eq, Drop)]
@@ -26,6 +26,8 @@ pub enum Wish {
     Epochs,
     Wear,
     Torn,
+    AccessesFrom,
+    AccessesTo,
 }
 
 /// The bound of a trace that is refused.
@@ -60,6 +62,10 @@ pub struct Options {
     pub wear: bool,
     /// The run goes over an NVM whose blocks may be torn.
     pub torn: bool,
+    /// The first cycle whose accesses are listed.
+    pub accesses_from: Option<u64>,
+    /// The last one.
+    pub accesses_to: Option<u64>,
 }
 
 /// The option of a word.
@@ -86,6 +92,10 @@ fn wish_of(word: &str) -> Option<Wish>
         Some(Wish::Wear)
     } else if word == "--torn" {
         Some(Wish::Torn)
+    } else if word == "--accesses-from" {
+        Some(Wish::AccessesFrom)
+    } else if word == "--accesses-to" {
+        Some(Wish::AccessesTo)
     } else {
         None
     }
@@ -97,7 +107,12 @@ fn takes_number(wish: Wish) -> bool
 {
     match wish {
         Wish::Pcs | Wish::Trace | Wish::Causes | Wish::Epochs | Wish::Wear | Wish::Torn => false,
-        Wish::State | Wish::StateAt | Wish::TraceFrom | Wish::TraceTo => true,
+        Wish::State
+        | Wish::StateAt
+        | Wish::TraceFrom
+        | Wish::TraceTo
+        | Wish::AccessesFrom
+        | Wish::AccessesTo => true,
     }
 }
 
@@ -116,6 +131,8 @@ fn word_line(wish: Wish) -> &'static str
         Wish::Epochs => "word epochs\n",
         Wish::Wear => "word wear\n",
         Wish::Torn => "word torn\n",
+        Wish::AccessesFrom => "word accesses-from\n",
+        Wish::AccessesTo => "word accesses-to\n",
     }
 }
 
@@ -135,6 +152,8 @@ impl Options {
             epochs: false,
             wear: false,
             torn: false,
+            accesses_from: None,
+            accesses_to: None,
         }
     }
 
@@ -153,6 +172,8 @@ impl Options {
             Wish::Epochs => self.epochs,
             Wish::Wear => self.wear,
             Wish::Torn => self.torn,
+            Wish::AccessesFrom => self.accesses_from.is_some(),
+            Wish::AccessesTo => self.accesses_to.is_some(),
         }
     }
 
@@ -192,6 +213,14 @@ impl Options {
             },
             Wish::Wear => Options { wear: true, ..self },
             Wish::Torn => Options { torn: true, ..self },
+            Wish::AccessesFrom => Options {
+                accesses_from: Some(number),
+                ..self
+            },
+            Wish::AccessesTo => Options {
+                accesses_to: Some(number),
+                ..self
+            },
         }
     }
 

@@ -3,16 +3,15 @@
 
 use crate::options::{refuse_window, refuse_word, take_options};
 use crate::top::observe;
-use std::alloc::{AllocError, Global};
+use std::alloc::Global;
 use std::process::Abort;
-use std::test::Fail;
 use thy_base::Shelf;
 use thy_nvm::MemNvm;
 use thy_observe::Counting;
 use thy_out::{MemShelf, MemSink};
 
-/// A program file of three instructions at the address 65536: `addi a7,zero,93; addi a0,zero,7; ecall`.
-static EXIT_SEVEN: [u8; 132] = [
+/// The headers of a program file of three words at the address 65536.
+static HEADERS: [u8; 120] = [
     0x7f, 0x45, 0x4c, 0x46, 0x02, 0x01, 0x01, 0x00, 0x00, 0x00, 0x00, 0x00, 0x00, 0x00, 0x00, 0x00,
     0x02, 0x00, 0xf3, 0x00, 0x01, 0x00, 0x00, 0x00, 0x00, 0x00, 0x01, 0x00, 0x00, 0x00, 0x00, 0x00,
     0x40, 0x00, 0x00, 0x00, 0x00, 0x00, 0x00, 0x00, 0x00, 0x00, 0x00, 0x00, 0x00, 0x00, 0x00, 0x00,
@@ -20,12 +19,11 @@ static EXIT_SEVEN: [u8; 132] = [
     0x01, 0x00, 0x00, 0x00, 0x07, 0x00, 0x00, 0x00, 0x78, 0x00, 0x00, 0x00, 0x00, 0x00, 0x00, 0x00,
     0x00, 0x00, 0x01, 0x00, 0x00, 0x00, 0x00, 0x00, 0x00, 0x00, 0x01, 0x00, 0x00, 0x00, 0x00, 0x00,
     0x0c, 0x00, 0x00, 0x00, 0x00, 0x00, 0x00, 0x00, 0x0c, 0x00, 0x00, 0x00, 0x00, 0x00, 0x00, 0x00,
-    0x04, 0x00, 0x00, 0x00, 0x00, 0x00, 0x00, 0x00, 0x93, 0x08, 0xd0, 0x05, 0x13, 0x05, 0x70, 0x00,
-    0x73, 0x00, 0x00, 0x00,
+    0x04, 0x00, 0x00, 0x00, 0x00, 0x00, 0x00, 0x00,
 ];
 
-/// The first of these instructions.
-const FIRST: u32 = 0x05d00893;
+/// `addi a7,zero,93; addi a0,zero,7; ecall`.
+pub(crate) static EXIT_SEVEN: [u32; 3] = [0x05d00893, 0x00700513, 0x00000073];
 
 /// What a call gave.
 #[derive(Drop)]
@@ -38,55 +36,90 @@ struct Given {
     report: Vec<u8>,
 }
 
-/// A shelf with the program under the name F, in which this word is in place of the first instruction. The calls with
-/// these numbers fail.
-fn shelf_of(alloc: Global, word: u32, failing: &[u64]) -> Result<MemShelf, AllocError> {
-    let mut bytes = Vec::from_slice(alloc, &EXIT_SEVEN[..120])?;
-    for byte in word.to_le_bytes() {
-        bytes.push(byte)?;
+/// Adds bytes to a file.
+fn append(rt: &impl Abort, file: &mut Vec<u8>, bytes: &[u8]) {
+    file.extend_from_slice(bytes).expect(rt, "memory");
+}
+
+/// A program file of these words, from the address 65536 on, at which it starts.
+fn file_of(rt: &impl Abort, alloc: Global, words: &[u32]) -> Vec<u8> {
+    let size = (words.len() as u64).saturating_mul(4).to_le_bytes();
+    let mut file = Vec::from_slice(alloc, &HEADERS[..96]).expect(rt, "memory");
+    append(rt, &mut file, &size);
+    append(rt, &mut file, &size);
+    append(rt, &mut file, &HEADERS[112..]);
+    for word in words {
+        append(rt, &mut file, &word.to_le_bytes());
     }
-    for byte in EXIT_SEVEN[124..].iter() {
-        bytes.push(*byte)?;
-    }
+    file
+}
+
+/// A shelf with the program of these words under the name F. The calls with these numbers fail.
+pub(crate) fn shelf_of(rt: &impl Abort, alloc: Global, words: &[u32], failing: &[u64]) -> MemShelf {
+    let name = String::from_str(alloc, "F").expect(rt, "memory");
     let mut files = Vec::new(alloc);
-    files.push((String::from_str(alloc, "F")?, bytes))?;
-    Ok(MemShelf::new(files, Vec::from_slice(alloc, failing)?))
+    files
+        .push((name, file_of(rt, alloc, words)))
+        .expect(rt, "memory");
+    MemShelf::new(files, Vec::from_slice(alloc, failing).expect(rt, "memory"))
+}
+
+/// The arguments of a line, which separates them by spaces.
+pub(crate) fn words_of(rt: &impl Abort, alloc: Global, line: &str) -> Vec<String> {
+    let mut words = Vec::new(alloc);
+    for word in line.split(' ') {
+        push_word(rt, alloc, &mut words, word);
+    }
+    words
+}
+
+/// Adds an argument.
+fn push_word(rt: &impl Abort, alloc: Global, words: &mut Vec<String>, word: &str) {
+    let word = String::from_str(alloc, word).expect(rt, "memory");
+    words.push(word).expect(rt, "memory");
+}
+
+/// What a sink has taken.
+pub(crate) fn taken(rt: &impl Abort, alloc: Global, sink: &MemSink) -> Vec<u8> {
+    Vec::from_slice(alloc, sink.taken()).expect(rt, "memory")
+}
+
+pub(crate) fn sink(rt: &impl Abort, alloc: Global) -> MemSink {
+    MemSink::new(alloc, 4096, Vec::new(alloc)).expect(rt, "memory")
 }
 
 /// What a call gave whose options are refused with this status, and with this report.
-fn turned_down(alloc: Global, status: u8, report: &[u8]) -> Result<Given, AllocError> {
-    Ok(Given {
+fn turned_down(rt: &impl Abort, alloc: Global, status: u8, report: &MemSink) -> Given {
+    Given {
         status,
         is_put: false,
         put: Vec::new(alloc),
-        report: Vec::from_slice(alloc, report)?,
-    })
+        report: taken(rt, alloc, report),
+    }
 }
 
 /// Calls with OUT and the arguments, options among them, separated by spaces, over this shelf and this device.
 fn called_over(
+    rt: &impl Abort,
     alloc: Global,
     out: &str,
     line: &str,
     shelf: &mut MemShelf,
     nvm: MemNvm,
-) -> Result<Given, AllocError> {
-    let mut words = Vec::new(alloc);
-    for word in line.split(' ') {
-        words.push(String::from_str(alloc, word)?)?;
-    }
-    let mut terminal = MemSink::new(alloc, 4096, Vec::new(alloc))?;
-    let mut report = MemSink::new(alloc, 4096, Vec::new(alloc))?;
+) -> Given {
+    let mut words = words_of(rt, alloc, line);
+    let mut terminal = sink(rt, alloc);
+    let mut report = sink(rt, alloc);
     let options = match take_options(&mut words) {
         Ok(options) => options,
         Err(wish) => {
             let status = refuse_word(wish, &mut report);
-            return turned_down(alloc, status, report.taken());
+            return turned_down(rt, alloc, status, &report);
         }
     };
     if let Some(fault) = options.window_fault() {
         let status = refuse_window(alloc, fault, &mut report);
-        return turned_down(alloc, status, report.taken());
+        return turned_down(rt, alloc, status, &report);
     }
     let mut nvm = Counting::over(alloc, nvm, options.wear);
     let status = observe(
@@ -105,25 +138,27 @@ fn called_over(
         Ok(bytes) => bytes,
         Err(_) => Vec::new(alloc),
     };
-    Ok(Given {
+    Given {
         status,
         is_put,
         put,
-        report: Vec::from_slice(alloc, report.taken())?,
-    })
+        report: taken(rt, alloc, &report),
+    }
 }
 
-/// Calls with OUT and the arguments over a device that does not fail, and a shelf with the program of this word, whose
-/// calls of these numbers fail.
-fn called(
-    alloc: Global,
-    out: &str,
-    line: &str,
-    word: u32,
-    failing: &[u64],
-) -> Result<Given, AllocError> {
-    let mut shelf = shelf_of(alloc, word, failing)?;
-    called_over(alloc, out, line, &mut shelf, MemNvm::new(alloc))
+/// Calls over a device that does not fail, with OUT as O.
+fn called_on(rt: &impl Abort, alloc: Global, line: &str, shelf: &mut MemShelf) -> Given {
+    called_over(rt, alloc, "O", line, shelf, MemNvm::new(alloc))
+}
+
+/// Calls over a shelf with the program of these words.
+fn called(rt: &impl Abort, alloc: Global, line: &str, words: &[u32]) -> Given {
+    called_on(rt, alloc, line, &mut shelf_of(rt, alloc, words, &[]))
+}
+
+/// Stops the test unless this holds of a row, which `at` names.
+pub(crate) fn check(rt: &impl Abort, holds: bool, at: &str) {
+    assert!(rt; holds, "{at}");
 }
 
 /// Whether a text has a line.
@@ -134,35 +169,107 @@ fn has_line(text: &[u8], line: &str) -> bool {
     }
 }
 
+/// Whether a line of a text begins with these bytes.
+fn has_start(text: &[u8], start: &str) -> bool {
+    match std::str::from_utf8(text) {
+        Ok(text) => text.lines().any(|it| it.starts_with(start)),
+        Err(_) => false,
+    }
+}
+
+/// Whether a text is another one, and a section after it.
+pub(crate) fn ends_with(text: &[u8], head: &str, section: &str) -> bool {
+    match text.strip_prefix(head.as_bytes()) {
+        Some(rest) => rest == section.as_bytes(),
+        None => false,
+    }
+}
+
+/// The arguments of a call of the program with options.
+fn line_of(rt: &impl Abort, alloc: Global, options: &str, call: &str) -> String {
+    format!(in alloc; "thynvm {options} {call}").expect(rt, "memory")
+}
+
+/// Calls, and compares the status and the whole text that is put.
+fn expect_text(rt: &impl Abort, alloc: Global, line: &str, words: &[u32], status: u8, text: &str) {
+    let given = called(rt, alloc, line, words);
+    check(rt, given.status == status, line);
+    check(rt, given.put.as_slice() == text.as_bytes(), line);
+}
+
+/// Calls, and compares the status and the text that is put: this text, and a section after it.
+fn expect_section(
+    rt: &impl Abort,
+    alloc: Global,
+    line: &str,
+    words: &[u32],
+    status: u8,
+    text: &str,
+    section: &str,
+) {
+    let given = called(rt, alloc, line, words);
+    check(rt, given.status == status, line);
+    check(rt, ends_with(given.put.as_slice(), text, section), line);
+}
+
+/// Calls, and compares the status; nothing is put.
+fn expect_nothing(rt: &impl Abort, alloc: Global, line: &str, status: u8) {
+    let given = called(rt, alloc, line, &EXIT_SEVEN);
+    check(rt, given.status == status && !given.is_put, line);
+}
+
+/// Calls, and compares status and report; nothing is put.
+fn expect_refused(
+    rt: &impl Abort,
+    alloc: Global,
+    line: &str,
+    words: &[u32],
+    status: u8,
+    report: &str,
+) {
+    let given = called(rt, alloc, line, words);
+    check(rt, given.status == status && !given.is_put, line);
+    check(rt, given.report.as_slice() == report.as_bytes(), line);
+}
+
+/// First words of a program, and the line of its trap: no instruction; ebreak; ld t0,8(zero); sd t0,16(zero); a jump to 65538; a
+/// jump to 0.
+static TRAPPED: [(u32, &str); 6] = [
+    (0xffffffff, "trap 10000 ffffffff"),
+    (0x00100073, "trap 10000 100073"),
+    (0x00803283, "trap 10000 803283 8"),
+    (0x00503823, "trap 10000 503823 10"),
+    (0x0020006f, "trap 10000 20006f"),
+    (0x00000067, "trap 0"),
+];
+
+/// Stops the test unless a call traps, with this line.
+fn traps_by(rt: &impl Abort, alloc: Global, call: &str, words: &[u32], line: &str) {
+    let given = called(rt, alloc, call, words);
+    check(rt, given.status == 1, line);
+    check(rt, has_line(given.put.as_slice(), line), line);
+}
+
 /// Stops the test unless the trap of a program of this word has this line, on the plain machine and with each scheme.
-fn traps(rt: &(impl Abort + Alloc<A = Global>), word: u32, line: &str) -> Result<(), AllocError> {
-    let alloc = rt.alloc();
-    let plain = called(alloc, "O", "thynvm plain F --pages 8", word, &[])?;
-    assert_eq!(rt; plain.status, 1, "{line}");
-    assert!(rt; has_line(plain.put.as_slice(), line), "plain {line}");
-    assert_eq!(rt; plain.put.len(), line.len() + 1, "{line}");
+fn traps(rt: &impl Abort, alloc: Global, word: u32, line: &str) {
+    let words = [word, 0x00700513, 0x00000073];
+    traps_by(rt, alloc, "thynvm plain F --pages 8", &words, line);
+    let plain = called(rt, alloc, "thynvm plain F --pages 8", &words);
+    check(rt, plain.put.len() == line.len() + 1, line);
     for call in [
         "thynvm run F --pages 8 --btt 8 --ptt 8",
         "thynvm run F --pages 8 --btt 8 --ptt 8 --scheme journal",
         "thynvm run F --pages 8 --btt 8 --ptt 8 --scheme shadow",
     ] {
-        let run = called(alloc, "O", call, word, &[])?;
-        assert_eq!(rt; run.status, 1, "{call} {line}");
-        assert!(rt; has_line(run.put.as_slice(), line), "{call} {line}");
+        traps_by(rt, alloc, call, &words, line);
     }
-    Ok(())
 }
 
 #[test]
-fn a_trap_has_its_word_and_its_address(rt: HostRuntime) -> Result<(), Fail> {
-    // No instruction; ebreak; ld t0,8(zero); sd t0,16(zero); a jump to 65538; a jump to 0.
-    traps(&rt, 0xffffffff, "trap 10000 ffffffff")?;
-    traps(&rt, 0x00100073, "trap 10000 100073")?;
-    traps(&rt, 0x00803283, "trap 10000 803283 8")?;
-    traps(&rt, 0x00503823, "trap 10000 503823 10")?;
-    traps(&rt, 0x0020006f, "trap 10000 20006f")?;
-    traps(&rt, 0x00000067, "trap 0")?;
-    Ok(())
+fn a_trap_has_its_word_and_its_address(rt: HostRuntime) {
+    for (word, line) in &TRAPPED {
+        traps(&rt, rt.alloc(), *word, line);
+    }
 }
 
 /// The whole texts of runs of the program of three instructions. The numbers follow from the rows of the example in
@@ -236,102 +343,110 @@ static RUNS: [(&str, &str); 4] = [
 ];
 
 #[test]
-fn the_text_has_each_event_and_the_totals(rt: HostRuntime) -> Result<(), Fail> {
-    let alloc = rt.alloc();
-    for (line, text) in RUNS {
-        let given = called(alloc, "O", line, FIRST, &[])?;
-        assert_eq!(rt; given.status, 0, "{line}");
-        assert_eq!(rt; given.put.as_slice(), text.as_bytes(), "{line}");
+fn the_text_has_each_event_and_the_totals(rt: HostRuntime) {
+    for (line, text) in &RUNS {
+        expect_text(&rt, rt.alloc(), line, &EXIT_SEVEN, 0, text);
     }
-    Ok(())
 }
 
 #[test]
-fn a_cycle_that_was_broken_off_is_in_no_total(rt: HostRuntime) -> Result<(), Fail> {
+fn a_cycle_that_was_broken_off_is_in_no_total(rt: HostRuntime) {
     let alloc = rt.alloc();
     // The calls of the first three cycles are a read, a write and a drain.
-    let nvm = MemNvm::failing(alloc, &[3])?;
-    let mut shelf = shelf_of(alloc, FIRST, &[])?;
-    let given = called_over(alloc, "O", "thynvm run F --pages 8", &mut shelf, nvm)?;
-    assert_eq!(rt; given.status, 7);
-    assert_eq!(rt;
-        given.put.as_slice(),
-        b"cycles 2 boot 2 hart 0 engine 0 nvmdrain 0 dramdrain 0\n\
-          hart moved 0 retired 0 flushed 0 merged 0 promoted 0 sealed 0\n\
-          engine copied 0 page 0 state 0 table 0 barrier 0 commit 0 committed 0\n\
-          waiting 0\n\
-          nvm reads 1 writes 1 barriers 0\n\
-          lost 0\n\
-          epochs 0 early 0 overlapped 0\n"
-            .as_slice()
-    );
-    Ok(())
+    let nvm = MemNvm::failing(alloc, &[3]).expect(&rt, "memory");
+    let mut shelf = shelf_of(&rt, alloc, &EXIT_SEVEN, &[]);
+    let line = "thynvm run F --pages 8";
+    let given = called_over(&rt, alloc, "O", line, &mut shelf, nvm);
+    check(&rt, given.status == 7, line);
+    let text = "cycles 2 boot 2 hart 0 engine 0 nvmdrain 0 dramdrain 0\n\
+                hart moved 0 retired 0 flushed 0 merged 0 promoted 0 sealed 0\n\
+                engine copied 0 page 0 state 0 table 0 barrier 0 commit 0 committed 0\n\
+                waiting 0\n\
+                nvm reads 1 writes 1 barriers 0\n\
+                lost 0\n\
+                epochs 0 early 0 overlapped 0\n";
+    check(&rt, given.put.as_slice() == text.as_bytes(), line);
 }
 
+/// Calls that begin no run, with the status.
+static NO_RUN: [(&str, u8); 6] = [
+    ("thynvm", 2),
+    ("thynvm run F --pages 7", 2),
+    ("thynvm plain F --limit x", 2),
+    ("thynvm run G", 3),
+    ("thynvm plain G", 3),
+    ("thynvm resume F --pages 8", 5),
+];
+
 #[test]
-fn a_call_that_begins_no_run_puts_nothing(rt: HostRuntime) -> Result<(), Fail> {
+fn a_call_that_begins_no_run_puts_nothing(rt: HostRuntime) {
     let alloc = rt.alloc();
-    for (line, status) in [
-        ("thynvm", 2),
-        ("thynvm run F --pages 7", 2),
-        ("thynvm plain F --limit x", 2),
-        ("thynvm run G", 3),
-        ("thynvm plain G", 3),
-        ("thynvm resume F --pages 8", 5),
-    ] {
-        let given = called(alloc, "O", line, FIRST, &[])?;
-        assert_eq!(rt; given.status, status, "{line}");
-        assert!(rt; !given.is_put, "{line}");
+    for (line, status) in &NO_RUN {
+        expect_nothing(&rt, alloc, line, *status);
     }
     // A program that exits on the plain machine has no trap, and its text is empty.
-    let plain = called(alloc, "O", "thynvm plain F --pages 8", FIRST, &[])?;
-    assert!(rt; plain.status == 0 && plain.is_put && plain.put.len() == 0);
-    Ok(())
+    let line = "thynvm plain F --pages 8";
+    let plain = called(&rt, alloc, line, &EXIT_SEVEN);
+    check(
+        &rt,
+        plain.status == 0 && plain.is_put && plain.put.len() == 0,
+        line,
+    );
+}
+
+/// Calls that name O themselves.
+static TAKEN: [&str; 6] = [
+    "thynvm run O",
+    "thynvm plain O",
+    "thynvm resume O",
+    "thynvm run F --input O",
+    "thynvm bench 7 --save O",
+    "thynvm make 7 P",
+];
+
+#[test]
+fn an_out_that_is_taken_is_refused(rt: HostRuntime) {
+    let words = [0x00000073, 0x00700513, 0x00000073];
+    for line in &TAKEN {
+        expect_refused(&rt, rt.alloc(), line, &words, 2, "usage\n");
+    }
+}
+
+/// Calls with an NVM whose blocks may tear, with the status.
+static MAY_TEAR: [(&str, u8); 10] = [
+    ("thynvm --torn plain F --pages 8", 2),
+    ("thynvm --torn run F --pages 8 --gap 5", 2),
+    ("thynvm --torn bench 7 --gap 5", 2),
+    ("thynvm --torn resume F --gap 5", 2),
+    ("thynvm --torn --torn run F", 2),
+    ("thynvm --torn --pcs --torn run F", 2),
+    ("thynvm run F --torn", 2),
+    (
+        "thynvm --torn run F --pages 8 --btt 8 --ptt 8 --cuts 100,705 --tears 5,6",
+        0,
+    ),
+    ("thynvm --torn --pcs run F --pages 8 --btt 8 --ptt 8", 0),
+    ("thynvm --pcs --torn run F --pages 8 --btt 8 --ptt 8", 0),
+];
+
+/// What a call gives over a device whose blocks may tear.
+fn called_tearing(rt: &impl Abort, alloc: Global, line: &str) -> Given {
+    let mut shelf = shelf_of(rt, alloc, &EXIT_SEVEN, &[]);
+    called_over(rt, alloc, "O", line, &mut shelf, MemNvm::tearing(alloc))
+}
+
+/// Something is put exactly if the call is not refused.
+fn may_tear(rt: &impl Abort, alloc: Global, line: &str, status: u8) {
+    let given = called_tearing(rt, alloc, line);
+    check(rt, given.status == status, line);
+    check(rt, given.is_put == (status == 0), line);
 }
 
 #[test]
-fn an_out_that_is_taken_is_refused(rt: HostRuntime) -> Result<(), Fail> {
-    let alloc = rt.alloc();
-    for line in [
-        "thynvm run O",
-        "thynvm plain O",
-        "thynvm resume O",
-        "thynvm run F --input O",
-        "thynvm bench 7 --save O",
-        "thynvm make 7 P",
-    ] {
-        let given = called(alloc, "O", line, 0x00000073, &[])?;
-        assert_eq!(rt; given.status, 2, "{line}");
-        assert_eq!(rt; given.report.as_slice(), b"usage\n".as_slice(), "{line}");
-        assert!(rt; !given.is_put, "{line}");
+fn torn_blocks_are_for_runs_without_a_gap(rt: HostRuntime) {
+    for (line, status) in &MAY_TEAR {
+        may_tear(&rt, rt.alloc(), line, *status);
     }
-    Ok(())
-}
-
-#[test]
-fn torn_blocks_are_for_runs_without_a_gap(rt: HostRuntime) -> Result<(), Fail> {
-    let alloc = rt.alloc();
-    for (line, status) in [
-        ("thynvm --torn plain F --pages 8", 2),
-        ("thynvm --torn run F --pages 8 --gap 5", 2),
-        ("thynvm --torn bench 7 --gap 5", 2),
-        ("thynvm --torn resume F --gap 5", 2),
-        ("thynvm --torn --torn run F", 2),
-        ("thynvm --torn --pcs --torn run F", 2),
-        ("thynvm run F --torn", 2),
-        (
-            "thynvm --torn run F --pages 8 --btt 8 --ptt 8 --cuts 100,705 --tears 5,6",
-            0,
-        ),
-        ("thynvm --torn --pcs run F --pages 8 --btt 8 --ptt 8", 0),
-        ("thynvm --pcs --torn run F --pages 8 --btt 8 --ptt 8", 0),
-    ] {
-        let mut shelf = shelf_of(alloc, FIRST, &[])?;
-        let given = called_over(alloc, "O", line, &mut shelf, MemNvm::tearing(alloc))?;
-        assert_eq!(rt; given.status, status, "{line}");
-        assert_eq!(rt; given.is_put, status == 0, "{line}");
-    }
-    Ok(())
 }
 
 /// Cuts after the cycle in which a commit block was written, and what they lead to. By the rules of docs/CONTROLLER.md these
@@ -349,115 +464,121 @@ static TORN: [(&str, &str); 8] = [
     ("721 --tears 513", "731 3 restart 1 at 3"),
 ];
 
-#[test]
-fn a_torn_commit_block_is_the_old_one_or_the_new_one(rt: HostRuntime) -> Result<(), Fail> {
-    let alloc = rt.alloc();
-    for (cut, event) in TORN {
-        let line = format!(in alloc; "thynvm --torn run F --pages 8 --btt 8 --ptt 8 --cuts {cut}")?;
-        let mut shelf = shelf_of(alloc, FIRST, &[])?;
-        let given = called_over(
-            alloc,
-            "O",
-            line.as_str(),
-            &mut shelf,
-            MemNvm::tearing(alloc),
-        )?;
-        assert_eq!(rt; given.status, 0, "{cut}");
-        assert!(rt; has_line(given.put.as_slice(), event), "{cut}");
-    }
-    Ok(())
+/// A cut of the commit block leads to this event.
+fn tears(rt: &impl Abort, alloc: Global, cut: &str, event: &str) {
+    let line = format!(in alloc;
+        "thynvm --torn run F --pages 8 --btt 8 --ptt 8 --cuts {cut}"
+    ).expect(rt, "memory");
+    let given = called_tearing(rt, alloc, line.as_str());
+    check(rt, given.status == 0, cut);
+    check(rt, has_line(given.put.as_slice(), event), cut);
 }
 
 #[test]
-fn an_out_that_cannot_be_put_is_reported(rt: HostRuntime) -> Result<(), Fail> {
+fn a_torn_commit_block_is_the_old_one_or_the_new_one(rt: HostRuntime) {
+    for (cut, event) in &TORN {
+        tears(&rt, rt.alloc(), cut, event);
+    }
+}
+
+#[test]
+fn an_out_that_cannot_be_put_is_reported(rt: HostRuntime) {
     let alloc = rt.alloc();
-    let given = called(alloc, "O", "thynvm plain F --pages 8", 0x00100073, &[2])?;
-    assert_eq!(rt; given.status, 3);
-    assert_eq!(rt;
-        given.report.as_slice(),
-        b"trap 3 at 1\nput O failed\n".as_slice()
-    );
-    assert!(rt; !given.is_put);
-    Ok(())
+    let words = [0x00100073, 0x00700513, 0x00000073];
+    let mut shelf = shelf_of(&rt, alloc, &words, &[2]);
+    let line = "thynvm plain F --pages 8";
+    let given = called_on(&rt, alloc, line, &mut shelf);
+    check(&rt, given.status == 3 && !given.is_put, line);
+    let report = b"trap 3 at 1\nput O failed\n".as_slice();
+    check(&rt, given.report.as_slice() == report, line);
 }
 
 /// What follows the totals of the second of these runs: it executed two of its three instructions again after the cut.
 static PCS: &str = "pcs\n10000 2\n10004 2\n10008 1\n";
 
-/// Whether a text is another one, and a section after it.
-fn ends_with(text: &[u8], head: &str, section: &str) -> bool {
-    match text.strip_prefix(head.as_bytes()) {
-        Some(rest) => rest == section.as_bytes(),
-        None => false,
-    }
+/// The second of these runs, without its first word.
+const CUT: &str = "run F --pages 8 --btt 8 --ptt 8 --cuts 705";
+
+/// Calls the second of these runs with options, and compares what follows the totals.
+fn follows(rt: &impl Abort, alloc: Global, options: &str, section: &str) {
+    let (_, text) = RUNS[1];
+    let line = line_of(rt, alloc, options, CUT);
+    expect_section(rt, alloc, line.as_str(), &EXIT_SEVEN, 0, text, section);
+}
+
+/// Calls with a limit of 100 cycles, which comes in the boot, so that no instruction retires.
+fn booting(rt: &impl Abort, alloc: Global, option: &str) -> Given {
+    let line = line_of(
+        rt,
+        alloc,
+        option,
+        "run F --pages 8 --btt 8 --ptt 8 --limit 100",
+    );
+    let given = called(rt, alloc, line.as_str(), &EXIT_SEVEN);
+    check(rt, given.status == 8, option);
+    given
 }
 
 #[test]
-fn program_counters_follow_the_totals(rt: HostRuntime) -> Result<(), Fail> {
+fn program_counters_follow_the_totals(rt: HostRuntime) {
     let alloc = rt.alloc();
     let (line, text) = RUNS[1];
-    let given = called(alloc, "O", line, FIRST, &[])?;
-    assert_eq!(rt; given.put.as_slice(), text.as_bytes());
-    let counted = "thynvm --pcs run F --pages 8 --btt 8 --ptt 8 --cuts 705";
-    let given = called(alloc, "O", counted, FIRST, &[])?;
-    assert_eq!(rt; given.status, 0);
-    assert!(rt; ends_with(given.put.as_slice(), text, PCS));
-    // The limit comes in the boot, so no instruction retires.
-    let booting = "thynvm --pcs run F --pages 8 --btt 8 --ptt 8 --limit 100";
-    let given = called(alloc, "O", booting, FIRST, &[])?;
-    assert_eq!(rt; given.status, 8);
-    assert!(rt; has_line(given.put.as_slice(), "pcs") && has_line(given.put.as_slice(), "none"));
-    Ok(())
+    expect_text(&rt, alloc, line, &EXIT_SEVEN, 0, text);
+    follows(&rt, alloc, "--pcs", PCS);
+    let given = booting(&rt, alloc, "--pcs");
+    let text = given.put.as_slice();
+    check(&rt, has_line(text, "pcs") && has_line(text, "none"), "none");
 }
 
+/// Calls with `--pcs` that are refused.
+static NO_PCS: [&str; 6] = [
+    "thynvm --pcs",
+    "thynvm --pcs --pcs run F",
+    "thynvm --pcs plain F",
+    "thynvm --pcs compare F",
+    "thynvm --pcs=1 run F",
+    "thynvm run F --pcs",
+];
+
 #[test]
-fn program_counters_are_refused(rt: HostRuntime) -> Result<(), Fail> {
+fn program_counters_are_refused(rt: HostRuntime) {
     let alloc = rt.alloc();
-    for line in [
-        "thynvm --pcs",
-        "thynvm --pcs --pcs run F",
-        "thynvm --pcs plain F",
-        "thynvm --pcs compare F",
-        "thynvm --pcs=1 run F",
-        "thynvm run F --pcs",
-    ] {
-        let given = called(alloc, "O", line, FIRST, &[])?;
-        assert_eq!(rt; given.status, 2, "{line}");
-        assert_eq!(rt; given.report.as_slice(), b"usage\n".as_slice(), "{line}");
-        assert!(rt; !given.is_put, "{line}");
+    for line in &NO_PCS {
+        expect_refused(&rt, alloc, line, &EXIT_SEVEN, 2, "usage\n");
     }
     // Why there is no run is said as without the option.
-    let missing = called(alloc, "O", "thynvm --pcs run G", FIRST, &[])?;
-    assert_eq!(rt; missing.status, 3);
-    assert_eq!(rt; missing.report.as_slice(), b"fetch G missing\n".as_slice());
-    assert!(rt; !missing.is_put);
-    Ok(())
+    let line = "thynvm --pcs run G";
+    expect_refused(&rt, alloc, line, &EXIT_SEVEN, 3, "fetch G missing\n");
+}
+
+/// Adds a line of a state.
+fn push_register(rt: &impl Abort, alloc: Global, text: &mut String, number: u64, value: u64) {
+    let line = format!(in alloc; "x{number} {value:x}\n").expect(rt, "memory");
+    text.push_str(line.as_str()).expect(rt, "memory");
+}
+
+/// What a register of this program has, if a0 has this.
+fn value_of(number: u64, a0: u64) -> u64 {
+    match number {
+        2 => 0x16f00,
+        10 => a0,
+        17 => 0x5d,
+        _ => 0,
+    }
 }
 
 /// The state of this program with a0 and the program counter after some of its instructions: the stack pointer is 256 bytes
 /// below the end of program memory, and the 12 bytes of the program are two lines.
-fn state_text(
-    alloc: Global,
-    head: &str,
-    pc: u64,
-    count: u64,
-    a0: u64,
-) -> Result<String, AllocError> {
+fn state_text(rt: &impl Abort, alloc: Global, head: &str, pc: u64, count: u64, a0: u64) -> String {
     let mut text = format!(in alloc;
         "{head}\nrunning\ncount {count}\nconsole 0\ncursor 0\nbreak 10010\nhart 0 {pc:x}\n"
-    )?;
+    ).expect(rt, "memory");
     for number in 1..32u64 {
-        let value = match number {
-            2 => 0x16f00,
-            10 => a0,
-            17 => 0x5d,
-            _ => 0,
-        };
-        let line = format!(in alloc; "x{number} {value:x}\n")?;
-        text.push_str(line.as_str())?;
+        push_register(rt, alloc, &mut text, number, value_of(number, a0));
     }
-    text.push_str("memory 10000 28672\n10000 70051305d00893\n10008 73\n")?;
-    Ok(text)
+    let memory = "memory 10000 28672\n10000 70051305d00893\n10008 73\n";
+    text.push_str(memory).expect(rt, "memory");
+    text
 }
 
 /// Options, and what follows the totals of the second of these runs with them. In cycle 704 the second instruction is fetched,
@@ -469,85 +590,77 @@ static STATES: [(&str, &str, u64, u64, u64); 4] = [
     ("--state 721", "state 721", 0x10008, 2, 7),
 ];
 
-#[test]
-fn a_state_follows_the_totals(rt: HostRuntime) -> Result<(), Fail> {
-    let alloc = rt.alloc();
-    let (_, text) = RUNS[1];
-    for (options, head, pc, count, a0) in STATES {
-        let line = format!(in alloc;
-            "thynvm {options} run F --pages 8 --btt 8 --ptt 8 --cuts 705"
-        )?;
-        let given = called(alloc, "O", line.as_str(), FIRST, &[])?;
-        assert_eq!(rt; given.status, 0, "{options}");
-        let state = state_text(alloc, head, pc, count, a0)?;
-        assert!(rt;
-            ends_with(given.put.as_slice(), text, state.as_str()),
-            "{options}"
-        );
-    }
-    // None after the cut, in the boot, after the end, and beyond the last instruction.
-    for (options, section) in [
-        ("--state 705", "state 705\nnone\n"),
-        ("--state 714", "state 714\nnone\n"),
-        ("--state 737", "state 737\nnone\n"),
-        ("--state 0", "state 0\nnone\n"),
-        ("--state-at 4", "state-at 4\nnone\n"),
-        (
-            "--state-at 4 --pcs --state 705",
-            "pcs\n10000 2\n10004 2\n10008 1\nstate 705\nnone\nstate-at 4\nnone\n",
-        ),
-    ] {
-        let line = format!(in alloc;
-            "thynvm {options} run F --pages 8 --btt 8 --ptt 8 --cuts 705"
-        )?;
-        let given = called(alloc, "O", line.as_str(), FIRST, &[])?;
-        assert!(rt; ends_with(given.put.as_slice(), text, section), "{options}");
-    }
-    Ok(())
+/// Options, and what follows the totals then: none after the cut, in the boot, after the end, and beyond the last instruction.
+static NO_STATES: [(&str, &str); 6] = [
+    ("--state 705", "state 705\nnone\n"),
+    ("--state 714", "state 714\nnone\n"),
+    ("--state 737", "state 737\nnone\n"),
+    ("--state 0", "state 0\nnone\n"),
+    ("--state-at 4", "state-at 4\nnone\n"),
+    (
+        "--state-at 4 --pcs --state 705",
+        "pcs\n10000 2\n10004 2\n10008 1\nstate 705\nnone\nstate-at 4\nnone\n",
+    ),
+];
+
+/// Compares a state after the totals.
+fn has_state(rt: &impl Abort, alloc: Global, row: &(&str, &str, u64, u64, u64)) {
+    let (options, head, pc, count, a0) = *row;
+    let state = state_text(rt, alloc, head, pc, count, a0);
+    follows(rt, alloc, options, state.as_str());
 }
 
 #[test]
-fn options_that_cannot_be_read_are_refused(rt: HostRuntime) -> Result<(), Fail> {
+fn a_state_follows_the_totals(rt: HostRuntime) {
     let alloc = rt.alloc();
-    for (line, report) in [
-        ("thynvm --state", "usage\n"),
-        ("thynvm --state 7", "usage\n"),
-        ("thynvm --state 7 --state 8 run F", "usage\n"),
-        ("thynvm --state 7 plain F", "usage\n"),
-        ("thynvm --state-at 7 compare F", "usage\n"),
-        ("thynvm --state=7 run F", "usage\n"),
-        ("thynvm --state run F", "word state\n"),
-        (
-            "thynvm --pcs --state-at 12345678901234567890 run F",
-            "word state-at\n",
-        ),
-        ("thynvm --trace", "usage\n"),
-        ("thynvm --trace --trace run F", "usage\n"),
-        ("thynvm --trace plain F", "usage\n"),
-        ("thynvm --trace compare F", "usage\n"),
-        ("thynvm --trace-from 1 run F", "usage\n"),
-        ("thynvm --trace-to 9 --pcs run F", "usage\n"),
-        ("thynvm --trace --trace-from x run F", "word trace-from\n"),
-        (
-            "thynvm --trace-from 0 --trace-to x run F",
-            "word trace-to\n",
-        ),
-        (
-            "thynvm --trace --trace-from 0 run F",
-            "value trace-from 0\n",
-        ),
-        ("thynvm --trace --trace-to 0 run F", "value trace-to 0\n"),
-        (
-            "thynvm --trace-to 4 --trace --trace-from 5 run F",
-            "value trace-to 4\n",
-        ),
-    ] {
-        let given = called(alloc, "O", line, FIRST, &[])?;
-        assert_eq!(rt; given.status, 2, "{line}");
-        assert_eq!(rt; given.report.as_slice(), report.as_bytes(), "{line}");
-        assert!(rt; !given.is_put, "{line}");
+    for row in &STATES {
+        has_state(&rt, alloc, row);
     }
-    Ok(())
+    for (options, section) in &NO_STATES {
+        follows(&rt, alloc, options, section);
+    }
+}
+
+/// Calls with options that cannot be read, and their reports.
+static UNREAD: [(&str, &str); 19] = [
+    ("thynvm --state", "usage\n"),
+    ("thynvm --state 7", "usage\n"),
+    ("thynvm --state 7 --state 8 run F", "usage\n"),
+    ("thynvm --state 7 plain F", "usage\n"),
+    ("thynvm --state-at 7 compare F", "usage\n"),
+    ("thynvm --state=7 run F", "usage\n"),
+    ("thynvm --state run F", "word state\n"),
+    (
+        "thynvm --pcs --state-at 12345678901234567890 run F",
+        "word state-at\n",
+    ),
+    ("thynvm --trace", "usage\n"),
+    ("thynvm --trace --trace run F", "usage\n"),
+    ("thynvm --trace plain F", "usage\n"),
+    ("thynvm --trace compare F", "usage\n"),
+    ("thynvm --trace-from 1 run F", "usage\n"),
+    ("thynvm --trace-to 9 --pcs run F", "usage\n"),
+    ("thynvm --trace --trace-from x run F", "word trace-from\n"),
+    (
+        "thynvm --trace-from 0 --trace-to x run F",
+        "word trace-to\n",
+    ),
+    (
+        "thynvm --trace --trace-from 0 run F",
+        "value trace-from 0\n",
+    ),
+    ("thynvm --trace --trace-to 0 run F", "value trace-to 0\n"),
+    (
+        "thynvm --trace-to 4 --trace --trace-from 5 run F",
+        "value trace-to 4\n",
+    ),
+];
+
+#[test]
+fn options_that_cannot_be_read_are_refused(rt: HostRuntime) {
+    for (line, report) in &UNREAD {
+        expect_refused(&rt, rt.alloc(), line, &EXIT_SEVEN, 2, report);
+    }
 }
 
 /// What follows the totals of the second of these runs with a trace. The restart is over in cycle 715, and the line of the
@@ -574,39 +687,18 @@ static TRACED: [(&str, &str); 6] = [
 ];
 
 #[test]
-fn the_instructions_follow_the_totals(rt: HostRuntime) -> Result<(), Fail> {
+fn the_instructions_follow_the_totals(rt: HostRuntime) {
     let alloc = rt.alloc();
-    let (_, text) = RUNS[1];
-    for (options, section) in TRACED {
-        let line = format!(in alloc;
-            "thynvm {options} run F --pages 8 --btt 8 --ptt 8 --cuts 705"
-        )?;
-        let given = called(alloc, "O", line.as_str(), FIRST, &[])?;
-        assert_eq!(rt; given.status, 0, "{options}");
-        assert!(rt; ends_with(given.put.as_slice(), text, section), "{options}");
+    for (options, section) in &TRACED {
+        follows(&rt, alloc, options, section);
     }
-    // The limit comes in the boot, so no instruction retires.
-    let booting = "thynvm --trace run F --pages 8 --btt 8 --ptt 8 --limit 100";
-    let given = called(alloc, "O", booting, FIRST, &[])?;
-    assert_eq!(rt; given.status, 8);
-    assert!(rt; given.put.as_slice().ends_with(b"trace\nnone\n"));
-    Ok(())
+    let given = booting(&rt, alloc, "--trace");
+    let is_empty = given.put.as_slice().ends_with(b"trace\nnone\n");
+    check(&rt, is_empty, "trace none");
 }
 
-/// The head of a program file of five words at the address 65536.
-static FIVE: [u8; 120] = [
-    0x7f, 0x45, 0x4c, 0x46, 0x02, 0x01, 0x01, 0x00, 0x00, 0x00, 0x00, 0x00, 0x00, 0x00, 0x00, 0x00,
-    0x02, 0x00, 0xf3, 0x00, 0x01, 0x00, 0x00, 0x00, 0x00, 0x00, 0x01, 0x00, 0x00, 0x00, 0x00, 0x00,
-    0x40, 0x00, 0x00, 0x00, 0x00, 0x00, 0x00, 0x00, 0x00, 0x00, 0x00, 0x00, 0x00, 0x00, 0x00, 0x00,
-    0x00, 0x00, 0x00, 0x00, 0x40, 0x00, 0x38, 0x00, 0x01, 0x00, 0x00, 0x00, 0x00, 0x00, 0x00, 0x00,
-    0x01, 0x00, 0x00, 0x00, 0x07, 0x00, 0x00, 0x00, 0x78, 0x00, 0x00, 0x00, 0x00, 0x00, 0x00, 0x00,
-    0x00, 0x00, 0x01, 0x00, 0x00, 0x00, 0x00, 0x00, 0x00, 0x00, 0x01, 0x00, 0x00, 0x00, 0x00, 0x00,
-    0x14, 0x00, 0x00, 0x00, 0x00, 0x00, 0x00, 0x00, 0x14, 0x00, 0x00, 0x00, 0x00, 0x00, 0x00, 0x00,
-    0x04, 0x00, 0x00, 0x00, 0x00, 0x00, 0x00, 0x00,
-];
-
 /// One store, to the first byte of another page: `auipc t0,1; sb zero,0(t0); addi a7,zero,93; ecall`.
-static STORES_ONCE: [u32; 5] = [0x00001297, 0x00028023, 0x05d00893, 0x00000073, 0];
+pub(crate) static STORES_ONCE: [u32; 5] = [0x00001297, 0x00028023, 0x05d00893, 0x00000073, 0];
 
 /// Options, the text of a run of this program with them, and how many cycles it has of each cause.
 static COUNTED: [(&str, &str, &str); 2] = [
@@ -652,31 +744,29 @@ static COUNTED: [(&str, &str, &str); 2] = [
     ),
 ];
 
+/// How many cycles the second of the first runs has of each cause: a cut in cycle 705 leaves no checkpoint under way; the ten
+/// cycles of the recovery are a boot's too.
+static CAUSES_CUT: &str =
+    "causes\nboot 535\ninstructions 12\nmeanwhile 0\nflushes 0\nmerges 0\nseals 1\npromotions 0\ncopies 0\nhomes 0\n\
+    pages 0\nprocessor 5\ntables 3\ncommits 1\nbarriers 2\nnvmdrains 177\ndramdrains 0\nnothing 0\nwaiting 8\n";
+
+/// Runs the program that stores once with options, and compares what follows the totals.
+fn counts(rt: &impl Abort, alloc: Global, options: &str, row: &(&str, &str, &str), section: &str) {
+    let (call, text, _) = *row;
+    let line = line_of(rt, alloc, options, call);
+    expect_section(rt, alloc, line.as_str(), &STORES_ONCE, 0, text, section);
+}
+
 #[test]
-fn causes_follow_the_totals(rt: HostRuntime) -> Result<(), Fail> {
+fn causes_follow_the_totals(rt: HostRuntime) {
     let alloc = rt.alloc();
-    for (options, text, causes) in COUNTED {
-        let mut shelf = shelf_of_five(alloc, STORES_ONCE)?;
-        let line = format!(in alloc; "thynvm --causes {options}")?;
-        let given = called_over(alloc, "O", line.as_str(), &mut shelf, MemNvm::new(alloc))?;
-        assert_eq!(rt; given.status, 0, "{options}");
-        assert!(rt; ends_with(given.put.as_slice(), text, causes), "{options}");
+    for row in &COUNTED {
+        counts(&rt, alloc, "--causes", row, row.2);
     }
-    // A cut in cycle 705 leaves no checkpoint under way; the ten cycles of the recovery are a boot's too.
-    let (_, text) = RUNS[1];
-    let line = "thynvm --causes run F --pages 8 --btt 8 --ptt 8 --cuts 705";
-    let given = called(alloc, "O", line, FIRST, &[])?;
-    assert_eq!(rt; given.status, 0);
-    let causes =
-        "causes\nboot 535\ninstructions 12\nmeanwhile 0\nflushes 0\nmerges 0\nseals 1\npromotions 0\ncopies 0\nhomes 0\n\
-        pages 0\nprocessor 5\ntables 3\ncommits 1\nbarriers 2\nnvmdrains 177\ndramdrains 0\nnothing 0\nwaiting 8\n";
-    assert!(rt; ends_with(given.put.as_slice(), text, causes));
+    follows(&rt, alloc, "--causes", CAUSES_CUT);
     // What is found out by executing the run again comes first.
-    let line = "thynvm --causes --pcs run F --pages 8 --btt 8 --ptt 8 --cuts 705";
-    let given = called(alloc, "O", line, FIRST, &[])?;
-    let both = format!(in alloc; "{PCS}{causes}")?;
-    assert!(rt; ends_with(given.put.as_slice(), text, both.as_str()));
-    Ok(())
+    let both = joined(&rt, alloc, &[PCS, CAUSES_CUT]);
+    follows(&rt, alloc, "--causes --pcs", both.as_str());
 }
 
 /// The head of the stretches of cycles, and the rows of the second of the first runs: the five cycles before the cut are lost, and the
@@ -700,77 +790,70 @@ static EPOCHS_STORED: [&str; 5] = [
 ];
 
 /// The rows of a section, one after the other.
-fn joined(alloc: Global, rows: &[&str]) -> Result<String, AllocError> {
+fn joined(rt: &impl Abort, alloc: Global, rows: &[&str]) -> String {
     let mut text = String::new(alloc);
     for row in rows {
-        text.push_str(row)?;
+        text.push_str(row).expect(rt, "memory");
     }
-    Ok(text)
+    text
 }
 
 #[test]
-fn each_stretch_of_cycles_has_a_row(rt: HostRuntime) -> Result<(), Fail> {
+fn each_stretch_of_cycles_has_a_row(rt: HostRuntime) {
     let alloc = rt.alloc();
-    let (_, text) = RUNS[1];
-    let line = "thynvm --epochs run F --pages 8 --btt 8 --ptt 8 --cuts 705";
-    let given = called(alloc, "O", line, FIRST, &[])?;
-    assert_eq!(rt; given.status, 0);
-    let epochs = joined(alloc, &EPOCHS_CUT)?;
-    assert!(rt; ends_with(given.put.as_slice(), text, epochs.as_str()));
-    let (options, text, causes) = COUNTED[0];
-    let mut shelf = shelf_of_five(alloc, STORES_ONCE)?;
-    let line = format!(in alloc; "thynvm --epochs --causes {options}")?;
-    let given = called_over(alloc, "O", line.as_str(), &mut shelf, MemNvm::new(alloc))?;
-    assert_eq!(rt; given.status, 0);
-    let epochs = joined(alloc, &EPOCHS_STORED)?;
-    let both = format!(in alloc; "{causes}{epochs}")?;
-    assert!(rt; ends_with(given.put.as_slice(), text, both.as_str()));
-    Ok(())
+    let epochs = joined(&rt, alloc, &EPOCHS_CUT);
+    follows(&rt, alloc, "--epochs", epochs.as_str());
+    let (_, _, causes) = COUNTED[0];
+    let epochs = joined(&rt, alloc, &EPOCHS_STORED);
+    let both = format!(in alloc; "{causes}{epochs}").expect(&rt, "memory");
+    counts(&rt, alloc, "--epochs --causes", &COUNTED[0], both.as_str());
+}
+
+/// Adds the line of a place that was written once.
+fn push_place(rt: &impl Abort, alloc: Global, wear: &mut String, at: u64) {
+    let line = format!(in alloc; "{at} 1\n").expect(rt, "memory");
+    wear.push_str(line.as_str()).expect(rt, "memory");
 }
 
 #[test]
-fn each_place_that_was_written_has_a_line(rt: HostRuntime) -> Result<(), Fail> {
+fn each_place_that_was_written_has_a_line(rt: HostRuntime) {
     let alloc = rt.alloc();
     let line = "thynvm --wear run F --pages 8 --btt 8 --ptt 8";
-    let given = called(alloc, "O", line, FIRST, &[])?;
-    assert_eq!(rt; given.status, 0);
+    let given = called(&rt, alloc, line, &EXIT_SEVEN);
+    check(&rt, given.status == 0, line);
     // The header once and the commit block twice, then the homes of memory, behind the places of version 1's slots, and at last
     // both slots: 531 writes in all.
-    let mut wear = String::from_str(alloc, "wear\n0 1\n1 2\n")?;
+    let mut wear = String::from_str(alloc, "wear\n0 1\n1 2\n").expect(&rt, "memory");
     for at in 16u64..528 {
-        let line = format!(in alloc; "{at} 1\n")?;
-        wear.push_str(line.as_str())?;
+        push_place(&rt, alloc, &mut wear, at);
     }
     for at in 1048u64..1064 {
-        let line = format!(in alloc; "{at} 1\n")?;
-        wear.push_str(line.as_str())?;
+        push_place(&rt, alloc, &mut wear, at);
     }
-    assert!(rt; given.put.as_slice().ends_with(wear.as_str().as_bytes()));
-    assert!(rt; has_start(given.put.as_slice(), "nvm reads 449 writes 531 "));
-    Ok(())
+    let text = given.put.as_slice();
+    check(&rt, text.ends_with(wear.as_str().as_bytes()), line);
+    check(&rt, has_start(text, "nvm reads 449 writes 531 "), line);
 }
 
+/// Calls with options of counts that are refused.
+static NO_COUNTS: [&str; 10] = [
+    "thynvm --causes",
+    "thynvm --causes --causes run F",
+    "thynvm --causes plain F",
+    "thynvm --causes compare F",
+    "thynvm --causes=1 run F",
+    "thynvm run F --causes",
+    "thynvm --epochs --causes --epochs run F",
+    "thynvm --epochs plain F",
+    "thynvm --wear plain F",
+    "thynvm --wear compare F",
+];
+
 #[test]
-fn counts_are_refused_without_a_machine(rt: HostRuntime) -> Result<(), Fail> {
-    let alloc = rt.alloc();
-    for line in [
-        "thynvm --causes",
-        "thynvm --causes --causes run F",
-        "thynvm --causes plain F",
-        "thynvm --causes compare F",
-        "thynvm --causes=1 run F",
-        "thynvm run F --causes",
-        "thynvm --epochs --causes --epochs run F",
-        "thynvm --epochs plain F",
-        "thynvm --wear plain F",
-        "thynvm --wear compare F",
-    ] {
-        let given = called(alloc, "O", line, FIRST, &[])?;
-        assert_eq!(rt; given.status, 2, "{line}");
-        assert_eq!(rt; given.report.as_slice(), b"usage\n".as_slice(), "{line}");
-        assert!(rt; !given.is_put, "{line}");
+fn counts_are_refused_without_a_machine(rt: HostRuntime) {
+    for line in &NO_COUNTS {
+        expect_refused(&rt, rt.alloc(), line, &EXIT_SEVEN, 2, "usage\n");
     }
-    Ok(())
 }
 
 /// Hart 0 stays at `beq a0,zero,0`, and hart 1 comes to `sd t0,16(zero)`, which traps.
@@ -779,27 +862,6 @@ static TRAPS: [u32; 5] = [0x00050063, 0x00503823, 0, 0, 0];
 /// Hart 0 stays at `beq a0,zero,0`. Hart 1 comes to `auipc t0,1`, and then to `sb zero,0(t0); addi t0,t0,64; jal zero,-8` again
 /// and again, so each store is to another block.
 static STORES: [u32; 5] = [0x00050063, 0x00001297, 0x00028023, 0x04028293, 0xff9ff06f];
-
-/// A shelf with the program of these words under the name F.
-fn shelf_of_five(alloc: Global, words: [u32; 5]) -> Result<MemShelf, AllocError> {
-    let mut bytes = Vec::from_slice(alloc, &FIVE[..120])?;
-    for word in words {
-        for byte in word.to_le_bytes() {
-            bytes.push(byte)?;
-        }
-    }
-    let mut files = Vec::new(alloc);
-    files.push((String::from_str(alloc, "F")?, bytes))?;
-    Ok(MemShelf::new(files, Vec::new(alloc)))
-}
-
-/// Whether a line of a text begins with these bytes.
-fn has_start(text: &[u8], start: &str) -> bool {
-    match std::str::from_utf8(text) {
-        Ok(text) => text.lines().any(|it| it.starts_with(start)),
-        Err(_) => false,
-    }
-}
 
 /// The whole texts of runs of two harts of which hart 1 traps, worked out by the rules of docs/CONTROLLER.md. A slot of both
 /// tables has 13 blocks, of which two records of a processor are 10, and one of the journal and of shadow paging has 11.
@@ -860,39 +922,38 @@ static TRAP_OF_HART_1: [(&str, &str); 3] = [
     ),
 ];
 
+/// Lines of the state after four instructions of the first of these runs: hart 1 is at the store then, and has reserved nothing;
+/// its number is in a0, and its stack is below hart 0's.
+static AT_THE_STORE: [&str; 8] = [
+    "state-at 4",
+    "count 4",
+    "hart 0 10000",
+    "x2 16f00",
+    "reserved none",
+    "hart 1 10004",
+    "x2 16700",
+    "x10 1",
+];
+
 #[test]
-fn program_counters_are_those_of_the_hart_that_retires(rt: HostRuntime) -> Result<(), Fail> {
+fn program_counters_are_those_of_the_hart_that_retires(rt: HostRuntime) {
     let alloc = rt.alloc();
     let (_, text) = TRAP_OF_HART_1[0];
-    let line = "thynvm --pcs run F --pages 8 --btt 8 --ptt 8 --harts 2";
-    let mut shelf = shelf_of_five(alloc, TRAPS)?;
-    let given = called_over(alloc, "O", line, &mut shelf, MemNvm::new(alloc))?;
-    assert_eq!(rt; given.status, 1);
     // Hart 0 retires the branch three times, hart 1 once, and then the store.
-    assert!(rt; ends_with(given.put.as_slice(), text, "pcs\n10000 4\n10004 1\n"));
-    // Hart 1 is at the store then, and has reserved nothing; its number is in a0, and its stack is below hart 0's.
+    let line = "thynvm --pcs run F --pages 8 --btt 8 --ptt 8 --harts 2";
+    expect_section(&rt, alloc, line, &TRAPS, 1, text, "pcs\n10000 4\n10004 1\n");
     let line = "thynvm --state-at 4 run F --pages 8 --btt 8 --ptt 8 --harts 2";
-    let given = called_over(alloc, "O", line, &mut shelf, MemNvm::new(alloc))?;
-    for line in [
-        "state-at 4",
-        "count 4",
-        "hart 0 10000",
-        "x2 16f00",
-        "reserved none",
-        "hart 1 10004",
-        "x2 16700",
-        "x10 1",
-    ] {
-        assert!(rt; has_line(given.put.as_slice(), line), "{line}");
+    let given = called(&rt, alloc, line, &TRAPS);
+    for line in &AT_THE_STORE {
+        check(&rt, has_line(given.put.as_slice(), line), line);
     }
-    Ok(())
 }
 
 /// `auipc t0,1; sw t0,4(t0); lbu t1,5(t0); addi a7,zero,93; ecall`.
 static STORES_AND_LOADS: [u32; 5] = [0x00001297, 0x0052a223, 0x0052c303, 0x05d00893, 0x00000073];
 
 #[test]
-fn a_trace_has_what_was_stored_and_loaded(rt: HostRuntime) -> Result<(), Fail> {
+fn a_trace_has_what_was_stored_and_loaded(rt: HostRuntime) {
     let alloc = rt.alloc();
     // The loading takes 700 cycles. The first instruction has a line to be filled, and so has the store, which makes a
     // reservation too: its cycles are 704 to 708. The load has the block of the store, of which it loads the second byte.
@@ -900,32 +961,22 @@ fn a_trace_has_what_was_stored_and_loaded(rt: HostRuntime) -> Result<(), Fail> {
         "trace\n703 0 10000 1297\n708 0 10004 52a223 11004 4 11000\n711 0 10008 52c303 11005 1 10\n\
          713 0 1000c 5d00893\n715 0 10010 73\n";
     let line = "thynvm --trace run F --pages 8 --btt 8 --ptt 8";
-    let mut shelf = shelf_of_five(alloc, STORES_AND_LOADS)?;
-    let given = called_over(alloc, "O", line, &mut shelf, MemNvm::new(alloc))?;
-    assert_eq!(rt; given.status, 0);
-    assert!(rt; given.put.as_slice().ends_with(rows.as_bytes()));
+    let given = called(&rt, alloc, line, &STORES_AND_LOADS);
+    check(&rt, given.status == 0, line);
+    check(&rt, given.put.as_slice().ends_with(rows.as_bytes()), line);
     // A store that traps, by hart 1, stores nothing. The harts take turns from the first instruction of hart 1 on.
     let (_, text) = TRAP_OF_HART_1[0];
     let rows =
         "trace\n665 0 10000 50063\n667 0 10000 50063\n669 1 10000 50063\n671 0 10000 50063\n673 1 10004 503823\n";
     let line = "thynvm --trace run F --pages 8 --btt 8 --ptt 8 --harts 2";
-    let mut shelf = shelf_of_five(alloc, TRAPS)?;
-    let given = called_over(alloc, "O", line, &mut shelf, MemNvm::new(alloc))?;
-    assert_eq!(rt; given.status, 1);
-    assert!(rt; ends_with(given.put.as_slice(), text, rows));
-    Ok(())
+    expect_section(&rt, alloc, line, &TRAPS, 1, text, rows);
 }
 
 #[test]
-fn the_trap_and_the_moves_are_of_the_hart_that_retires(rt: HostRuntime) -> Result<(), Fail> {
-    let alloc = rt.alloc();
-    for (line, text) in TRAP_OF_HART_1 {
-        let mut shelf = shelf_of_five(alloc, TRAPS)?;
-        let given = called_over(alloc, "O", line, &mut shelf, MemNvm::new(alloc))?;
-        assert_eq!(rt; given.status, 1, "{line}");
-        assert_eq!(rt; given.put.as_slice(), text.as_bytes(), "{line}");
+fn the_trap_and_the_moves_are_of_the_hart_that_retires(rt: HostRuntime) {
+    for (line, text) in &TRAP_OF_HART_1 {
+        expect_text(&rt, rt.alloc(), line, &TRAPS, 1, text);
     }
-    Ok(())
 }
 
 /// The run stops with the seal of an epoch in which hart 1 finds no room for its ninth store. Its instruction is dropped after
@@ -943,41 +994,56 @@ static DROPPED: &str = "662 0 commit 0 overlapped 0\n\
     epochs 1 early 1 overlapped 0\n";
 
 #[test]
-fn moves_of_a_dropped_instruction_are_no_harts(rt: HostRuntime) -> Result<(), Fail> {
-    let alloc = rt.alloc();
+fn moves_of_a_dropped_instruction_are_no_harts(rt: HostRuntime) {
     let line = "thynvm run F --pages 8 --btt 8 --ptt 8 --harts 2 --limit 810";
-    let mut shelf = shelf_of_five(alloc, STORES)?;
-    let given = called_over(alloc, "O", line, &mut shelf, MemNvm::new(alloc))?;
-    assert_eq!(rt; given.status, 8);
-    assert_eq!(rt; given.put.as_slice(), DROPPED.as_bytes());
-    Ok(())
+    expect_text(&rt, rt.alloc(), line, &STORES, 8, DROPPED);
+}
+
+/// What a call for two harts of a scheme gives over this shelf, under this OUT, with this status.
+fn with_two(
+    rt: &impl Abort,
+    alloc: Global,
+    out: &str,
+    call: &str,
+    scheme: &str,
+    shelf: &mut MemShelf,
+    status: u8,
+) -> Given {
+    let line = format!(in alloc;
+        "thynvm {call} --pages 8 --btt 8 --ptt 8 --harts 2 --scheme {scheme}"
+    ).expect(rt, "memory");
+    let given = called_over(rt, alloc, out, line.as_str(), shelf, MemNvm::new(alloc));
+    check(rt, given.status == status, scheme);
+    given
+}
+
+/// What a resumed run reports of the hart that traps, with a scheme.
+fn resumes(rt: &impl Abort, alloc: Global, scheme: &str) {
+    let mut shelf = shelf_of(rt, alloc, &TRAPS, &[]);
+    // What is saved before the trap runs to it when it is resumed.
+    with_two(
+        rt,
+        alloc,
+        "P",
+        "run F --limit 666 --save I",
+        scheme,
+        &mut shelf,
+        8,
+    );
+    let given = with_two(rt, alloc, "O", "resume I", scheme, &mut shelf, 1);
+    let trap = has_line(given.put.as_slice(), "trap 10004 503823 10 hart 1");
+    check(rt, trap, scheme);
+    // What is saved after it has ended, and no event of it says by which hart.
+    with_two(rt, alloc, "Q", "run F --save J", scheme, &mut shelf, 1);
+    let given = with_two(rt, alloc, "R", "resume J", scheme, &mut shelf, 1);
+    check(rt, !has_start(given.put.as_slice(), "trap "), scheme);
+    let none = has_line(given.put.as_slice(), "hart0 moved 0 retired 0");
+    check(rt, none, scheme);
 }
 
 #[test]
-fn a_resumed_run_reports_the_hart_that_it_saw(rt: HostRuntime) -> Result<(), Fail> {
-    let alloc = rt.alloc();
+fn a_resumed_run_reports_the_hart_that_it_saw(rt: HostRuntime) {
     for scheme in ["thynvm", "journal", "shadow"] {
-        let options = format!(in alloc; "--pages 8 --btt 8 --ptt 8 --harts 2 --scheme {scheme}")?;
-        let mut shelf = shelf_of_five(alloc, TRAPS)?;
-        // What is saved before the trap runs to it when it is resumed.
-        let line = format!(in alloc; "thynvm run F {options} --limit 666 --save I")?;
-        let given = called_over(alloc, "P", line.as_str(), &mut shelf, MemNvm::new(alloc))?;
-        assert_eq!(rt; given.status, 8, "{scheme}");
-        let line = format!(in alloc; "thynvm resume I {options}")?;
-        let given = called_over(alloc, "O", line.as_str(), &mut shelf, MemNvm::new(alloc))?;
-        assert_eq!(rt; given.status, 1, "{scheme}");
-        let trap = has_line(given.put.as_slice(), "trap 10004 503823 10 hart 1");
-        assert!(rt; trap, "{scheme}");
-        // What is saved after it has ended, and no event of it says by which hart.
-        let line = format!(in alloc; "thynvm run F {options} --save J")?;
-        let given = called_over(alloc, "Q", line.as_str(), &mut shelf, MemNvm::new(alloc))?;
-        assert_eq!(rt; given.status, 1, "{scheme}");
-        let line = format!(in alloc; "thynvm resume J {options}")?;
-        let given = called_over(alloc, "R", line.as_str(), &mut shelf, MemNvm::new(alloc))?;
-        assert_eq!(rt; given.status, 1, "{scheme}");
-        assert!(rt; !has_start(given.put.as_slice(), "trap "), "{scheme}");
-        let none = has_line(given.put.as_slice(), "hart0 moved 0 retired 0");
-        assert!(rt; none, "{scheme}");
+        resumes(&rt, rt.alloc(), scheme);
     }
-    Ok(())
 }

@@ -35,7 +35,7 @@ use thy_view::Computer;
 const NOT_PUT: u8 = 3;
 
 /// The exit status if memory ran out for what was to be counted.
-const NO_MEMORY: u8 = 9;
+pub(crate) const NO_MEMORY: u8 = 9;
 
 /// The command that the arguments ask for, if they do; or why the call is refused: because of OUT or of an option, or because
 /// memory ran out.
@@ -90,7 +90,12 @@ fn beginning<'a, H: Shelf>(
 }
 
 /// Stores text under OUT, and returns why it was not put there, if it was not.
-fn put_text<H: Shelf>(alloc: Global, out: &str, text: &str, shelf: &mut H) -> Option<PutError>
+pub(crate) fn put_text<H: Shelf>(
+    alloc: Global,
+    out: &str,
+    text: &str,
+    shelf: &mut H,
+) -> Option<PutError>
     ensures { IsPut out.now text.now (H.stock shelf.old) (H.stock shelf.new) result }
 {
     match shelf.put(alloc, out, text.as_bytes()) {
@@ -100,14 +105,19 @@ fn put_text<H: Shelf>(alloc: Global, out: &str, text: &str, shelf: &mut H) -> Op
 }
 
 /// Writes a closing line, and returns whether the report failed.
-fn close<R: Sink>(closing: Closing, report: &mut R) -> bool
+pub(crate) fn close<R: Sink>(closing: Closing, report: &mut R) -> bool
     ensures { Sent result (R.stream report.old) (R.stream report.new) (closing_of closing.entry) }
 {
     write_closing(closing, report).is_err()
 }
 
 /// Reports that OUT was not put, if so, and returns the exit status. If the report fails in the line, the status stays.
-fn write_report<R: Sink>(out: &str, why: Option<PutError>, status: u8, report: &mut R) -> u8
+pub(crate) fn write_report<R: Sink>(
+    out: &str,
+    why: Option<PutError>,
+    status: u8,
+    report: &mut R,
+) -> u8
     ensures { ReportsOut out.now why (R.stream report.old) (R.stream report.new) status result }
 {
     match why {

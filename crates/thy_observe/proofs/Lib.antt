@@ -11,3 +11,4 @@ pub mod FollowLemmas
 pub mod StateLemmas
 pub mod TraceLemmas
 pub mod UnderWayLemmas
+pub mod AccessLemmas

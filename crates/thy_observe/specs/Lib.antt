@@ -15,3 +15,5 @@ pub mod States
 pub mod Tracing
 pub mod Following
 pub mod UnderWay
+pub mod Listed
+pub mod Accesses

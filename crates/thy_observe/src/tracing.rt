@@ -151,7 +151,7 @@ fn is_up_to(last: Option<u64>, count: u64) -> bool
 }
 
 /// Whether a count is in a window.
-fn is_within(window: Window, count: u64) -> bool
+pub(crate) fn is_within(window: Window, count: u64) -> bool
     ensures { result ≡ is_within window count }
 {
     window.first <= count && is_up_to(window.last, count)

@@ -3,7 +3,7 @@
 import re
 
 from lib import program, repository
-from lib.call import TORN
+from lib.call import ACCESSES, TORN
 from lib.explained import files
 
 
@@ -11,6 +11,16 @@ def range_of(field):
     """The range of an option, from the table of the help page."""
     row = re.search(rf"^  --{field} .*\n(?: {{4}}.*\n)*", repository.help_page(), re.MULTILINE)
     return " ".join(part for line in row[0].splitlines() if (part := line[27:60].strip())) if row else ""
+
+
+def help_with_accesses(call):
+    """Why no accesses are listed of a run."""
+    name = call.wishes[ACCESSES]
+    if name in (call.out, *call.read(), call.written()):
+        return f"TRACE is to be another name than {name}, which the call reads or writes itself"
+    if call.numbers("cuts"):
+        return "with --accesses no power may be cut: --cuts has to be left out"
+    return "with --accesses no line may wander: --gap has to be 0" if call.number("gap") > 0 else ""
 
 
 def help_with_usage(call):
@@ -25,6 +35,8 @@ def help_with_usage(call):
             return "with --torn no line may wander: --gap has to be 0"
         if call.out in (*call.read(), call.written()):
             return f"OUT is to be another name than {call.out}, which the call reads or writes itself"
+        if ACCESSES in call.wishes and (said := help_with_accesses(call)):
+            return said
     return f"{fault}; ./thynvm --help says what there is" if fault else "./thynvm --help says what there is"
 
 

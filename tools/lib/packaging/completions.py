@@ -1,7 +1,7 @@
 """Completion in bash and zsh, made from the table of the program's options and from the help page."""
 
 from lib import program
-from lib.call import NUMBERED, OBSERVED_RUNS, SWEPT, TORN, WISHES
+from lib.call import FOLLOWED, OBSERVED_RUNS, SWEPT, TORN, WISHES
 from lib.packaging import pages
 
 # The first words that the script has beside the commands.
@@ -12,7 +12,7 @@ OBSERVED = (*OBSERVED_RUNS, "plain")
 
 # The options of `sweep OUT`, and which of these and of those of `observe OUT` a value follows.
 SWEPT_BY = {**SWEPT, TORN: WISHES[TORN]}
-VALUED = (*NUMBERED, *SWEPT)
+VALUED = (*FOLLOWED, *SWEPT)
 
 # The operands that are no files.
 NUMBERS = ("N",)

@@ -4,4 +4,4 @@ use Rattle.observe.proofs.options.take_options.Given as goal
 
 abbrev pub invariant-loop-done : goal.invariant-loop-done
 invariant-loop-done l =
-    take_many (10 - l.done) l.options (map string_bytes l.words.items) ≡ options_in (map string_bytes l.fn.words.items)
+    take_many (12 - l.done) l.options (map string_bytes l.words.items) ≡ options_in (map string_bytes l.fn.words.items)
