@@ -32,7 +32,8 @@ use Rattle.thy_checkpoint.specs.Start.{CanStart}
 use Rattle.thy_thynvm_parts.specs.Filling.{filling_thynvm}
 use Rattle.thy_thynvm_parts.proofs.LiveLemmas.{IsFresh-new}
 use Rattle.thy_control_tests.specs.Beside.{all}
-use Rattle.thy_control_tests.specs.Boots.{Boots, IsLeastStart}
+use Rattle.thy_control_tests.specs.Boots.{Boots}
+use Rattle.thy_test_support.specs.Starts.{IsLeastStart}
 use Rattle.thy_control_tests.specs.Memory.{HasRoom}
 use Rattle.thy_control_tests.specs.Starting.{Off, IsOff, starting, IsStarting, is_refused}
 use Rattle.thy_view.proofs.ActionLemmas.{down-after}

@@ -1,5 +1,5 @@
 -- A boot that a test drives over an NVM.
-use Rattle.std.specs.Prelude.{None, ◌≡◌, Bool, true, false, [], length, replicate}
+use Rattle.std.specs.Prelude.{◌≡◌, Bool, true, false, [], length}
 use Rattle.thy_block.specs.declared.parameters.Parameters.{Parameters}
 use Rattle.thy_block.specs.Device.{Device}
 use Rattle.thy_dram.specs.Contents.{Contents}
@@ -9,7 +9,6 @@ use Rattle.thy_view.specs.declared.boot_step.BootStep.{BootStep}
 use Rattle.thy_view.specs.declared.boot_step.BootStep.TheVariants.{GoesOn}
 use Rattle.thy_checkpoint.specs.Boot.{Booting, IsBoot}
 use Rattle.thy_checkpoint.specs.Steps.{CanStep}
-use Rattle.thy_isa.specs.declared.state.Status.TheVariants.{Running}
 use Rattle.thy_checkpoint.specs.Start.{CanStart}
 use Rattle.thy_thynvm_parts.specs.Filling.{filling_thynvm}
 
@@ -20,19 +19,6 @@ pub record Boots (s : Plain) (n : Device) (b : Booting) (c : State) : Type 0 whe
   pub same_p : c.p ≡ b.p
   pub fits : IsBoot filling_thynvm b
   pub may : CanStep filling_thynvm s n b c
-
--- a start of the least memory, whose registers are zero
-pub record IsLeastStart (s : Plain) : Type 0 where
-  pub regs : s.regs ≡ replicate 32 0
-  pub memory : length s.memory ≡ 28672
-  pub console : length s.console ≡ 70
-  pub pc : s.pc ≡ 65540
-  pub cursor : s.cursor ≡ 3
-  pub brk : s.brk ≡ 65600
-  pub floor : s.floor ≡ 65600
-  pub count : s.count ≡ 5
-  pub status : s.status ≡ Running
-  pub alone : s.other ≡ None
 
 -- the boot continues
 abbrev pub goes_on : BootStep → Bool

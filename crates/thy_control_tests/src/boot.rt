@@ -2,20 +2,21 @@
 ghost use Rattle.std.specs.Prelude.{◌≡◌, ◌≤◌, true, false, length};
 ghost use Rattle.thy_block.specs.Device.{IsFramed};
 ghost use Rattle.thy_isa.specs.Step.{state_of};
-ghost use Rattle.thy_control_tests.specs.Boots.{Boots, IsLeastStart, IsNew, IsReady, goes_on};
+ghost use Rattle.thy_control_tests.specs.Boots.{Boots, IsNew, IsReady, goes_on};
+ghost use Rattle.thy_test_support.specs.Starts.{IsLeastStart};
 
 use crate::support::expect::expect;
-use crate::support::geometry::geometry_of;
 use crate::support::starting::{has_least_memory, new_boot};
 use std::alloc::Global;
 use std::process::Abort;
-use thy_base::{Block, Bytes, Geometry, Nvm, Parameters, SchemeName, Shape};
+use thy_base::{Block, Geometry, Nvm, Parameters, Shape};
 use thy_checkpoint::{Boot, End, Stage, a_boot_may_go_on};
 use thy_control::Control;
 use thy_dram::Dram;
-use thy_isa::{CpuState, MachState, Regs, Status};
+use thy_isa::{CpuState, Regs, Status};
 use thy_layout::Start;
 use thy_nvm::MemNvm;
+use thy_test_support::{LEAST, geometry_of, start_over};
 use thy_thynvm::ThynvmTables;
 use thy_view::{BootStep, Round};
 
@@ -26,24 +27,7 @@ fn least() -> Parameters
     ensures btt { result.btt ≡ 8 }
     ensures ptt { result.ptt ≡ 8 }
 {
-    Parameters {
-        base: 65536,
-        pages: 8,
-        console: 1,
-        epoch: 1,
-        btt: 8,
-        ptt: 8,
-        sets: 1,
-        ways: 1,
-        nvmq: 4,
-        dramq: 4,
-        high: 22,
-        low: 16,
-        mix: 0,
-        limit: 1,
-        scheme: SchemeName::Thynvm,
-        harts: 1,
-    }
+    LEAST
 }
 
 /// A start whose memory is full of sevens, and whose console has 70 exclamation marks.
@@ -51,24 +35,7 @@ fn start_of(rt: &impl Abort, alloc: Global) -> Start
     ensures { IsLeastStart (state_of result.state) }
 {
     let memory = vec![in alloc; 7u8; 28672].expect(rt, "memory");
-    let console = vec![in alloc; 33u8; 70].expect(rt, "memory");
-    let state = MachState {
-        pc: 65540,
-        regs: Regs::new(),
-        memory: Bytes::from_vec(memory),
-        console: Bytes::from_vec(console),
-        cursor: 3,
-        brk: 65600,
-        floor: 65600,
-        count: 5,
-        status: Status::Running,
-        other: None,
-    };
-    Start {
-        state,
-        kept: None,
-        input: Bytes::new(alloc),
-    }
+    start_over(alloc, memory).expect(rt, "memory")
 }
 
 /// The controller of a machine whose power came on.
@@ -133,7 +100,7 @@ fn boot<N: Nvm>(rt: &impl Abort, alloc: Global, nvm: &mut N, most: u64) -> Boote
     requires ready { IsReady (N.device nvm.old) }
     ensures { IsFramed (N.device nvm.old) (N.device nvm.new) }
 {
-    let geometry = geometry_of(rt, alloc, &least());
+    let geometry = geometry_of(alloc, &least()).expect(rt, "numbers in range");
     let start = start_of(rt, alloc);
     has_least_memory(rt, &geometry);
     let mut boot = new_boot(rt, alloc, &geometry);

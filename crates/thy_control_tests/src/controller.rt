@@ -4,35 +4,23 @@ ghost use Rattle.thy_table.specs.Places.{image_blocks};
 ghost use Rattle.thy_control.specs.Holding.{holding_of};
 ghost use Rattle.thy_control_tests.specs.Beside.{Takes};
 
-use crate::support::drawn::{block_in, drawn, drawn_image};
+use crate::support::drawn::{block_in, drawn_image};
 use crate::support::expect::expect;
-use crate::support::geometry::geometry_of;
 use std::alloc::Global;
 use std::process::Abort;
-use thy_base::{Block, BlockStore, Geometry, Lcg, Nvm, Parameters, SchemeName, Shape, Stored};
+use thy_base::{Block, BlockStore, Geometry, Lcg, Nvm, Parameters, Shape, Stored};
 use thy_control::{Control, a_new_controller_is_ready, blocks_are_works};
 use thy_dram::Dram;
 use thy_nvm::MemNvm;
 use thy_table::{blocks, home};
+use thy_test_support::{LEAST, drawn, geometry_of};
 
 /// The least memory, 512 blocks. The block table has room for 64 of them.
-static LEAST: Parameters = Parameters {
-    base: 65536,
-    pages: 8,
-    console: 1,
-    epoch: 1,
+static ROOMY: Parameters = Parameters {
     btt: 64,
-    ptt: 8,
-    sets: 1,
-    ways: 1,
-    nvmq: 4,
-    dramq: 4,
     high: 63,
     low: 0,
-    mix: 0,
-    limit: 1,
-    scheme: SchemeName::Thynvm,
-    harts: 1,
+    ..LEAST
 };
 
 /// What memory has to hold, block by block.
@@ -222,7 +210,7 @@ fn memory_of(rt: &impl Abort, alloc: Global, geometry: &Geometry, image: &[Block
 // First a few blocks are stored over and over, and then any, until no entry of the block table is free.
 #[test]
 fn random_calls_answer_as_a_list_of_blocks(rt: HostRuntime) {
-    let geometry = geometry_of(&rt, rt.alloc(), &LEAST);
+    let geometry = geometry_of(rt.alloc(), &ROOMY).expect(&rt, "numbers in range");
     let mut lcg = Lcg::new(1);
     let image = drawn_image(&rt, rt.alloc(), &geometry, &mut lcg);
     let mut beside = memory_of(&rt, rt.alloc(), &geometry, &image);

@@ -3,42 +3,30 @@ ghost use Rattle.std.specs.Prelude.{◌≡◌, ◌<◌, true, false, length, IfS
 ghost use Rattle.thy_table.specs.Places.{image_blocks};
 ghost use Rattle.thy_control_tests.specs.Driven.{Drives};
 
-use crate::support::drawn::{block_in, drawn, drawn_image};
+use crate::support::drawn::{block_in, drawn_image};
 use crate::support::driven::{
     commit, committed, copy_next, drain_dram, drain_nvm, load, merge_one, page_next, power_on,
     promote_one, seal, store,
 };
 use crate::support::expect::expect;
-use crate::support::geometry::geometry_of;
 use std::alloc::Global;
 use std::process::Abort;
-use thy_base::{Block, Geometry, Lcg, Nvm, Parameters, SchemeName, Stored};
+use thy_base::{Block, Geometry, Lcg, Nvm, Parameters, Stored};
 use thy_control::Control;
 use thy_nvm::MemNvm;
 use thy_table::home;
+use thy_test_support::{LEAST, drawn, geometry_of};
 
 /// How many entries the block table has.
 const ENTRIES: u64 = 16;
 
 /// The least memory, 512 blocks. A page is stored to densely by more than 8 stores of an epoch, and no longer by fewer
 /// than 3.
-static LEAST: Parameters = Parameters {
-    base: 65536,
-    pages: 8,
-    console: 1,
-    epoch: 1,
+static DENSER: Parameters = Parameters {
     btt: 16,
-    ptt: 8,
-    sets: 1,
-    ways: 1,
-    nvmq: 4,
-    dramq: 4,
     high: 8,
     low: 3,
-    mix: 0,
-    limit: 1,
-    scheme: SchemeName::Thynvm,
-    harts: 1,
+    ..LEAST
 };
 
 /// What memory has to hold, block by block, in each version.
@@ -403,7 +391,7 @@ fn memory_of(rt: &impl Abort, alloc: Global, geometry: &Geometry, image: &[Block
 
 /// Random calls of one machine.
 fn play<N: Nvm>(rt: &impl Abort, alloc: Global, nvm: &mut N, seed: u64, seen: &mut Seen) {
-    let geometry = geometry_of(rt, alloc, &LEAST);
+    let geometry = geometry_of(alloc, &DENSER).expect(rt, "numbers in range");
     let mut lcg = Lcg::new(seed);
     let image = drawn_image(rt, alloc, &geometry, &mut lcg);
     let mut beside = memory_of(rt, alloc, &geometry, &image);

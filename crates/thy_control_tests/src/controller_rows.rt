@@ -6,52 +6,23 @@ use crate::support::driven::{
     commit, committed, copy_next, load, merge_one, page_next, power_on, promote_one, seal, store,
 };
 use crate::support::expect::expect;
-use crate::support::geometry::geometry_of;
+use crate::support::rows::{least, of};
 use std::alloc::Global;
 use std::process::Abort;
-use thy_base::{Block, Nvm, Parameters, SchemeName, Stored};
+use thy_base::{Block, Nvm, Stored};
 use thy_control::Control;
 use thy_nvm::MemNvm;
 use thy_table::blocks;
-
-/// The least memory, with a block table of `btt` entries. A page is stored to densely by more than 22 stores of an
-/// epoch, and no longer by fewer than 16.
-fn least(btt: u64) -> Parameters
-    ensures { result.pages ≡ 8 }
-{
-    Parameters {
-        base: 65536,
-        pages: 8,
-        console: 1,
-        epoch: 1,
-        btt,
-        ptt: 8,
-        sets: 1,
-        ways: 1,
-        nvmq: 4,
-        dramq: 4,
-        high: 22,
-        low: 16,
-        mix: 0,
-        limit: 1,
-        scheme: SchemeName::Thynvm,
-        harts: 1,
-    }
-}
+use thy_test_support::geometry_of;
 
 /// The controller of a machine whose power came on over zeros.
 fn over_zeros<N: Nvm>(rt: &impl Abort, alloc: Global, btt: u64, nvm: &mut N) -> Control
     ensures drives { Drives result (N.device nvm.new) }
     ensures idle { result.under_way ≡ false }
 {
-    let geometry = geometry_of(rt, alloc, &least(btt));
+    let geometry = geometry_of(alloc, &least(btt)).expect(rt, "numbers in range");
     let image = vec![in alloc; Block::ZERO; blocks(&geometry) as usize].expect(rt, "memory");
     power_on(rt, alloc, &geometry, nvm, &image)
-}
-
-/// A block of one letter.
-fn of(letter: u8) -> Block {
-    Block([letter; 64])
 }
 
 /// Stores a block of one letter, which needs no copy before it.

@@ -2,40 +2,22 @@
 //! epochs. Each restart is compared with what was stored.
 ghost use Rattle.std.specs.Prelude.{◌≡◌, length};
 ghost use Rattle.thy_isa.specs.Step.{state_of};
-ghost use Rattle.thy_control_tests.specs.Boots.{IsLeastStart};
+ghost use Rattle.thy_test_support.specs.Starts.{IsLeastStart};
 
 use crate::support::expect::{expect, expect_at};
-use crate::support::geometry::geometry_of;
 use crate::support::memory::{Memory, block_of};
 use crate::support::starting::{Off, Starting, Taken};
 use std::alloc::Global;
 use std::process::Abort;
-use thy_base::{Block, Bytes, Parameters, SchemeName, Stored};
-use thy_isa::{MachState, Regs, Status};
+use thy_base::{Block, Parameters, Stored};
 use thy_layout::{EngineStep, Start};
+use thy_test_support::{LEAST, geometry_of, start_over};
 use thy_view::BootStep;
 
 /// The least memory: seven pages of the program and one of the console. A page is stored to densely by more than 22 stores
 /// of an epoch, and seldom by fewer than 16.
 fn least() -> Parameters {
-    Parameters {
-        base: 65536,
-        pages: 8,
-        console: 1,
-        epoch: 1,
-        btt: 32,
-        ptt: 8,
-        sets: 1,
-        ways: 1,
-        nvmq: 4,
-        dramq: 4,
-        high: 22,
-        low: 16,
-        mix: 0,
-        limit: 1,
-        scheme: SchemeName::Thynvm,
-        harts: 1,
-    }
+    Parameters { btt: 32, ..LEAST }
 }
 
 /// Byte `at` of the start's memory: each block holds its number, over and over.
@@ -61,24 +43,7 @@ fn start_of(rt: &impl Abort, alloc: Global) -> Start
 {
     let mut memory = vec![in alloc; 0u8; 28672].expect(rt, "memory");
     number_blocks(&mut memory);
-    let console = vec![in alloc; 33u8; 70].expect(rt, "memory");
-    let state = MachState {
-        pc: 65540,
-        regs: Regs::new(),
-        memory: Bytes::from_vec(memory),
-        console: Bytes::from_vec(console),
-        cursor: 3,
-        brk: 65600,
-        floor: 65600,
-        count: 5,
-        status: Status::Running,
-        other: None,
-    };
-    Start {
-        state,
-        kept: None,
-        input: Bytes::new(alloc),
-    }
+    start_over(alloc, memory).expect(rt, "memory")
 }
 
 /// Block `b` of memory as a start has it, whose console has 70 exclamation marks in the last page.
@@ -340,7 +305,7 @@ fn tick(rt: &impl Abort, machine: Machine, beside: &mut Beside, tick: u64) -> Ma
 
 /// A machine that was never on, with its power coming on.
 fn begun(rt: &impl Abort, alloc: Global) -> (Machine, Beside) {
-    let geometry = geometry_of(rt, alloc, &least());
+    let geometry = geometry_of(alloc, &least()).expect(rt, "numbers in range");
     let start = start_of(rt, alloc);
     let beside = Beside::of(rt, alloc, &start);
     let starting = Off::new(rt, alloc, geometry, 1).boot(rt, alloc, start);

@@ -1,43 +1,14 @@
 //! Rows of calls of the controller with its engine over the simulated NVM, worked out by hand: with how many actions the
 //! engine commits a checkpoint, and what the image is then.
-ghost use Rattle.std.specs.Prelude.{◌≡◌, ◌<◌};
+ghost use Rattle.std.specs.Prelude.{◌<◌};
 
 use crate::support::expect::{expect, expect_at};
 use crate::support::memory::Memory;
+use crate::support::rows::{least, of};
 use std::alloc::Global;
 use std::process::Abort;
-use thy_base::{Block, Parameters, SchemeName, Stored};
+use thy_base::Stored;
 use thy_layout::EngineStep;
-
-/// The least memory, with a block table of `btt` entries. A page is stored to densely by more than 22 stores of an
-/// epoch, and no longer by fewer than 16. A slot has 7 blocks, and one for each 8 entries of the block table.
-fn least(btt: u64) -> Parameters
-    ensures { result.pages ≡ 8 }
-{
-    Parameters {
-        base: 65536,
-        pages: 8,
-        console: 1,
-        epoch: 1,
-        btt,
-        ptt: 8,
-        sets: 1,
-        ways: 1,
-        nvmq: 4,
-        dramq: 4,
-        high: 22,
-        low: 16,
-        mix: 0,
-        limit: 1,
-        scheme: SchemeName::Thynvm,
-        harts: 1,
-    }
-}
-
-/// A block of one letter.
-fn of(letter: u8) -> Block {
-    Block([letter; 64])
-}
 
 /// Stores a block of one letter, which needs no copy before it.
 fn done(rt: &impl Abort, memory: &mut Memory, b: u64, letter: u8)

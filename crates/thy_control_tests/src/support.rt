@@ -2,6 +2,6 @@
 pub(crate) mod drawn;
 pub(crate) mod driven;
 pub(crate) mod expect;
-pub(crate) mod geometry;
 pub(crate) mod memory;
+pub(crate) mod rows;
 pub(crate) mod starting;

@@ -1,8 +1,8 @@
 //! Runs whose power is cut again while it comes on, and boots between whose steps queued writes land.
-use crate::support::calls::{Given, called, check, has};
-use crate::support::programs::{GREET, THREE_WORDS, shelf_of};
+use crate::support::calls::{called, check};
 use std::alloc::Global;
 use std::process::Abort;
+use thy_test_support::{GREET, Given, THREE_WORDS, has, shelf_of};
 
 /// `sd sp,-64*k(sp)` for k from 0 to 8, which stores to nine blocks of one page; `addi a7,zero,93`; `sd a7,-64*k(sp)`
 /// for the same k; `ld a0,-512(sp); ecall`, which exits with the value that was stored last.
@@ -18,7 +18,7 @@ static PROGRAMS: [(&str, &[u32]); 3] = [("F", THREE_WORDS), ("V", TWO_VALUES), (
 
 /// Calls over these programs.
 fn ran(rt: &impl Abort, alloc: Global, line: &str) -> Given {
-    let mut shelf = shelf_of(rt, alloc, &PROGRAMS, &[("W", b"World\n")]);
+    let mut shelf = shelf_of(alloc, &PROGRAMS, &[("W", b"World\n")]).expect(rt, "memory");
     called(rt, alloc, line, &mut shelf)
 }
 

@@ -1,10 +1,11 @@
 //! Runs whose NVM fails at one call: they stop there, are saved, and resume over a device that does not fail.
-use crate::support::calls::{Given, called, called_over, check, failing_at, ran};
+use crate::support::calls::{called, called_over, check, failing_at, ran};
 use crate::support::programs::shelf;
 use std::alloc::Global;
 use std::process::Abort;
 use thy_nvm::MemNvm;
 use thy_out::MemShelf;
+use thy_test_support::Given;
 
 /// A run in the smallest memory that exits: its options, those that a run which resumes does not have, what is left by
 /// the cuts among these, and its report.

@@ -2,13 +2,13 @@
 //! its line.
 use crate::support::calls::{called, check, compare, expect_on, held};
 use crate::support::expect::expect_at;
-use crate::support::geometry::geometry_of;
-use crate::support::programs::{EXIT_SEVEN, files, hold, patched, shelf, shelf_of};
+use crate::support::programs::{files, shelf};
 use std::alloc::Global;
 use std::process::Abort;
-use thy_base::{Geometry, Parameters, SchemeName};
+use thy_base::{Geometry, Parameters};
 use thy_layout::BadImage;
 use thy_out::MemShelf;
+use thy_test_support::{EXIT_SEVEN, SMALLEST, geometry_of, hold, patched, shelf_of};
 
 /// Runs a file alone by a line, and compares status and report; nothing is printed.
 pub(crate) fn expect_file(
@@ -20,7 +20,7 @@ pub(crate) fn expect_file(
     report: &str,
     at: &str,
 ) {
-    let mut shelf = shelf_of(rt, alloc, &[], &[("F", file)]);
+    let mut shelf = shelf_of(alloc, &[], &[("F", file)]).expect(rt, "memory");
     let given = called(rt, alloc, line, &mut shelf);
     compare(rt, at, &given, status, "", report);
 }
@@ -69,7 +69,7 @@ pub(crate) fn expect_patched(
     status: u8,
     report: &str,
 ) {
-    let file = patched(rt, alloc, &EXIT_SEVEN, place, bytes);
+    let file = patched(alloc, &EXIT_SEVEN, place, bytes).expect(rt, "memory");
     expect_file(rt, alloc, line, file.as_slice(), status, report, report);
 }
 
@@ -93,22 +93,8 @@ fn a_program_file_has_fields_at_their_ends(rt: HostRuntime) {
 
 /// The smallest memory and tables, with all else as it is by default.
 static NUMBERS: Parameters = Parameters {
-    base: 65536,
-    pages: 8,
-    console: 1,
-    epoch: 10000,
-    btt: 8,
-    ptt: 8,
-    sets: 16,
-    ways: 4,
-    nvmq: 16,
-    dramq: 16,
-    high: 22,
-    low: 16,
-    mix: 0,
     limit: 1_000_000_000,
-    scheme: SchemeName::Thynvm,
-    harts: 1,
+    ..SMALLEST
 };
 
 /// An image has 1064 blocks of 64 bytes: header, commit block, 14 that are unused, 512 homes, 8 alternate blocks, 8
@@ -146,7 +132,7 @@ fn expect_refused(rt: &impl Abort, part: &[u8], geometry: &Geometry) {
 #[test]
 fn an_image_is_refused_at_every_length_but_its_own(rt: HostRuntime) {
     let alloc = rt.alloc();
-    let geometry = geometry_of(&rt, alloc, &NUMBERS);
+    let geometry = geometry_of(alloc, &NUMBERS).expect(&rt, "numbers in range");
     let image = image(&rt, alloc);
     check(&rt, image.len() == IMAGE_SIZE, "the image's length");
     for (length, _) in image.iter().enumerate() {
@@ -164,7 +150,7 @@ fn expect_resumed(
     at: usize,
 ) {
     let at = format!(in alloc; "byte {at}").expect(rt, "memory");
-    let mut shelf = shelf_of(rt, alloc, &[], &[("I", image)]);
+    let mut shelf = shelf_of(alloc, &[], &[("I", image)]).expect(rt, "memory");
     let line = "thynvm resume I --pages 8 --btt 8 --ptt 8";
     let given = called(rt, alloc, line, &mut shelf);
     compare(rt, at.as_str(), &given, status, "", report);
@@ -253,7 +239,7 @@ fn a_file_that_is_too_long_is_refused_by_its_name(rt: HostRuntime) {
     let alloc = rt.alloc();
     let mut files = files(&rt, alloc);
     let long = Vec::from_elem(alloc, 0u8, 67_108_865).expect(&rt, "memory");
-    hold(&rt, alloc, &mut files, "L", long);
+    hold(alloc, &mut files, "L", long).expect(&rt, "memory");
     let mut shelf = MemShelf::new(files, Vec::new(alloc));
     for line in &TOO_LONG {
         expect_on(&rt, alloc, line, &mut shelf, 3, "fetch L too long\n");

@@ -1,9 +1,10 @@
 //! Runs of programs that have an input which they do not read.
 use crate::support::calls::{expect, expect_on};
-use crate::support::programs::{THREE_WORDS, files_of, hold, shelf};
+use crate::support::programs::shelf;
 use std::alloc::Global;
 use std::process::Abort;
 use thy_out::MemShelf;
+use thy_test_support::{THREE_WORDS, files_of, hold};
 
 /// The files that can be read, or the first that cannot; and only then whether the first file is a program.
 static ORDER: [(&str, u8, &str); 14] = [
@@ -68,9 +69,9 @@ fn a_shelf_that_fails_is_reported_with_the_name(rt: HostRuntime) {
 
 /// A shelf with the program that exits with 7 under the name F, and `size` zeros under I.
 fn zeros(rt: &impl Abort, alloc: Global, size: usize) -> MemShelf {
-    let mut files = files_of(rt, alloc, &[("F", THREE_WORDS)], &[]);
+    let mut files = files_of(alloc, &[("F", THREE_WORDS)], &[]).expect(rt, "memory");
     let input = Vec::from_elem(alloc, 0u8, size).expect(rt, "memory");
-    hold(rt, alloc, &mut files, "I", input);
+    hold(alloc, &mut files, "I", input).expect(rt, "memory");
     MemShelf::new(files, Vec::new(alloc))
 }
 

@@ -1,10 +1,11 @@
 //! Runs with levelled wear, compared with the same runs without.
-use crate::support::calls::{Given, called, called_over, check, expect, held, ran};
+use crate::support::calls::{called, called_over, check, expect, held, ran};
 use crate::support::programs::shelf;
 use std::alloc::Global;
 use std::process::Abort;
 use thy_base::Nvm;
 use thy_nvm::MemNvm;
+use thy_test_support::Given;
 
 /// Runs of the program that exits with 7, with the report.
 static ROWS: [(&str, &str); 3] = [

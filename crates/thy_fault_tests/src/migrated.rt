@@ -1,12 +1,10 @@
 //! A saved image of layout version 1, resumed: its boot writes the checkpoint anew in version 2.
-use crate::support::calls::{
-    Given, called, called_over, check, compare, expect_on, failing_at, held,
-};
-use crate::support::programs::shelf_of;
+use crate::support::calls::{called, called_over, check, compare, expect_on, failing_at, held};
 use std::alloc::Global;
 use std::process::Abort;
 use thy_nvm::MemNvm;
 use thy_out::MemShelf;
+use thy_test_support::{Given, shelf_of};
 
 /// The image is resumed, with what is reported. What a run saves under T is resumed in the same way.
 const RESUMES: &str = "thynvm resume D --pages 8 --btt 8 --ptt 8";
@@ -85,7 +83,7 @@ fn saved(rt: &impl Abort, alloc: Global, size: usize) -> Vec<u8> {
 /// A shelf that holds the image under D.
 fn shelf(rt: &impl Abort, alloc: Global, size: usize) -> MemShelf {
     let image = saved(rt, alloc, size);
-    shelf_of(rt, alloc, &[], &[("D", image.as_slice())])
+    shelf_of(alloc, &[], &[("D", image.as_slice())]).expect(rt, "memory")
 }
 
 /// Resumes the image with these words after the parameters.

@@ -1,10 +1,11 @@
 //! Runs that are saved and resumed.
-use crate::support::calls::{Given, called, check, expect_on, held};
-use crate::support::programs::{GREET, shelf, shelf_of};
+use crate::support::calls::{called, check, expect_on, held};
+use crate::support::programs::shelf;
 use std::alloc::Global;
 use std::process::Abort;
 use thy_base::Shelf;
 use thy_out::MemShelf;
+use thy_test_support::{GREET, Given, shelf_of};
 
 /// A line with status and report; nothing is printed.
 type Row = (&'static str, u8, &'static str);
@@ -157,7 +158,7 @@ fn in_pieces(rt: &impl Abort, alloc: Global, shelf: &mut MemShelf) -> Given {
 #[test]
 fn a_run_in_pieces_ends_as_one_run(rt: HostRuntime) {
     let alloc = rt.alloc();
-    let mut shelf = shelf_of(&rt, alloc, &[("G", GREET)], &[("W", b"World\n")]);
+    let mut shelf = shelf_of(alloc, &[("G", GREET)], &[("W", b"World\n")]).expect(&rt, "memory");
     let line = "thynvm plain G --input W --pages 8 --digest";
     let plain = called(&rt, alloc, line, &mut shelf);
     check(&rt, plain.status == 0, line);

@@ -2,6 +2,5 @@
 pub(crate) mod by_scheme;
 pub(crate) mod calls;
 pub(crate) mod expect;
-pub(crate) mod geometry;
 pub(crate) mod naming;
 pub(crate) mod programs;

@@ -2,7 +2,6 @@
 ghost use Rattle.std.specs.Prelude.{◌≡◌};
 
 use crate::support::expect::{expect, expect_at};
-use crate::support::geometry::geometry_of;
 use std::alloc::{AllocError, Global};
 use std::process::Abort;
 use std::test::Fail;
@@ -11,11 +10,12 @@ use thy_isa::{MachState, OtherHart, Reg, Regs, Reservation, Status};
 use thy_layout::{BadImage, Found, table_block};
 use thy_record::{check, header_block, state};
 use thy_table::blocks;
+use thy_test_support::geometry_of;
 
 /// The smallest machine: 8 pages, one of them the console's, and 8 entries in each table. Its image has 1064 blocks:
 /// the header, the commit block, 512 homes from block 16 on, and 8 alternate blocks from block 528 on. The others are 8
 /// alternate pages of 64 blocks, from block 536 on, and slots of 8 blocks, from block 1048 and block 1056 on.
-static NUMBERS: Parameters = Parameters {
+const NUMBERS: Parameters = Parameters {
     base: 65536,
     pages: 8,
     console: 1,
@@ -51,7 +51,7 @@ const SLOT: usize = 8448;
 const COUNTS: usize = SLOT + 56;
 
 fn geometry(rt: &impl Abort, alloc: Global) -> Geometry {
-    geometry_of(rt, alloc, &NUMBERS)
+    geometry_of(alloc, &NUMBERS).expect(rt, "numbers in range")
 }
 
 /// Writes a word over an image.
@@ -222,22 +222,8 @@ fn an_image_of_version_1_is_read_from_its_own_slot(rt: HostRuntime) -> Result<()
 /// they do with one hart, and the slots have 13 blocks, of which two records are ten, from block 1048 and block 1061
 /// on: 1074 blocks.
 static NUMBERS_OF_TWO: Parameters = Parameters {
-    base: 65536,
-    pages: 8,
-    console: 1,
-    epoch: 1000,
-    btt: 8,
-    ptt: 8,
-    sets: 1,
-    ways: 1,
-    nvmq: 1,
-    dramq: 1,
-    high: 8,
-    low: 2,
-    mix: 0,
-    limit: 1000,
-    scheme: SchemeName::Thynvm,
     harts: 2,
+    ..NUMBERS
 };
 
 const BLOCKS_OF_TWO: usize = 1074;
@@ -285,7 +271,7 @@ fn image_of_two(alloc: Global) -> Result<Vec<u8>, AllocError> {
 
 #[test]
 fn an_image_of_two_harts_has_both_records(rt: HostRuntime) -> Result<(), Fail> {
-    let geometry = geometry_of(&rt, rt.alloc(), &NUMBERS_OF_TWO);
+    let geometry = geometry_of(rt.alloc(), &NUMBERS_OF_TWO).expect(&rt, "numbers in range");
     expect(&rt, blocks(&geometry), 1074);
     let image = image_of_two(rt.alloc())?;
     expect(&rt, image.len(), 68_736);
@@ -322,7 +308,7 @@ static NOT_OF_TWO: [(u64, u64, usize, BadImage); 5] = [
 
 #[test]
 fn no_image_of_two_harts_is_of_version_1(rt: HostRuntime) -> Result<(), Fail> {
-    let geometry = geometry_of(&rt, rt.alloc(), &NUMBERS_OF_TWO);
+    let geometry = geometry_of(rt.alloc(), &NUMBERS_OF_TWO).expect(&rt, "numbers in range");
     for (row, (version, name, bytes, bad)) in NOT_OF_TWO.iter().enumerate() {
         let mut image = image_of_two(rt.alloc())?;
         put(image.as_mut_slice(), 1, *version);

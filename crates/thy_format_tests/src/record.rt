@@ -2,13 +2,13 @@
 ghost use Rattle.std.specs.Prelude.{◌≡◌, length};
 
 use crate::support::expect::{expect, expect_at};
-use crate::support::geometry::geometry_of;
 use std::alloc::Global;
 use std::process::Abort;
 use thy_base::{Block, Geometry, Parameters, SchemeName, word};
 use thy_isa::{CpuState, OtherHart, Reg, Regs, Reservation, Status};
 use thy_layout::{BadImage, commit_block, commit_fault, cpu_block, cpu_in, is_zero};
 use thy_record::{header_block, header_fault};
+use thy_test_support::geometry_of;
 
 /// Numbers of a machine with 256 pages, one of them the console's.
 static NUMBERS: Parameters = Parameters {
@@ -31,7 +31,7 @@ static NUMBERS: Parameters = Parameters {
 };
 
 fn geometry(rt: &impl Abort, alloc: Global) -> Geometry {
-    geometry_of(rt, alloc, &NUMBERS)
+    geometry_of(alloc, &NUMBERS).expect(rt, "numbers in range")
 }
 
 /// A block with another word `i`.

@@ -9,7 +9,8 @@ use Rattle.thy_isa.specs.declared.state.Status.{Status}
 use Rattle.thy_isa.specs.Step.{State as Plain}
 use Rattle.thy_layout.specs.Cpu.{status_tag, status_value, is_status, IsOtherRecordable}
 use Rattle.thy_checkpoint.specs.Start.{CanStart}
-use Rattle.thy_machine_tests.specs.Least.{HasRoom, IsLeastStart}
+use Rattle.thy_machine_tests.specs.Least.{HasRoom}
+use Rattle.thy_test_support.specs.Starts.{IsLeastStart}
 
 -- the start of a test fits the least memory, and can be recorded
 pub CanStart-least : (p : Parameters) (s : Plain) → IsInRange p → p.pages ≡ 8 → p.console ≡ 1 → p.harts ≡ 1 → IsLeastStart s → CanStart p s

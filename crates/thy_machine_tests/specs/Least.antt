@@ -1,29 +1,14 @@
--- What tests of a scheme's parts begin with: the least memory, a start of it, and what a loss of power leaves.
-use Rattle.std.specs.Prelude.{◌≡◌, ℕ, ◌+◌, ◌≤◌, Bool, true, false, length, replicate, None}
+-- What tests of a scheme's parts begin with: the least memory, and what a loss of power leaves.
+use Rattle.std.specs.Prelude.{◌≡◌, ℕ, ◌+◌, ◌≤◌, Bool, true, false, length}
 use Rattle.thy_block.specs.declared.parameters.Parameters.{Parameters}
 use Rattle.thy_block.specs.Device.{Device}
 use Rattle.thy_dram.specs.Contents.{Contents}
-use Rattle.thy_isa.specs.declared.state.Status.TheVariants.{Running}
-use Rattle.thy_isa.specs.Step.{State}
 use Rattle.thy_view.specs.declared.boot_step.BootStep.{BootStep}
 use Rattle.thy_view.specs.declared.boot_step.BootStep.TheVariants.{GoesOn}
 
 -- how many blocks the least memory has
 abbrev pub all : ℕ
 all = 512
-
--- a start of the least memory, whose registers are zero
-pub record IsLeastStart (s : State) : Type 0 where
-  pub regs : s.regs ≡ replicate 32 0
-  pub memory : length s.memory ≡ 28672
-  pub console : length s.console ≡ 70
-  pub pc : s.pc ≡ 65540
-  pub cursor : s.cursor ≡ 3
-  pub brk : s.brk ≡ 65600
-  pub floor : s.floor ≡ 65600
-  pub count : s.count ≡ 5
-  pub status : s.status ≡ Running
-  pub alone : s.other ≡ None
 
 -- the NVM has room for this many cuts
 abbrev pub HasRoom : Device → ℕ → Type 0

@@ -1,37 +1,22 @@
 //! Plain lists of blocks, one for each version of memory: beside them random calls are made of what a scheme has for a
 //! table, of its engine and of its boot, through cuts of power.
-ghost use Rattle.std.specs.Prelude.{◌≡◌, ◌<◌, length};
+ghost use Rattle.std.specs.Prelude.{◌≡◌, ◌<◌};
+ghost use Rattle.thy_block.specs.Geometry.{IsInRange};
 ghost use Rattle.thy_isa.specs.Step.{state_of};
-ghost use Rattle.thy_machine_tests.specs.Least.{IsLeastStart};
+ghost use Rattle.thy_test_support.specs.Starts.{IsLeastStart};
 
 use crate::support::expect::{expect, expect_at};
 use std::alloc::Global;
 use std::process::Abort;
-use thy_base::{Block, Bytes, Lcg, Parameters, SchemeName};
-use thy_isa::{CpuState, MachState, Regs, Status};
+use thy_base::{Block, Geometry, Lcg, Parameters, SchemeName};
+use thy_isa::{CpuState, Regs, Status};
 use thy_layout::{EngineStep, Start};
+use thy_test_support::{LEAST, cpu_at, start_over};
 use thy_view::BootStep;
 
 /// The least memory, of 512 blocks in eight pages, with the least table and the least frames of a scheme.
 pub(crate) fn least(scheme: SchemeName) -> Parameters {
-    Parameters {
-        base: 65536,
-        pages: 8,
-        console: 1,
-        epoch: 1,
-        btt: 8,
-        ptt: 8,
-        sets: 1,
-        ways: 1,
-        nvmq: 4,
-        dramq: 4,
-        high: 22,
-        low: 16,
-        mix: 0,
-        limit: 1,
-        scheme,
-        harts: 1,
-    }
+    Parameters { scheme, ..LEAST }
 }
 
 /// A start whose memory is full of sevens, and whose console has 70 exclamation marks.
@@ -39,24 +24,20 @@ pub(crate) fn start_of(rt: &impl Abort, alloc: Global) -> Start
     ensures { IsLeastStart (state_of result.state) }
 {
     let memory = vec![in alloc; 7u8; 28672].expect(rt, "memory");
-    let console = vec![in alloc; 33u8; 70].expect(rt, "memory");
-    let state = MachState {
-        pc: 65540,
-        regs: Regs::new(),
-        memory: Bytes::from_vec(memory),
-        console: Bytes::from_vec(console),
-        cursor: 3,
-        brk: 65600,
-        floor: 65600,
-        count: 5,
-        status: Status::Running,
-        other: None,
-    };
-    Start {
-        state,
-        kept: None,
-        input: Bytes::new(alloc),
-    }
+    start_over(alloc, memory).expect(rt, "memory")
+}
+
+/// Stops the test unless a geometry is of seven pages of a program, one of the console, and one hart.
+pub(crate) fn has_least_memory(rt: &impl Abort, geometry: &Geometry)
+    ensures pages { geometry.now.pages ≡ 8 }
+    ensures console { geometry.now.console ≡ 1 }
+    ensures harts { geometry.now.harts ≡ 1 }
+    ensures in_range { IsInRange geometry.now }
+{
+    let numbers = geometry.numbers();
+    assert!(rt; numbers.pages == 8);
+    assert!(rt; numbers.console == 1);
+    assert!(rt; numbers.harts == 1);
 }
 
 /// Block `b` of memory as the start has it, with the console in the last page.
@@ -91,32 +72,6 @@ fn processor() -> CpuState {
 /// How many instructions the processor has retired that is sealed with an epoch.
 pub(crate) fn count_of(epoch: u64) -> u64 {
     epoch.saturating_mul(100)
-}
-
-/// A processor that retired `count` instructions.
-pub(crate) fn cpu_at(count: u64) -> CpuState
-    ensures { length result.regs ≡ 32 }
-{
-    CpuState {
-        pc: 0,
-        regs: Regs::new(),
-        console_len: 0,
-        cursor: 0,
-        brk: 0,
-        floor: 0,
-        count,
-        status: Status::Running,
-        other: None,
-    }
-}
-
-/// A block of drawn bytes.
-pub(crate) fn drawn(lcg: &mut Lcg) -> Block {
-    let mut block = Block::ZERO;
-    for byte in block.0.iter_mut() {
-        *byte = (lcg.next() % 256) as u8;
-    }
-    block
 }
 
 /// A block's number: mostly one of twelve, or any.

@@ -7,23 +7,24 @@ ghost use Rattle.thy_view.specs.Origin.{IsOrigin};
 ghost use Rattle.thy_view.specs.Kind.{IsDramOf};
 ghost use Rattle.thy_machine_tests.specs.Powered.{origin_from};
 
+mod by_scheme;
 mod journal;
 mod shadow;
 mod waiting;
 
 use crate::support::expect::{expect, expect_at};
-use crate::support::geometry::geometry_of;
-use crate::support::starts::{image_of, start_with};
+use crate::support::starts::start_with;
 use std::alloc::Global;
 use std::marker::Model;
 use std::process::Abort;
-use thy_base::{Bytes, EndCause, Geometry, Lcg, Mark, Mix, Nvm, Parameters, SchemeName, Shape};
+use thy_base::{Bytes, EndCause, Geometry, Lcg, Mark, Mix, Nvm, Parameters, Shape};
 use thy_core::Machine;
 use thy_dram::Dram;
-use thy_isa::{CpuState, MachState, Status};
+use thy_isa::{MachState, Status};
 use thy_layout::{EngineStep, Start};
 use thy_nvm::MemNvm;
 use thy_plain::{Plain, recall_are_bytes, start_of};
+use thy_test_support::{FOUR_INSTRUCTIONS, SMALLEST, cpu_of, geometry_of, image_of};
 use thy_thynvm::Thynvm;
 use thy_view::{Computer, Did, Stepped};
 
@@ -45,7 +46,7 @@ struct Row {
 /// `addi a0,zero,5; addi a0,a0,1; addi a7,zero,93; ecall`, in epochs of one instruction. While the checkpoint of one is
 /// written the next instruction is executed.
 static EPOCH_OF_ONE: Row = Row {
-    words: &[0x00500513, 0x00150513, 0x05d00893, 0x00000073],
+    words: FOUR_INSTRUCTIONS,
     epoch: 1,
     cache: (16, 4),
     ends: &[
@@ -61,10 +62,7 @@ static EPOCH_OF_ONE: Row = Row {
 /// `sd zero,-64*k(sp)` for k from 0 to 8, `addi a7,zero,93; ecall`: it stores into nine blocks, and the block table has
 /// eight entries. They are free again once two checkpoints were committed.
 static NINE_STORES: Row = Row {
-    words: &[
-        0x00013023, 0xfc013023, 0xf8013023, 0xf4013023, 0xf0013023, 0xec013023, 0xe8013023,
-        0xe4013023, 0xe0013023, 0x05d00893, 0x00000073,
-    ],
+    words: thy_test_support::NINE_STORES,
     epoch: 10000,
     cache: (16, 4),
     ends: &[
@@ -101,22 +99,12 @@ fn numbers_of(row: &Row, mix: u64) -> Parameters
 {
     let (sets, ways) = row.cache;
     Parameters {
-        base: 65536,
-        pages: 8,
-        console: 1,
         epoch: row.epoch,
-        btt: 8,
-        ptt: 8,
         sets,
         ways,
-        nvmq: 16,
-        dramq: 16,
-        high: 22,
-        low: 16,
         mix,
         limit: 1_000_000_000,
-        scheme: SchemeName::Thynvm,
-        harts: 1,
+        ..SMALLEST
     }
 }
 
@@ -130,8 +118,9 @@ fn start_for(rt: &impl Abort, alloc: Global, geometry: &Geometry, words: &[u32])
     let _numbers = geometry.numbers();
     let input = Bytes::new(alloc);
     recall_are_bytes(input.as_slice());
+    let image = image_of(alloc, words).expect(rt, "memory");
     Start {
-        state: start_of(alloc, image_of(rt, alloc, words), geometry),
+        state: start_of(alloc, image, geometry),
         kept: None,
         input,
     }
@@ -187,7 +176,7 @@ impl<M: Computer> Powered<M> {
     /// A machine that was never on, at the start of a row's program, with the schedule of a seed and at most `cuts`
     /// cuts to come.
     fn lasting(rt: &impl Abort, alloc: Global, row: &Row, seed: u64, cuts: u64) -> Powered<M> {
-        let geometry = geometry_of(rt, alloc, &numbers_of(row, seed));
+        let geometry = geometry_of(alloc, &numbers_of(row, seed)).expect(rt, "numbers in range");
         let start = start_for(rt, alloc, &geometry, row.words);
         let shape = Shape {
             blocks: M::nvm_blocks(&geometry),
@@ -403,21 +392,6 @@ fn plain_machines(rt: &impl Abort, alloc: Global, row: &Row) -> Vec<Plain> {
         }
     }
     panic!(rt; "no end")
-}
-
-/// A state without its memory.
-fn cpu_of(state: &MachState) -> CpuState {
-    CpuState {
-        pc: state.pc,
-        regs: state.regs,
-        console_len: state.console.len() as u64,
-        cursor: state.cursor,
-        brk: state.brk,
-        floor: state.floor,
-        count: state.count,
-        status: state.status,
-        other: state.other,
-    }
 }
 
 /// Compares the state that a machine executes with the plain machine's at a count.

@@ -8,54 +8,19 @@ mod misaligned;
 mod programs;
 mod two_harts;
 
-use programs::{hold, shelf};
+use programs::shelf;
 use std::alloc::Global;
 use std::process::Abort;
 use thy_cli::{Answer, thynvm};
 use thy_nvm::MemNvm;
-use thy_out::{MemShelf, MemSink};
-
-/// What a call gave.
-#[derive(Drop)]
-struct Given {
-    status: u8,
-    cycles: u64,
-    /// What the terminal took.
-    printed: Vec<u8>,
-    report: Vec<u8>,
-}
-
-/// The arguments of a line, which separates them by spaces.
-fn arguments_of(rt: &impl Abort, alloc: Global, line: &str) -> Vec<String> {
-    let mut arguments = Vec::new(alloc);
-    for argument in line.split(' ') {
-        push(rt, alloc, &mut arguments, argument);
-    }
-    arguments
-}
-
-/// Adds an argument.
-fn push(rt: &impl Abort, alloc: Global, arguments: &mut Vec<String>, argument: &str) {
-    let argument = String::from_str(alloc, argument).expect(rt, "memory");
-    arguments.push(argument).expect(rt, "memory");
-}
-
-/// A terminal or a report that fails at these calls.
-fn sink(rt: &impl Abort, alloc: Global, failing: &[u64]) -> MemSink {
-    let failing = Vec::from_slice(alloc, failing).expect(rt, "memory");
-    MemSink::new(alloc, 65_536, failing).expect(rt, "memory")
-}
-
-/// What a sink has taken.
-fn taken(rt: &impl Abort, alloc: Global, sink: &MemSink) -> Vec<u8> {
-    Vec::from_slice(alloc, sink.taken()).expect(rt, "memory")
-}
+use thy_out::MemShelf;
+use thy_test_support::{Given, arguments_of, hold, sink};
 
 /// What the call returns that a line asks for over this shelf and a new device.
 fn answered(rt: &impl Abort, alloc: Global, line: &str, shelf: &mut MemShelf) -> Answer {
-    let arguments = arguments_of(rt, alloc, line);
-    let mut terminal = sink(rt, alloc, &[]);
-    let mut report = sink(rt, alloc, &[]);
+    let arguments = arguments_of(alloc, line).expect(rt, "memory");
+    let mut terminal = sink(alloc, &[]).expect(rt, "memory");
+    let mut report = sink(alloc, &[]).expect(rt, "memory");
     let mut nvm = MemNvm::new(alloc);
     thynvm(
         alloc,
@@ -78,16 +43,11 @@ fn called_over(
     unreported: &[u64],
     nvm: &mut MemNvm,
 ) -> Given {
-    let arguments = arguments_of(rt, alloc, line);
-    let mut terminal = sink(rt, alloc, unseen);
-    let mut report = sink(rt, alloc, unreported);
+    let arguments = arguments_of(alloc, line).expect(rt, "memory");
+    let mut terminal = sink(alloc, unseen).expect(rt, "memory");
+    let mut report = sink(alloc, unreported).expect(rt, "memory");
     let answer = thynvm(alloc, &arguments, shelf, &mut terminal, &mut report, nvm);
-    Given {
-        status: answer.status,
-        cycles: answer.cycles,
-        printed: taken(rt, alloc, &terminal),
-        report: taken(rt, alloc, &report),
-    }
+    Given::of(alloc, answer.status, answer.cycles, &terminal, &report).expect(rt, "memory")
 }
 
 /// Calls with the arguments of a line over this shelf.
@@ -126,9 +86,7 @@ fn check(rt: &impl Abort, holds: bool, at: &str) {
 
 /// Compares what a call gave with a status, what the terminal takes, and a report.
 fn compare(rt: &impl Abort, at: &str, given: &Given, status: u8, printed: &str, report: &str) {
-    let is_shown = given.printed.as_slice() == printed.as_bytes();
-    let is_reported = given.report.as_slice() == report.as_bytes();
-    check(rt, given.status == status && is_shown && is_reported, at);
+    check(rt, given.shows(status, printed, report), at);
 }
 
 /// Calls over this shelf and compares status and report; nothing is printed.
@@ -242,7 +200,7 @@ fn each_refusal_has_its_line(rt: HostRuntime) {
 fn long_shelf(rt: &impl Abort, alloc: Global) -> MemShelf {
     let mut files = Vec::new(alloc);
     let file = Vec::from_elem(alloc, 0u8, 67_108_865).expect(rt, "memory");
-    hold(rt, alloc, &mut files, "F", file);
+    hold(alloc, &mut files, "F", file).expect(rt, "memory");
     MemShelf::new(files, Vec::new(alloc))
 }
 
@@ -352,14 +310,6 @@ fn a_program_that_modifies_itself_over_an_epochs_end_exits_with_9(rt: HostRuntim
          exit 9 at 8\n";
     for line in &MODIFYING {
         expect_reported(&rt, alloc, line, report);
-    }
-}
-
-/// Whether a text has a piece in it.
-fn has(text: &[u8], piece: &str) -> bool {
-    match std::str::from_utf8(text) {
-        Ok(text) => text.contains(piece),
-        Err(_) => false,
     }
 }
 

@@ -5,14 +5,14 @@ ghost use Rattle.thy_hart.specs.Moments.{moment, IsReady};
 
 use crate::plain::{smallest, start_with};
 use crate::support::expect::{expect, expect_at};
-use crate::support::greet::GREET;
 use std::alloc::Global;
 use std::process::Abort;
 use thy_base::{Block, BlockStore, EndCause, NvmError, Stored};
 use thy_cache::Cache;
 use thy_hart::{Hart, HartStep, a_hart_is_ready_with_no_page_open};
-use thy_isa::{CpuState, MachState, Status};
+use thy_isa::Status;
 use thy_plain::Plain;
+use thy_test_support::{GREET, cpu_of};
 
 /// How many blocks of memory the smallest machine has, and how many of these are program memory.
 const BLOCKS: usize = 512;
@@ -88,21 +88,6 @@ fn fill(blocks: &mut [Block], bytes: &[u8]) {
         if i < bytes.len() / 64 {
             blocks[i].put(0, &bytes[64 * i..64 * i + 64]);
         }
-    }
-}
-
-/// The processor of a state.
-fn cpu_of(state: &MachState) -> CpuState {
-    CpuState {
-        pc: state.pc,
-        regs: state.regs,
-        console_len: state.console.len() as u64,
-        cursor: state.cursor,
-        brk: state.brk,
-        floor: state.floor,
-        count: state.count,
-        status: state.status,
-        other: state.other,
     }
 }
 

@@ -4,39 +4,25 @@ ghost use Rattle.thy_block.specs.Bytes.{bytes_of};
 ghost use Rattle.thy_block.specs.Geometry.{program_size};
 
 use crate::support::expect::{expect, expect_at};
-use crate::support::geometry::geometry_of;
 use std::alloc::Global;
 use std::process::Abort;
-use thy_base::{Bytes, Geometry, Lcg, Parameters, SchemeName};
+use thy_base::{Bytes, Geometry, Lcg, Parameters};
 use thy_elf::read;
 use thy_isa::{Status, word};
 use thy_make::file;
 use thy_plain::Plain;
+use thy_test_support::{SMALLEST, geometry_of};
 
 /// The fewest pages that are enough for every made program: 192 of program memory, and one of console.
 static ENOUGH: Parameters = Parameters {
-    base: 65536,
     pages: 193,
-    console: 1,
-    epoch: 10000,
-    btt: 8,
-    ptt: 8,
-    sets: 16,
-    ways: 4,
-    nvmq: 16,
-    dramq: 16,
-    high: 22,
-    low: 16,
-    mix: 0,
-    limit: 1000,
-    scheme: SchemeName::Thynvm,
-    harts: 1,
+    ..SMALLEST
 };
 
 fn enough(rt: &impl Abort, alloc: Global) -> Geometry
     ensures { program_size result ≡ 786432 }
 {
-    geometry_of(rt, alloc, &ENOUGH)
+    geometry_of(alloc, &ENOUGH).expect(rt, "numbers in range")
 }
 
 /// Word k of the program in a file, after 120 bytes of headers.

@@ -8,18 +8,20 @@ use thy_base::{Block, Nvm, Shape};
 use thy_nvm::{MemNvm, Overlay, Spare};
 use thy_sweep::{Choices, the_images_of_a_cut_are_numbered};
 
+/// A device of three blocks.
+const THREE: Shape = Shape {
+    blocks: 3,
+    queue: 4,
+    cuts: 0,
+};
+
 // The first draws of the seed 7 are 1059165278 and 2052263231: modulo the three blocks of place
 // 0 the newest write, and modulo the two of place 2 the only one.
 #[test]
 fn a_pick_leaves_its_image(rt: HostRuntime) {
-    let shape = Shape {
-        blocks: 3,
-        queue: 4,
-        cuts: 0,
-    };
     let mut nvm = MemNvm::new(rt.alloc());
     let start = Vec::from_slice(rt.alloc(), &[Block([1; 64])]).expect(&rt, "memory");
-    nvm.fit(rt.alloc(), &shape, start).expect(&rt, "memory");
+    nvm.fit(rt.alloc(), &THREE, start).expect(&rt, "memory");
     nvm.write(2, &Block([5; 64])).expect(&rt, "a write");
     nvm.write(0, &Block([2; 64])).expect(&rt, "a write");
     nvm.write(0, &Block([3; 64])).expect(&rt, "a write");
@@ -34,18 +36,13 @@ fn a_pick_leaves_its_image(rt: HostRuntime) {
 // The same draws. What is written to the copy is not in the device, nor in the next copy.
 #[test]
 fn a_copy_holds_what_a_pick_leaves(rt: HostRuntime) {
-    let shape = Shape {
-        blocks: 3,
-        queue: 4,
-        cuts: 0,
-    };
     let mut nvm = MemNvm::new(rt.alloc());
     let start = Vec::from_slice(rt.alloc(), &[Block([1; 64])]).expect(&rt, "memory");
-    nvm.fit(rt.alloc(), &shape, start).expect(&rt, "memory");
+    nvm.fit(rt.alloc(), &THREE, start).expect(&rt, "memory");
     nvm.write(2, &Block([5; 64])).expect(&rt, "a write");
     nvm.write(0, &Block([2; 64])).expect(&rt, "a write");
     nvm.write(0, &Block([3; 64])).expect(&rt, "a write");
-    let spare = Spare::new(rt.alloc(), &shape).expect(&rt, "memory");
+    let spare = Spare::new(rt.alloc(), &THREE).expect(&rt, "memory");
     let mut copy = Overlay::of(spare, &nvm, 7);
     expect(&rt, copy.queued(), 0);
     expect(&rt, copy.read(0).expect(&rt, "a read"), Block([3; 64]));
@@ -72,14 +69,9 @@ fn block_of_words(bytes: &[u8; 8]) -> Block {
 // two of place 2: 1, 0, 1, 1, 0, 0, 1, 0.
 #[test]
 fn a_pick_tears_blocks_word_by_word(rt: HostRuntime) {
-    let shape = Shape {
-        blocks: 3,
-        queue: 4,
-        cuts: 0,
-    };
     let mut nvm = MemNvm::tearing(rt.alloc());
     let start = Vec::from_slice(rt.alloc(), &[Block([1; 64])]).expect(&rt, "memory");
-    nvm.fit(rt.alloc(), &shape, start).expect(&rt, "memory");
+    nvm.fit(rt.alloc(), &THREE, start).expect(&rt, "memory");
     expect(&rt, nvm.lands_whole(), false);
     nvm.write(2, &Block([5; 64])).expect(&rt, "a write");
     nvm.write(0, &Block([2; 64])).expect(&rt, "a write");
@@ -102,14 +94,9 @@ fn a_pick_tears_blocks_word_by_word(rt: HostRuntime) {
 // repeats the zeros. So there are six images, and of the one with the number 3 each place has its second block.
 #[test]
 fn an_image_of_a_cut_has_a_number(rt: HostRuntime) {
-    let shape = Shape {
-        blocks: 3,
-        queue: 4,
-        cuts: 0,
-    };
     let mut nvm = MemNvm::new(rt.alloc());
     let start = Vec::from_slice(rt.alloc(), &[Block([1; 64])]).expect(&rt, "memory");
-    nvm.fit(rt.alloc(), &shape, start).expect(&rt, "memory");
+    nvm.fit(rt.alloc(), &THREE, start).expect(&rt, "memory");
     nvm.write(2, &Block([5; 64])).expect(&rt, "a write");
     nvm.write(0, &Block([2; 64])).expect(&rt, "a write");
     nvm.write(2, &Block::ZERO).expect(&rt, "a write");
@@ -117,7 +104,7 @@ fn an_image_of_a_cut_has_a_number(rt: HostRuntime) {
     let choices = Choices::of(rt.alloc(), &nvm).expect(&rt, "memory");
     let count = choices.count();
     assert_eq!(rt; count, 6);
-    let spare = Spare::new(rt.alloc(), &shape).expect(&rt, "memory");
+    let spare = Spare::new(rt.alloc(), &THREE).expect(&rt, "memory");
     let mut copy = Overlay::of(spare, &nvm, 0);
     the_images_of_a_cut_are_numbered();
     choices.choose(6, 3, &mut copy);
@@ -142,13 +129,8 @@ fn write_first<N: Nvm>(rt: &impl Abort, nvm: &mut N)
 #[test]
 #[tactic(auto, using(thy_block::proofs::LoanLemmas::same_loan, thy_block::proofs::LoanLemmas::framed_within))]
 fn what_is_written_through_a_loan_stands_in_the_device(rt: HostRuntime) {
-    let shape = Shape {
-        blocks: 3,
-        queue: 4,
-        cuts: 0,
-    };
     let mut nvm = MemNvm::new(rt.alloc());
-    nvm.fit(rt.alloc(), &shape, Vec::new(rt.alloc()))
+    nvm.fit(rt.alloc(), &THREE, Vec::new(rt.alloc()))
         .expect(&rt, "memory");
     let mut loan = &mut nvm;
     write_first(&rt, &mut loan);

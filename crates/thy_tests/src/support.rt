@@ -1,4 +1,2 @@
 //! What the tests of this crate share; no test stands here.
 pub(crate) mod expect;
-pub(crate) mod geometry;
-pub(crate) mod greet;

@@ -2,39 +2,25 @@
 ghost use Rattle.std.specs.Prelude.{◌≡◌, ◌<◌};
 ghost use Rattle.thy_block.specs.Geometry.{program_size};
 
-use crate::plain::{image_of, start_with};
+use crate::plain::start_with;
 use crate::support::expect::{expect, expect_at};
-use crate::support::geometry::geometry_of;
 use std::alloc::Global;
 use std::process::Abort;
-use thy_base::{Bytes, Geometry, Parameters, SchemeName};
+use thy_base::{Bytes, Geometry, Parameters};
 use thy_isa::{MachState, OtherHart, Reg, Reservation, Status};
 use thy_plain::Plain;
+use thy_test_support::{SMALLEST, geometry_of, image_of};
 
 /// The smallest machine, with two harts: program memory is from 65536 to 94208.
 static PAIR: Parameters = Parameters {
-    base: 65536,
-    pages: 8,
-    console: 1,
-    epoch: 10000,
-    btt: 8,
-    ptt: 8,
-    sets: 16,
-    ways: 4,
-    nvmq: 16,
-    dramq: 16,
-    high: 22,
-    low: 16,
-    mix: 0,
-    limit: 1000,
-    scheme: SchemeName::Thynvm,
     harts: 2,
+    ..SMALLEST
 };
 
 fn pair(rt: &impl Abort, alloc: Global) -> Geometry
     ensures { program_size result ≡ 28672 }
 {
-    geometry_of(rt, alloc, &PAIR)
+    geometry_of(alloc, &PAIR).expect(rt, "numbers in range")
 }
 
 /// A program of these words and this input, after these turns.
@@ -45,7 +31,7 @@ fn after_reading(
     turns: &[u8],
     input: &[u8],
 ) -> Plain {
-    let image = image_of(rt, alloc, words);
+    let image = image_of(alloc, words).expect(rt, "memory");
     let input = Bytes::from_vec(Vec::from_slice(alloc, input).expect(rt, "memory"));
     let mut plain = Plain::load(alloc, &image, &pair(rt, alloc), input).expect(rt, "memory");
     for hart in turns {

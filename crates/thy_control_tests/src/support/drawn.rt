@@ -6,15 +6,7 @@ use std::alloc::Global;
 use std::process::Abort;
 use thy_base::{Block, Geometry, Lcg};
 use thy_table::blocks;
-
-/// A block of drawn bytes.
-pub(crate) fn drawn(lcg: &mut Lcg) -> Block {
-    let mut block = Block::ZERO;
-    for byte in block.0.iter_mut() {
-        *byte = (lcg.next() % 256) as u8;
-    }
-    block
-}
+use thy_test_support::drawn;
 
 /// An image of drawn blocks.
 pub(crate) fn drawn_image(

@@ -6,7 +6,6 @@ ghost use Rattle.thy_thynvm_parts.specs.Design.{is_promoting};
 ghost use Rattle.thy_control_tests.specs.Driven.{Drives};
 ghost use Rattle.thy_control_tests.specs.Memory.{HasRoom};
 
-use crate::support::geometry::geometry_of;
 use crate::support::starting::Off;
 use std::alloc::Global;
 use std::marker::Model;
@@ -15,11 +14,11 @@ use thy_base::{Block, Geometry, Nvm, Parameters, Shape, Stored};
 use thy_checkpoint::Engine;
 use thy_control::Control;
 use thy_dram::Dram;
-use thy_isa::{CpuState, Regs, Status};
 use thy_layout::{EngineStep, Found};
 use thy_nvm::MemNvm;
 use thy_record::{check, header_block, state};
 use thy_table::blocks;
+use thy_test_support::{cpu_at, geometry_of};
 use thy_thynvm::ThynvmTables;
 use thy_thynvm_parts::engine_and_controller_fit;
 
@@ -45,23 +44,6 @@ impl Model for Memory {
 
 /// Epochs and counts are below this.
 const CEILING: u64 = 1 << 62;
-
-/// A processor that retired `count` instructions.
-pub(crate) fn cpu_at(count: u64) -> CpuState
-    ensures { length result.regs ≡ 32 }
-{
-    CpuState {
-        pc: 0,
-        regs: Regs::new(),
-        console_len: 0,
-        cursor: 0,
-        brk: 0,
-        floor: 0,
-        count,
-        status: Status::Running,
-        other: None,
-    }
-}
 
 /// Stops the test if a page is being promoted.
 fn is_whole(rt: &impl Abort, control: &Control)
@@ -102,7 +84,7 @@ impl Memory {
     pub(crate) fn power_on(rt: &impl Abort, alloc: Global, numbers: &Parameters) -> Memory
         requires least { numbers.now.pages ≡ 8 }
     {
-        let geometry = geometry_of(rt, alloc, numbers);
+        let geometry = geometry_of(alloc, numbers).expect(rt, "numbers in range");
         let nvm = with_header(rt, alloc, &geometry, 0);
         let dram = Dram::new(alloc, geometry.dram_blocks(), 4).expect(rt, "memory");
         let control = Control::new(alloc, &geometry, dram).expect(rt, "memory");

@@ -7,7 +7,8 @@ ghost use Rattle.thy_checkpoint.specs.Boot.{new_boot};
 ghost use Rattle.thy_control.specs.State.{new_state};
 ghost use Rattle.thy_isa.specs.Step.{state_of};
 ghost use Rattle.thy_thynvm_parts.specs.Filling.{filling_thynvm};
-ghost use Rattle.thy_control_tests.specs.Boots.{Boots, IsLeastStart, goes_on};
+ghost use Rattle.thy_control_tests.specs.Boots.{Boots, goes_on};
+ghost use Rattle.thy_test_support.specs.Starts.{IsLeastStart};
 ghost use Rattle.thy_control_tests.specs.Starting.{is_refused};
 
 use crate::support::memory::Memory;

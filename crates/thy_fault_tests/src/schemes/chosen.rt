@@ -1,10 +1,11 @@
 //! Cuts whose choices are a list: which words of the queued blocks have landed. What follows is worked out by hand.
 use crate::support::by_scheme::{JOURNAL, SHADOW, SMALL};
-use crate::support::calls::{Given, called_over, check, has};
+use crate::support::calls::{called_over, check};
 use crate::support::programs::shelf;
 use std::alloc::Global;
 use std::process::Abort;
 use thy_nvm::{Choices, ChosenNvm};
+use thy_test_support::{Given, has};
 
 /// A scheme, and the cycles in which the program that exits with 7 writes the commit blocks of epochs 0 and 1. Nothing else is
 /// queued then.

@@ -1,8 +1,9 @@
 //! Runs whose power is cut.
 use crate::support::by_scheme::{Row, SMALL, expect_by_each};
-use crate::support::calls::{Given, check, has, ran};
+use crate::support::calls::{check, ran};
 use std::alloc::Global;
 use std::process::Abort;
+use thy_test_support::has;
 
 /// Cuts of the program that exits with 7, with the report: at the write of the checkpoint's commit block, and after the
 /// drain by which it lands.
@@ -87,13 +88,6 @@ pub(crate) static EXHAUSTS_BY_TWO: Case = Case {
     last: "\nexit 0 at 7\n",
 };
 
-/// Whether a run exited as the case says.
-fn ends_so(given: &Given, case: &Case) -> bool {
-    given.status == 0
-        && given.printed.as_slice() == case.printed.as_bytes()
-        && given.report.as_slice().ends_with(case.last.as_bytes())
-}
-
 /// How many cycles a program takes without a cut.
 fn whole(rt: &impl Abort, alloc: Global, scheme: &str, case: &Case) -> u64 {
     let run = case.run;
@@ -101,7 +95,7 @@ fn whole(rt: &impl Abort, alloc: Global, scheme: &str, case: &Case) -> u64 {
     let given = ran(rt, alloc, line.as_str());
     check(
         rt,
-        given.cycles > 700 && ends_so(&given, case),
+        given.cycles > 700 && given.exits(case.printed, case.last),
         line.as_str(),
     );
     given.cycles
@@ -124,7 +118,11 @@ fn cut_at(
     let lines = format!(in alloc; "cut 1 at cycle {cycle}\n{after}").expect(rt, "memory");
     let given = ran(rt, alloc, line.as_str());
     let goes_on = has(&given.report, lines.as_str());
-    check(rt, goes_on && ends_so(&given, case), line.as_str());
+    check(
+        rt,
+        goes_on && given.exits(case.printed, case.last),
+        line.as_str(),
+    );
 }
 
 /// A cut at each cycle before the end, with one pick: it falls, and the run ends alike.
@@ -156,7 +154,7 @@ fn cut_again(
         "thynvm run {run} {SMALL} {scheme} --cuts {cycle},{second} --tears {tears}"
     ).expect(rt, "memory");
     let given = ran(rt, alloc, line.as_str());
-    check(rt, ends_so(&given, case), line.as_str());
+    check(rt, given.exits(case.printed, case.last), line.as_str());
 }
 
 /// A second cut, `behind` cycles after a first one that falls once the start is committed: the run ends alike.

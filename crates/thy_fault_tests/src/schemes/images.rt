@@ -1,11 +1,12 @@
 //! Saved images, and refusals of them.
 use crate::support::by_scheme::{JOURNAL, Row, SHADOW, expect_row, line_of};
 use crate::support::calls::{called, check, expect_on, held};
-use crate::support::programs::{patched, shelf};
+use crate::support::programs::shelf;
 use std::alloc::Global;
 use std::process::Abort;
 use thy_base::Shelf;
 use thy_out::MemShelf;
+use thy_test_support::patched;
 
 /// Nine stores that are run and saved: by this scheme under W, by the scheme thynvm under U.
 static SAVES: Row = (
@@ -138,7 +139,7 @@ pub(crate) fn expect_patched(
     patch: &Patch,
 ) {
     let (at, bytes, report) = *patch;
-    let other = patched(rt, alloc, image, at, bytes);
+    let other = patched(alloc, image, at, bytes).expect(rt, "memory");
     expect_refusal(rt, alloc, shelf, line, other.as_slice(), report);
 }
 

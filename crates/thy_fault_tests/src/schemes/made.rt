@@ -1,9 +1,10 @@
 //! Runs of made programs.
 use crate::support::by_scheme::{JOURNAL, SCHEMES, SHADOW, line_of};
-use crate::support::calls::{Given, called, check, expect_on};
+use crate::support::calls::{called, check, expect_on};
 use std::alloc::Global;
 use std::process::Abort;
 use thy_out::MemShelf;
+use thy_test_support::Given;
 
 /// A shelf with nothing on it.
 fn empty(alloc: Global) -> MemShelf {

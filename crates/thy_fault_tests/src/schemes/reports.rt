@@ -1,10 +1,10 @@
 //! Runs without power cuts.
 use crate::support::by_scheme::{Row, SCHEMES, expect_by_each, expect_rows, line_of};
 use crate::support::calls::{check, compare, expect, expect_on, ran};
-use crate::support::programs::hold;
 use std::alloc::Global;
 use std::process::Abort;
 use thy_out::MemShelf;
+use thy_test_support::hold;
 
 /// Runs of the program that exits with 7, by what follows the scheme's word, with status, cycles and report. The hart waits
 /// for each checkpoint, so nothing overlaps.
@@ -195,7 +195,7 @@ static NOT_FETCHED: [Row; 1] = [("thynvm run F --scheme", "", 3, "fetch F failed
 fn expect_too_long(rt: &impl Abort, alloc: Global, scheme: &str) {
     let mut files = Vec::new(alloc);
     let long = Vec::from_elem(alloc, 0u8, 67_108_865).expect(rt, "memory");
-    hold(rt, alloc, &mut files, "F", long);
+    hold(alloc, &mut files, "F", long).expect(rt, "memory");
     let mut shelf = MemShelf::new(files, Vec::new(alloc));
     let line = line_of(rt, alloc, "thynvm run F --scheme", scheme, "");
     expect_on(

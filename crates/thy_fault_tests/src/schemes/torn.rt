@@ -2,11 +2,12 @@
 //! that tears.
 use crate::support::by_scheme::{JOURNAL, SHADOW, SMALL, line_of};
 use crate::support::calls::{called, called_over, check, held};
-use crate::support::programs::{patched, shelf};
+use crate::support::programs::shelf;
 use std::alloc::Global;
 use std::process::Abort;
 use thy_base::Shelf;
 use thy_nvm::MemNvm;
+use thy_test_support::patched;
 
 /// All schemes, by their words.
 static ALL: [&str; 3] = ["thynvm", JOURNAL, SHADOW];
@@ -65,7 +66,7 @@ fn tear_at(
     let at = format!(in alloc; "{scheme}, block {block}, {words} words").expect(rt, "memory");
     let first = words_of(other.image.as_slice(), block, words);
     let image = one.image.as_slice();
-    let torn = patched(rt, alloc, image, block.saturating_mul(64), first);
+    let torn = patched(alloc, image, block.saturating_mul(64), first).expect(rt, "memory");
     let whole = words_of(other.image.as_slice(), block, 8);
     let is_others = words_of(torn.as_slice(), block, 8) == whole;
     let is_one_of_two = torn.as_slice() == image || is_others;

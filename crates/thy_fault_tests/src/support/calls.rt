@@ -5,43 +5,8 @@ use std::process::Abort;
 use thy_base::{Nvm, Shelf};
 use thy_cli::thynvm;
 use thy_nvm::MemNvm;
-use thy_out::{MemShelf, MemSink};
-
-/// What a call gave.
-#[derive(Drop)]
-pub(crate) struct Given {
-    pub(crate) status: u8,
-    pub(crate) cycles: u64,
-    /// What the terminal took.
-    pub(crate) printed: Vec<u8>,
-    pub(crate) report: Vec<u8>,
-}
-
-/// The arguments of a line, which separates them by spaces.
-fn arguments_of(rt: &impl Abort, alloc: Global, line: &str) -> Vec<String> {
-    let mut arguments = Vec::new(alloc);
-    for argument in line.split(' ') {
-        push(rt, alloc, &mut arguments, argument);
-    }
-    arguments
-}
-
-/// Adds an argument.
-fn push(rt: &impl Abort, alloc: Global, arguments: &mut Vec<String>, argument: &str) {
-    let argument = String::from_str(alloc, argument).expect(rt, "memory");
-    arguments.push(argument).expect(rt, "memory");
-}
-
-/// A terminal or a report that fails at these calls.
-fn sink(rt: &impl Abort, alloc: Global, failing: &[u64]) -> MemSink {
-    let failing = Vec::from_slice(alloc, failing).expect(rt, "memory");
-    MemSink::new(alloc, 65_536, failing).expect(rt, "memory")
-}
-
-/// What a sink has taken.
-fn taken(rt: &impl Abort, alloc: Global, sink: &MemSink) -> Vec<u8> {
-    Vec::from_slice(alloc, sink.taken()).expect(rt, "memory")
-}
+use thy_out::MemShelf;
+use thy_test_support::{Given, arguments_of, sink};
 
 /// Calls with the arguments of a line over any shelf, over this device, and over a terminal that fails at these calls.
 pub(crate) fn called_unseen<R: Abort, H: Shelf, N: Nvm>(
@@ -52,16 +17,11 @@ pub(crate) fn called_unseen<R: Abort, H: Shelf, N: Nvm>(
     nvm: &mut N,
     unseen: &[u64],
 ) -> Given {
-    let arguments = arguments_of(rt, alloc, line);
-    let mut terminal = sink(rt, alloc, unseen);
-    let mut report = sink(rt, alloc, &[]);
+    let arguments = arguments_of(alloc, line).expect(rt, "memory");
+    let mut terminal = sink(alloc, unseen).expect(rt, "memory");
+    let mut report = sink(alloc, &[]).expect(rt, "memory");
     let answer = thynvm(alloc, &arguments, shelf, &mut terminal, &mut report, nvm);
-    Given {
-        status: answer.status,
-        cycles: answer.cycles,
-        printed: taken(rt, alloc, &terminal),
-        report: taken(rt, alloc, &report),
-    }
+    Given::of(alloc, answer.status, answer.cycles, &terminal, &report).expect(rt, "memory")
 }
 
 /// Calls with the arguments of a line over any shelf and over this device.
@@ -99,9 +59,7 @@ pub(crate) fn compare(
     printed: &str,
     report: &str,
 ) {
-    let is_shown = given.printed.as_slice() == printed.as_bytes();
-    let is_reported = given.report.as_slice() == report.as_bytes();
-    check(rt, given.status == status && is_shown && is_reported, at);
+    check(rt, given.shows(status, printed, report), at);
 }
 
 /// Calls over this shelf and compares status and report; nothing is printed.
@@ -138,12 +96,4 @@ pub(crate) fn failing_at(rt: &impl Abort, alloc: Global, call: u64, is_late: boo
         MemNvm::failing(alloc, &[call])
     };
     nvm.expect(rt, "memory")
-}
-
-/// Whether a text has a piece in it.
-pub(crate) fn has(text: &[u8], piece: &str) -> bool {
-    match std::str::from_utf8(text) {
-        Ok(text) => text.contains(piece),
-        Err(_) => false,
-    }
 }

@@ -2,16 +2,16 @@
 //! here tests what it requires, and stops the test if that does not hold.
 ghost use Rattle.std.specs.Prelude.{◌≡◌, ◌<◌, ◌≤◌, true, false, length};
 ghost use Rattle.thy_block.specs.Device.{IsFramed};
-ghost use Rattle.thy_block.specs.Geometry.{IsInRange};
 ghost use Rattle.thy_block.specs.Places.{dram_blocks};
 ghost use Rattle.thy_checkpoint.specs.Boot.{new_boot};
 ghost use Rattle.thy_isa.specs.Step.{state_of};
 ghost use Rattle.thy_journal_parts.specs.State.{new_state};
 ghost use Rattle.thy_journal_parts.specs.Filling.{filling_journal};
-ghost use Rattle.thy_machine_tests.specs.Least.{IsLeastStart, goes_on};
+ghost use Rattle.thy_machine_tests.specs.Least.{goes_on};
+ghost use Rattle.thy_test_support.specs.Starts.{IsLeastStart};
 ghost use Rattle.thy_machine_tests.specs.LogParts.{Boots, IsBegun};
 
-use crate::beside::cpu_at;
+use crate::beside::has_least_memory;
 use std::alloc::Global;
 use std::marker::Model;
 use std::process::Abort;
@@ -23,6 +23,7 @@ use thy_journal_image::blocks;
 use thy_journal_parts::Log;
 use thy_layout::{EngineStep, Start};
 use thy_nvm::MemNvm;
+use thy_test_support::cpu_at;
 use thy_view::BootStep;
 
 /// Both devices while the power is off, and how many cuts are to come at most.
@@ -72,19 +73,6 @@ pub(crate) enum Booted {
     Over(Parts, BootStep),
     /// The power was cut before.
     Cut(Off),
-}
-
-/// Stops the test unless a geometry is of seven pages of a program, one of the console, and one hart.
-fn has_least_memory(rt: &impl Abort, geometry: &Geometry)
-    ensures pages { geometry.now.pages ≡ 8 }
-    ensures console { geometry.now.console ≡ 1 }
-    ensures harts { geometry.now.harts ≡ 1 }
-    ensures in_range { IsInRange geometry.now }
-{
-    let numbers = geometry.numbers();
-    assert!(rt; numbers.pages == 8);
-    assert!(rt; numbers.console == 1);
-    assert!(rt; numbers.harts == 1);
 }
 
 fn new_boot(rt: &impl Abort, alloc: Global, geometry: &Geometry) -> Boot

@@ -11,15 +11,12 @@ use thy_base::EndCause;
 use thy_core::Machine;
 use thy_isa::Status;
 use thy_layout::EngineStep;
+use thy_test_support::HELLO;
 use thy_view::Did;
 
-/// `auipc a1,0; addi a1,a1,32; addi a0,zero,1; addi a2,zero,3; addi a7,zero,64; ecall`, which prints three bytes;
-/// `addi a7,zero,93; ecall`; and the bytes, `Hi` and a line feed. It prints in its first epoch, and ends in its second.
+/// It prints in its first epoch, and ends in its second.
 pub(super) static TWO_EPOCHS: Row = Row {
-    words: &[
-        0x00000597, 0x02058593, 0x00100513, 0x00300613, 0x04000893, 0x00000073, 0x05d00893,
-        0x00000073, 0x000a6948,
-    ],
+    words: HELLO,
     epoch: 6,
     cache: (16, 4),
     ends: &[(6, EndCause::Length), (8, EndCause::Ended)],

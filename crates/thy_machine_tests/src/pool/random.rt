@@ -2,18 +2,18 @@
 //! gives is what the list of that version has.
 ghost use Rattle.std.specs.Prelude.{◌<◌};
 ghost use Rattle.thy_isa.specs.Step.{state_of};
-ghost use Rattle.thy_machine_tests.specs.Least.{IsLeastStart};
+ghost use Rattle.thy_test_support.specs.Starts.{IsLeastStart};
 
 use crate::beside::{
-    ALL, NOTHING, Seen, Versions, count_of, drawn, drawn_number, drawn_pick, least, start_of,
+    ALL, NOTHING, Seen, Versions, count_of, drawn_number, drawn_pick, least, start_of,
 };
 use crate::pool::parts::{Booted, Off, Parts};
 use crate::support::expect::expect;
-use crate::support::geometry::geometry_of;
 use std::alloc::Global;
 use std::process::Abort;
 use thy_base::{Block, Lcg, SchemeName};
 use thy_layout::{EngineStep, Start};
+use thy_test_support::{drawn, geometry_of};
 use thy_view::BootStep;
 
 /// How many frames there are.
@@ -196,7 +196,7 @@ fn compare_all(rt: &impl Abort, parts: &mut Parts, beside: &Beside) {
 /// Makes 600 drawn calls, or more where one draw makes a few, with some 30 cuts between them, and compares a block after each
 /// and all blocks after each cut.
 fn play(rt: &impl Abort, alloc: Global, seed: u64, moments: &mut Moments) {
-    let geometry = geometry_of(rt, alloc, &least(SchemeName::Shadow));
+    let geometry = geometry_of(alloc, &least(SchemeName::Shadow)).expect(rt, "numbers in range");
     let start = start_of(rt, alloc);
     let mut lcg = Lcg::new(seed);
     let mut beside = Beside {

@@ -2,10 +2,9 @@
 //!
 //! With eight pages and tables of eight entries, loading writes 512 homes, a slot, the header and the commit block. A slot
 //! has six blocks in the journal's layout and in that of shadow paging, and eight in thynvm's.
-use crate::runs::programs::{READ_INPUT, shelf, shelf_of};
+use crate::runs::programs::shelf;
 use crate::runs::{
-    Given, answered, called, called_over, check, compare, expect, expect_cycles, expect_on, has,
-    ran,
+    answered, called, called_over, check, compare, expect, expect_cycles, expect_on, ran,
 };
 use std::alloc::Global;
 use std::process::Abort;
@@ -14,6 +13,7 @@ use thy_cli::Answer;
 use thy_isa::{MachState, Status};
 use thy_nvm::MemNvm;
 use thy_out::{MemShelf, MemSink};
+use thy_test_support::{Given, READ_INPUT, has, shelf_of};
 use thy_text::{Event, write_ended};
 
 /// The lines of a program that ends in its first epoch and stores nothing: each checkpoint is a slot and a commit block.
@@ -325,7 +325,7 @@ fn exits_with_four(answer: &Answer) -> u64 {
 #[test]
 fn each_run_reads_the_same_input(rt: HostRuntime) {
     let alloc = rt.alloc();
-    let mut shelf = shelf_of(&rt, alloc, &[("R", READ_INPUT)], &[("A", b"abcd")]);
+    let mut shelf = shelf_of(alloc, &[("R", READ_INPUT)], &[("A", b"abcd")]).expect(&rt, "memory");
     let line = "thynvm compare R --input A --pages 8 --btt 8 --ptt 8";
     let answer = answered(&rt, alloc, line, &mut shelf);
     check(&rt, exits_with_four(&answer) == 3, line);

@@ -1,10 +1,10 @@
 //! Runs of programs that read their input and print.
-use crate::runs::programs::{GREET, HELLO, READ_INPUT, shelf_of};
-use crate::runs::{Given, called, called_over, check, compare, has};
+use crate::runs::{called, called_over, check, compare};
 use std::alloc::Global;
 use std::process::Abort;
 use thy_nvm::MemNvm;
 use thy_out::MemShelf;
+use thy_test_support::{GREET, Given, HELLO, READ_INPUT, has, shelf_of};
 
 /// What `greet` prints of the input `World`, also under `qemu-riscv64`.
 const GREETING: &str = "0 Hello, World!\n\
@@ -25,7 +25,7 @@ static INPUTS: [(&str, &[u8]); 3] = [("A", b"abcd"), ("N", b""), ("W", b"World\n
 
 /// A shelf with these.
 fn programs(rt: &impl Abort, alloc: Global) -> MemShelf {
-    shelf_of(rt, alloc, &PROGRAMS, &INPUTS)
+    shelf_of(alloc, &PROGRAMS, &INPUTS).expect(rt, "memory")
 }
 
 /// Calls over these programs.

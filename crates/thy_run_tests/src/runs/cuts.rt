@@ -1,7 +1,8 @@
 //! Runs whose power is cut.
-use crate::runs::{Given, check, expect, has, ran};
+use crate::runs::{check, expect, ran};
 use std::alloc::Global;
 use std::process::Abort;
+use thy_test_support::has;
 
 /// Runs of the program that exits with 7, with the report.
 static CUT_RUNS: [(&str, &str); 6] = [
@@ -101,13 +102,6 @@ static KEEPS_A_PAGE: Case = Case {
     last: "\nexit 0 at 20\n",
 };
 
-/// Whether a run exited as the case says.
-fn ends_so(given: &Given, case: &Case) -> bool {
-    given.status == 0
-        && given.printed.as_slice() == case.printed.as_bytes()
-        && given.report.as_slice().ends_with(case.last.as_bytes())
-}
-
 /// A cut after a cycle, which leaves what the pick says: it falls, the boot after it reports this, and the run ends alike.
 fn cut_at(rt: &impl Abort, alloc: Global, case: &Case, cycle: u64, tear: u64, after: &str) {
     let run = case.line;
@@ -115,13 +109,21 @@ fn cut_at(rt: &impl Abort, alloc: Global, case: &Case, cycle: u64, tear: u64, af
     let lines = format!(in alloc; "cut 1 at cycle {cycle}\n{after}").expect(rt, "memory");
     let given = ran(rt, alloc, line.as_str());
     let goes_on = has(&given.report, lines.as_str());
-    check(rt, goes_on && ends_so(&given, case), line.as_str());
+    check(
+        rt,
+        goes_on && given.exits(case.printed, case.last),
+        line.as_str(),
+    );
 }
 
 /// How many cycles a case takes without a cut.
 fn whole(rt: &impl Abort, alloc: Global, case: &Case) -> u64 {
     let given = ran(rt, alloc, case.line);
-    check(rt, given.cycles > 700 && ends_so(&given, case), case.line);
+    check(
+        rt,
+        given.cycles > 700 && given.exits(case.printed, case.last),
+        case.line,
+    );
     given.cycles
 }
 

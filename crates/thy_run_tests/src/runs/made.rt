@@ -1,8 +1,9 @@
 //! Programs that are made from a number, and runs of them.
-use crate::runs::{Given, called, called_unreported, check, compare, expect_on, has};
+use crate::runs::{called, called_unreported, check, compare, expect_on};
 use std::alloc::Global;
 use std::process::Abort;
 use thy_out::MemShelf;
+use thy_test_support::{Given, has};
 
 /// A shelf with nothing on it, which fails at these calls.
 fn empty(rt: &impl Abort, alloc: Global, failing: &[u64]) -> MemShelf {

@@ -1,11 +1,11 @@
 //! Loads and stores at any address: over the end of a block, and up to the end of memory.
 ghost use Rattle.std.specs.Prelude.{◌+◌, ◌≤◌};
 
-use crate::runs::programs::{file_of, shelf_of};
-use crate::runs::{Given, called, check, compare};
+use crate::runs::{called, check, compare};
 use sha2::{Digest, Sha256};
 use std::alloc::Global;
 use std::process::Abort;
+use thy_test_support::{Given, file_of, shelf_of};
 
 /// `addi a0,zero,-2; sd a0,-4(sp); lbu a0,0(sp); addi a7,zero,93; ecall`: a store over two blocks, and a load of a
 /// byte of the second.
@@ -55,7 +55,7 @@ fn ran(rt: &impl Abort, alloc: Global, line: &str, file: &[u8]) -> Given {
         rt,
         alloc,
         line,
-        &mut shelf_of(rt, alloc, &[], &[("F", file)]),
+        &mut shelf_of(alloc, &[], &[("F", file)]).expect(rt, "memory"),
     )
 }
 
@@ -74,7 +74,7 @@ fn expect_both(
     report: &str,
     plain: &str,
 ) {
-    let file = file_of(rt, alloc, words);
+    let file = file_of(alloc, words).expect(rt, "memory");
     let line = "thynvm run F --pages 8 --btt 8 --ptt 8";
     expect_of(rt, alloc, line, file.as_slice(), status, report);
     let line = "thynvm plain F --pages 8";
@@ -245,7 +245,7 @@ fn row_of(rt: &impl Abort, alloc: Global, access: &(u32, usize, Kind), at: usize
         (1, 9, "trap 5 at 9")
     };
     Row {
-        file: file_of(rt, alloc, &words),
+        file: file_of(alloc, &words).expect(rt, "memory"),
         status,
         count,
         end: end_of(rt, alloc, line, memory.as_slice()),
@@ -341,7 +341,7 @@ fn a_store_over_two_blocks_is_cut_anywhere(rt: HostRuntime) {
 #[test]
 fn stores_that_need_two_entries_are_cut_anywhere(rt: HostRuntime) {
     let alloc = rt.alloc();
-    let file = file_of(&rt, alloc, &FIVE_STORES);
+    let file = file_of(alloc, &FIVE_STORES).expect(&rt, "memory");
     let memory = memory_of(&rt, alloc, &FIVE_STORES);
     let end = end_of(&rt, alloc, "exit 0 at 7", memory.as_slice());
     cut_everywhere(&rt, alloc, file.as_slice(), end.as_str());

@@ -2,18 +2,17 @@
 ghost use Rattle.std.specs.Prelude.{◌≡◌};
 ghost use Rattle.thy_block.specs.Geometry.{program_size};
 
-use crate::runs::programs::{file_of, patched, shelf_of};
 use crate::runs::{answered, called, check, compare, expect_on};
 use crate::support::expect::expect_at;
-use crate::support::geometry::geometry_of;
 use std::alloc::Global;
 use std::process::Abort;
-use thy_base::{Bytes, Geometry, Parameters, SchemeName, Shelf};
+use thy_base::{Bytes, Geometry, Parameters, Shelf};
 use thy_cli::Answer;
 use thy_elf::read;
 use thy_isa::MachState;
 use thy_out::MemShelf;
 use thy_plain::Plain;
+use thy_test_support::{SMALLEST, file_of, geometry_of, patched, shelf_of};
 use thy_text::Event;
 
 /// Both harts add 1 to the word at 69632. Who comes second exits with 7; who came first waits in a loop of one word.
@@ -37,28 +36,14 @@ static LOCKS: [u32; 20] = [
 
 /// The smallest machine, with two harts.
 static PAIR: Parameters = Parameters {
-    base: 65536,
-    pages: 8,
-    console: 1,
-    epoch: 10000,
-    btt: 8,
-    ptt: 8,
-    sets: 16,
-    ways: 4,
-    nvmq: 16,
-    dramq: 16,
-    high: 22,
-    low: 16,
-    mix: 0,
-    limit: 1000,
-    scheme: SchemeName::Thynvm,
     harts: 2,
+    ..SMALLEST
 };
 
 fn pair(rt: &impl Abort, alloc: Global) -> Geometry
     ensures { program_size result ≡ 28672 }
 {
-    geometry_of(rt, alloc, &PAIR)
+    geometry_of(alloc, &PAIR).expect(rt, "numbers in range")
 }
 
 /// The plain machine of two harts with this program file, after these turns.
@@ -149,7 +134,7 @@ fn with_event(rt: &impl Abort, alloc: Global, turns: Turns, event: &Event) -> Tu
 
 /// A shelf with a file under the name H.
 fn shelf(rt: &impl Abort, alloc: Global, file: &[u8]) -> MemShelf {
-    shelf_of(rt, alloc, &[], &[("H", file)])
+    shelf_of(alloc, &[], &[("H", file)]).expect(rt, "memory")
 }
 
 /// Compares a state with the plain machine's after these turns.
@@ -224,7 +209,7 @@ fn expect_seed(rt: &impl Abort, alloc: Global, seed: usize, row: &(&str, u64, u6
     let line = format!(in alloc;
         "thynvm run H --pages 8 --btt 8 --ptt 8 --harts 2 --mix {seed}"
     ).expect(rt, "memory");
-    let file = file_of(rt, alloc, &SECOND_EXITS);
+    let file = file_of(alloc, &SECOND_EXITS).expect(rt, "memory");
     let answer = answered(
         rt,
         alloc,
@@ -280,7 +265,7 @@ fn expect_cut(rt: &impl Abort, alloc: Global, seed: usize, row: &(&str, u64, u64
          exit 7 at {sum}\n"
     )
     .expect(rt, "memory");
-    let file = file_of(rt, alloc, &SECOND_EXITS);
+    let file = file_of(alloc, &SECOND_EXITS).expect(rt, "memory");
     let given = called(
         rt,
         alloc,
@@ -319,7 +304,7 @@ fn expect_locks(rt: &impl Abort, alloc: Global, file: &[u8], options: &str, seed
 #[test]
 fn the_events_list_the_turns_of_the_plain_machine(rt: HostRuntime) {
     let alloc = rt.alloc();
-    let file = file_of(&rt, alloc, &LOCKS);
+    let file = file_of(alloc, &LOCKS).expect(&rt, "memory");
     for options in &OPTIONS {
         for seed in 0..5u64 {
             expect_locks(&rt, alloc, file.as_slice(), options, seed);
@@ -339,7 +324,7 @@ fn expect_cut_lock(rt: &impl Abort, alloc: Global, file: &[u8], cycle: u64) {
 #[test]
 fn a_lock_is_cut_at_each_cycle(rt: HostRuntime) {
     let alloc = rt.alloc();
-    let file = file_of(&rt, alloc, &LOCKS);
+    let file = file_of(alloc, &LOCKS).expect(&rt, "memory");
     for cycle in 530..800u64 {
         expect_cut_lock(&rt, alloc, file.as_slice(), cycle);
     }
@@ -356,7 +341,7 @@ fn expect_compared(rt: &impl Abort, alloc: Global, file: &[u8], seed: u64) {
 #[test]
 fn each_run_of_a_comparison_has_its_own_turns(rt: HostRuntime) {
     let alloc = rt.alloc();
-    let file = file_of(&rt, alloc, &LOCKS);
+    let file = file_of(alloc, &LOCKS).expect(&rt, "memory");
     for seed in 0..3u64 {
         expect_compared(&rt, alloc, file.as_slice(), seed);
     }
@@ -391,8 +376,8 @@ fn expect_patched(
     status: u8,
     report: &str,
 ) {
-    let image = patched(rt, alloc, image, at, &[byte]);
-    let mut shelf = shelf_of(rt, alloc, &[], &[("D", image.as_slice())]);
+    let image = patched(alloc, image, at, &[byte]).expect(rt, "memory");
+    let mut shelf = shelf_of(alloc, &[], &[("D", image.as_slice())]).expect(rt, "memory");
     let line = "thynvm resume D --pages 8 --btt 8 --ptt 8 --harts 2";
     expect_on(rt, alloc, line, &mut shelf, status, report);
 }
@@ -400,7 +385,7 @@ fn expect_patched(
 #[test]
 fn a_saved_run_of_two_harts_has_both_records(rt: HostRuntime) {
     let alloc = rt.alloc();
-    let file = file_of(&rt, alloc, &SECOND_EXITS);
+    let file = file_of(alloc, &SECOND_EXITS).expect(&rt, "memory");
     let mut shelf = shelf(&rt, alloc, file.as_slice());
     let line = "thynvm run H --pages 8 --btt 8 --ptt 8 --harts 2 --save D";
     called(&rt, alloc, line, &mut shelf);
@@ -429,12 +414,12 @@ static ADDRESSES: [u8; 64] = [
 /// The image of a run of this program that stops before its first seal, with the checkpoint of epoch 0, which then gets these
 /// addresses beside widths of 0.
 fn begun(rt: &impl Abort, alloc: Global, program: &[u32]) -> Vec<u8> {
-    let mut shelf = shelf_of(rt, alloc, &[("H", program)], &[]);
+    let mut shelf = shelf_of(alloc, &[("H", program)], &[]).expect(rt, "memory");
     let line = "thynvm run H --pages 8 --btt 8 --ptt 8 --harts 2 --limit 700 --save D";
     let given = called(rt, alloc, line, &mut shelf);
     check(rt, given.status == 8, line);
     let image = held(rt, alloc, &mut shelf);
-    patched(rt, alloc, image.as_slice(), RESERVED, &ADDRESSES)
+    patched(alloc, image.as_slice(), RESERVED, &ADDRESSES).expect(rt, "memory")
 }
 
 /// What is resumed from it ends with this status, and with the checkpoint of epoch 1, in slot 1, which begins at block 1061:
@@ -448,7 +433,7 @@ fn expect_resumed(
     reserved: &[u8],
 ) {
     let image = begun(rt, alloc, program);
-    let mut shelf = shelf_of(rt, alloc, &[], &[("D", image.as_slice())]);
+    let mut shelf = shelf_of(alloc, &[], &[("D", image.as_slice())]).expect(rt, "memory");
     let line = "thynvm resume D --pages 8 --btt 8 --ptt 8 --harts 2 --save D";
     let given = called(rt, alloc, line, &mut shelf);
     check(rt, given.status == status, line);

@@ -1,9 +1,9 @@
 //! How programs end with the journal that have no store, or none that is in doubt: as with any scheme of checkpoints.
 use crate::hostile::{expect_at_lengths, expect_fields, expect_file, expect_patched};
 use crate::support::by_scheme::{JOURNAL, Row, expect_rows};
-use crate::support::programs::{EXIT_SEVEN, file_of, patched};
 use std::alloc::Global;
 use std::process::Abort;
+use thy_test_support::{EXIT_SEVEN, file_of, patched};
 
 /// A run of F with the journal in the smallest memory.
 const RUN: &str = "thynvm run F --pages 8 --btt 8 --ptt 8 --scheme journal";
@@ -29,8 +29,8 @@ fn expect_of(rt: &impl Abort, alloc: Global, file: &[u8], status: u8, report: &s
 /// Runs the header of the program file alone, with no program header, which starts at this address.
 fn expect_header(rt: &impl Abort, alloc: Global, entry: u64, report: &str) {
     let header = EXIT_SEVEN.get(..64).unwrap_or(&[]);
-    let header = patched(rt, alloc, header, 24, &entry.to_le_bytes());
-    let header = patched(rt, alloc, header.as_slice(), 56, &[0, 0]);
+    let header = patched(alloc, header, 24, &entry.to_le_bytes()).expect(rt, "memory");
+    let header = patched(alloc, header.as_slice(), 56, &[0, 0]).expect(rt, "memory");
     expect_of(rt, alloc, header.as_slice(), 1, report);
 }
 
@@ -55,8 +55,8 @@ fn a_program_for_another_processor_is_refused(rt: HostRuntime) {
 
 /// Runs a file of one segment of `size` zeros, none of which the file has.
 fn expect_zeros(rt: &impl Abort, alloc: Global, size: u64, status: u8, report: &str) {
-    let file = patched(rt, alloc, &EXIT_SEVEN, 96, &[0; 8]);
-    let file = patched(rt, alloc, file.as_slice(), 104, &size.to_le_bytes());
+    let file = patched(alloc, &EXIT_SEVEN, 96, &[0; 8]).expect(rt, "memory");
+    let file = patched(alloc, file.as_slice(), 104, &size.to_le_bytes()).expect(rt, "memory");
     expect_of(rt, alloc, file.as_slice(), status, report);
 }
 
@@ -84,7 +84,7 @@ static ODD_BRANCH: [u32; 3] = [0x00001163, 0x05d00893, 0x00000073];
 
 /// Runs the program of these words.
 fn expect_words(rt: &impl Abort, alloc: Global, words: &[u32], status: u8, report: &str) {
-    let file = file_of(rt, alloc, words);
+    let file = file_of(alloc, words).expect(rt, "memory");
     expect_of(rt, alloc, file.as_slice(), status, report);
 }
 
