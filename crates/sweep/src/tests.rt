@@ -4,9 +4,8 @@ use crate::asked::take_asked;
 use crate::compared::Compared;
 use crate::concluding::refuse_asked;
 use crate::top::sweep;
-use std::alloc::{AllocError, Global};
+use std::alloc::Global;
 use std::process::Abort;
-use std::test::Fail;
 use thy_base::{Bytes, Shelf};
 use thy_isa::{MachState, Regs, Status};
 use thy_nvm::MemNvm;
@@ -36,18 +35,40 @@ struct Given {
     report: Vec<u8>,
 }
 
-/// Calls with OUT and the arguments, options among them, separated by spaces.
-fn called(alloc: Global, line: &str) -> Result<Given, AllocError> {
+/// A shelf with the program under the name F.
+fn shelf_of(rt: &impl Abort, alloc: Global) -> MemShelf {
+    let name = String::from_str(alloc, "F").expect(rt, "memory");
+    let program = Vec::from_slice(alloc, &EXIT_SEVEN).expect(rt, "memory");
     let mut files = Vec::new(alloc);
-    let program = Vec::from_slice(alloc, &EXIT_SEVEN)?;
-    files.push((String::from_str(alloc, "F")?, program))?;
-    let mut shelf = MemShelf::new(files, Vec::new(alloc));
+    files.push((name, program)).expect(rt, "memory");
+    MemShelf::new(files, Vec::new(alloc))
+}
+
+/// The arguments of a line, which separates them by spaces.
+fn words_of(rt: &impl Abort, alloc: Global, line: &str) -> Vec<String> {
     let mut words = Vec::new(alloc);
     for word in line.split(' ') {
-        words.push(String::from_str(alloc, word)?)?;
+        push_word(rt, alloc, &mut words, word);
     }
-    let mut terminal = MemSink::new(alloc, 4096, Vec::new(alloc))?;
-    let mut report = MemSink::new(alloc, 4096, Vec::new(alloc))?;
+    words
+}
+
+/// Adds an argument.
+fn push_word(rt: &impl Abort, alloc: Global, words: &mut Vec<String>, word: &str) {
+    let word = String::from_str(alloc, word).expect(rt, "memory");
+    words.push(word).expect(rt, "memory");
+}
+
+fn sink(rt: &impl Abort, alloc: Global) -> MemSink {
+    MemSink::new(alloc, 4096, Vec::new(alloc)).expect(rt, "memory")
+}
+
+/// Calls with OUT and the arguments, options among them, separated by spaces.
+fn called(rt: &impl Abort, alloc: Global, line: &str) -> Given {
+    let mut shelf = shelf_of(rt, alloc);
+    let mut words = words_of(rt, alloc, line);
+    let mut terminal = sink(rt, alloc);
+    let mut report = sink(rt, alloc);
     let mut nvm = MemNvm::new(alloc);
     let status = match take_asked(alloc, &mut words) {
         Ok(asked) => sweep(
@@ -68,12 +89,17 @@ fn called(alloc: Global, line: &str) -> Result<Given, AllocError> {
         Ok(put) => put,
         Err(_) => Vec::new(alloc),
     };
-    Ok(Given {
+    Given {
         status,
         is_put,
         put,
-        report: Vec::from_slice(alloc, report.taken())?,
-    })
+        report: Vec::from_slice(alloc, report.taken()).expect(rt, "memory"),
+    }
+}
+
+/// Stops the test unless this holds of a row, which `at` names.
+fn check(rt: &impl Abort, holds: bool, at: &str) {
+    assert!(rt; holds, "{at}");
 }
 
 /// Whole texts. The first checkpoint's commit block is written in cycle 698, after a barrier, and lands in 699, when it is the NVM's
@@ -136,15 +162,18 @@ static TEXTS: [(&str, u8, &str); 4] = [
     ),
 ];
 
+/// Calls, and compares the status and the text that is put.
+fn expect_text(rt: &impl Abort, alloc: Global, line: &str, status: u8, text: &str) {
+    let given = called(rt, alloc, line);
+    check(rt, given.put.as_slice() == text.as_bytes(), line);
+    check(rt, given.status == status, line);
+}
+
 #[test]
-fn the_text_has_each_row_and_the_sums(rt: HostRuntime) -> Result<(), Fail> {
-    let alloc = rt.alloc();
-    for (line, status, text) in TEXTS {
-        let given = called(alloc, line)?;
-        assert_eq!(rt; given.put.as_slice(), text.as_bytes(), "{line}");
-        assert_eq!(rt; given.status, status, "{line}");
+fn the_text_has_each_row_and_the_sums(rt: HostRuntime) {
+    for (line, status, text) in &TEXTS {
+        expect_text(&rt, rt.alloc(), line, *status, text);
     }
-    Ok(())
 }
 
 /// Calls that are refused, and their reports.
@@ -175,56 +204,67 @@ static REFUSED: [(&str, &str); 18] = [
     ),
 ];
 
+/// Calls, and compares the end of the report; nothing is put.
+fn expect_refused(rt: &impl Abort, alloc: Global, line: &str, last: &str) {
+    let given = called(rt, alloc, line);
+    check(rt, given.status == 2 && !given.is_put, line);
+    check(rt, given.report.as_slice().ends_with(last.as_bytes()), line);
+}
+
 #[test]
-fn a_call_that_is_refused_puts_nothing(rt: HostRuntime) -> Result<(), Fail> {
-    let alloc = rt.alloc();
-    for (line, last) in REFUSED {
-        let given = called(alloc, line)?;
-        assert_eq!(rt; given.status, 2, "{line}");
-        assert!(rt;
-            given.report.as_slice().ends_with(last.as_bytes()),
-            "{line}"
-        );
-        assert!(rt; !given.is_put, "{line}");
+fn a_call_that_is_refused_puts_nothing(rt: HostRuntime) {
+    for (line, last) in &REFUSED {
+        expect_refused(&rt, rt.alloc(), line, last);
     }
-    Ok(())
+}
+
+/// These bytes.
+fn bytes_of(rt: &impl Abort, alloc: Global, bytes: &[u8]) -> Bytes {
+    Bytes::from_vec(Vec::from_slice(alloc, bytes).expect(rt, "memory"))
 }
 
 /// A state with a memory, a console and a program counter.
-fn state_with(
-    alloc: Global,
-    memory: &[u8],
-    console: &[u8],
-    pc: u64,
-) -> Result<MachState, AllocError> {
-    Ok(MachState {
+fn state_with(rt: &impl Abort, alloc: Global, memory: &[u8], console: &[u8], pc: u64) -> MachState {
+    MachState {
         pc,
         regs: Regs::new(),
-        memory: Bytes::from_vec(Vec::from_slice(alloc, memory)?),
-        console: Bytes::from_vec(Vec::from_slice(alloc, console)?),
+        memory: bytes_of(rt, alloc, memory),
+        console: bytes_of(rt, alloc, console),
         cursor: 0,
         brk: 0,
         floor: 0,
         count: 0,
         status: Status::Running,
         other: None,
-    })
+    }
+}
+
+/// Compares a state with another one, in all of it and in its registers.
+fn compare(
+    rt: &impl Abort,
+    one: &MachState,
+    other: &MachState,
+    states: bool,
+    registers: bool,
+    at: &str,
+) {
+    check(rt, Compared::State.are_same(one, other) == states, at);
+    check(
+        rt,
+        Compared::Registers.are_same(one, other) == registers,
+        at,
+    );
 }
 
 #[test]
-fn registers_are_compared_without_memory_and_console(rt: HostRuntime) -> Result<(), Fail> {
+fn registers_are_compared_without_memory_and_console(rt: HostRuntime) {
     let alloc = rt.alloc();
-    let state = state_with(alloc, &[1, 2], &[3], 4)?;
-    let memory = state_with(alloc, &[1, 5], &[3], 4)?;
-    let console = state_with(alloc, &[1, 2], &[3, 6], 4)?;
-    let pc = state_with(alloc, &[1, 2], &[3], 8)?;
-    assert!(rt; Compared::State.are_same(&state, &state), "the same");
-    assert!(rt; Compared::Registers.are_same(&state, &state), "the same");
-    assert!(rt; !Compared::State.are_same(&state, &memory), "memory");
-    assert!(rt; Compared::Registers.are_same(&state, &memory), "memory");
-    assert!(rt; !Compared::State.are_same(&state, &console), "console");
-    assert!(rt; Compared::Registers.are_same(&state, &console), "console");
-    assert!(rt; !Compared::State.are_same(&state, &pc), "pc");
-    assert!(rt; !Compared::Registers.are_same(&state, &pc), "pc");
-    Ok(())
+    let state = state_with(&rt, alloc, &[1, 2], &[3], 4);
+    let memory = state_with(&rt, alloc, &[1, 5], &[3], 4);
+    let console = state_with(&rt, alloc, &[1, 2], &[3, 6], 4);
+    let pc = state_with(&rt, alloc, &[1, 2], &[3], 8);
+    compare(&rt, &state, &state, true, true, "the same");
+    compare(&rt, &state, &memory, false, true, "memory");
+    compare(&rt, &state, &console, false, true, "console");
+    compare(&rt, &state, &pc, false, false, "pc");
 }

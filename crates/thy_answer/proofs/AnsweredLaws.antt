@@ -24,7 +24,8 @@ module _ {N : Type 0} (c : Choice) (d : NvmOf N) (words : List (List ℕ)) (befo
   new = outside_of d after
 
   -- the answer to the order of a run is the answer for its source
-  order_answered : (source : ProgramSource) (job : Job) → OrderAnswered c d (run_of source job) before after a → RunAnswered (c job.config.scheme).kind source job old new a
+  order_answered : (source : ProgramSource) (job : Job) → OrderAnswered c d (run_of source job) before after a
+      → RunAnswered (c job.config.scheme).kind source job old new a
   order_answered (file name) job h = h
   order_answered (made n) job h = h
   order_answered (image name) job h = h
@@ -34,7 +35,8 @@ module _ {N : Type 0} (c : Choice) (d : NvmOf N) (words : List (List ℕ)) (befo
   refused_words order asked (e, due, shelf, nvm, refused) = refused.status ∙ words_due words order e asked due
 
   -- the answer is the answer to the order that is asked for
-  asked_for : (order other : Order) → settings_of words ≡ Ok order → settings_of words ≡ Ok other → OrderAnswered c d other before after a → OrderAnswered c d order before after a
+  asked_for : (order other : Order) → settings_of words ≡ Ok order → settings_of words ≡ Ok other → OrderAnswered c d other before after a
+      → OrderAnswered c d order before after a
   asked_for order other asked is h = subst (λ x. OrderAnswered c d x before after a) (order_same words order other asked is) h
 
   -- a result completes the run that is asked for
@@ -52,10 +54,12 @@ module _ {N : Type 0} (c : Choice) (d : NvmOf N) (words : List (List ℕ)) (befo
       (order_answered source job (asked_for (run_of source job) order i.asked asked h))
 
   plain_completes : (name : List ℕ) (job : Job) (i : IsAsked (plain name job) (file name) job words old.shelf) (k : ℕ) → IsCalm old new
-      → is_running (left_alone i.program k).status ≡ false → k ≤ job.config.limit → PlainAnswered name job old new a → HasEndOf (left_alone i.program k) a
+      → is_running (left_alone i.program k).status ≡ false → k ≤ job.config.limit → PlainAnswered name job old new a
+      → HasEndOf (left_alone i.program k) a
   plain_completes name job i k faults over limit (device, inl (r, due, refused)) =
       inr (refused.status ∙ program_due (file name) job old.shelf new.shelf r (stands_of i) faults.shelf due)
-  plain_completes name job i k faults over limit (device, inr ran) = by_faults name job k old new a (stands_of i) faults over limit ran ran.terminal_failed ran.report_failed refl refl
+  plain_completes name job i k faults over limit (device, inr ran) =
+      by_faults name job k old new a (stands_of i) faults over limit ran ran.terminal_failed ran.report_failed refl refl
 
   -- a run on the plain machine is complete
   pub Completes-plain : Answered c d words before after a → PlainCompletes words old new a
@@ -64,7 +68,8 @@ module _ {N : Type 0} (c : Choice) (d : NvmOf N) (words : List (List ℕ)) (befo
       plain_completes name job i k faults over limit (asked_for (plain name job) order i.asked asked h)
 
   -- a made program is put, unless memory ran out
-  make_reported : (n : ℕ) (name : List ℕ) (failed : Bool) (why : Option PutError) → IsCalm old new → Sent failed old.report new.report (made_line n name why) → a.status ≡ made_status failed why
+  make_reported : (n : ℕ) (name : List ℕ) (failed : Bool) (why : Option PutError) → IsCalm old new
+      → Sent failed old.report new.report (made_line n name why) → a.status ≡ made_status failed why
       → PutCounted name old.shelf new.shelf why → (a.status ≡ 0) ⊎ (a.status ≡ 9)
   make_reported n name false None faults sent is counted = inl is
   make_reported n name true None faults sent is counted = not_risen old.report.faults new.report.faults faults.report sent.0.rose

@@ -17,8 +17,12 @@ later_end g s j k less over =
     let more : k ≡ j + (k - j) = omega (arith, less) in
     ap (λ i. steps g i s) more ∙ steps-add g j (k - j) s ∙ steps-ended g (k - j) (steps g j s) over
 
-pub same_end : (g : Setting) (s : State) (j k : ℕ) → is_running (steps g j s).status ≡ false → is_running (steps g k s).status ≡ false → steps g j s ≡ steps g k s
+pub same_end : (g : Setting) (s : State) (j k : ℕ) → is_running (steps g j s).status ≡ false → is_running (steps g k s).status ≡ false
+    → steps g j s ≡ steps g k s
 same_end g s j k a b = elim (cases_order j k) as (λ _. steps g j s ≡ steps g k s) [
   | inl same ↦ ap (λ i. steps g i s) same
-  | inr other ↦ elim other as (λ _. steps g j s ≡ steps g k s) [ inl less ↦ sym (later_end g s j k (omega arith) a) | inr more ↦ later_end g s k j (omega arith) b ]
+  | inr other ↦ elim other as (λ _. steps g j s ≡ steps g k s) [
+    | inl less ↦ sym (later_end g s j k (omega arith) a)
+    | inr more ↦ later_end g s k j (omega arith) b
+  ]
 ]

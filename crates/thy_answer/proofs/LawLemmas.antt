@@ -68,7 +68,8 @@ module _ (L : Layouts) (are : AreLayouts L) (p : Parameters) (ceiling : ℕ) (by
       let slot = slot_in l g in
       let places : List ℕ = memory_places l (block_at g 1) slot in
       let status = (neither (status_fault l.p ceiling slot) (second_fault l.p slot) (are.cpu p ceiling (block_at g 1) slot parts.2)).0 in
-      let asks = commit_asks (is_named (block_at g 0) (block_at g 1)) (nat_lt (epoch_of (block_at g 1)) ceiling) (has_zero_rest (block_at g 1)) parts.1 in
+      let asks = commit_asks (is_named (block_at g 0) (block_at g 1)) (nat_lt (epoch_of (block_at g 1)) ceiling)
+      (has_zero_rest (block_at g 1)) parts.1 in
       let of_bytes = AreOfBytes-blocks_of bytes are_bytes in
       subst (λ (q : Parameters). CanBegin q ceiling epoch s) (are.of p)
       (CanBegin-made l.p ceiling epoch slot (memory_in l g) s

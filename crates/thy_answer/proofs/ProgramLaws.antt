@@ -22,17 +22,24 @@ begun_fresh p (Ok contents) b is = let same : from_entry p contents ≡ b = (cc)
 begun_fresh p (Err e) b is = absurd (cc)
 
 -- a program starts in the same state under each scheme
-pub begun_under : (scheme : SchemeName) (job : Job) (read : Result Contents ElfError) → begun (parameters_of (under scheme job).config) read ≡ begun (parameters_of job.config) read
+pub begun_under : (scheme : SchemeName) (job : Job) (read : Result Contents ElfError)
+    → begun (parameters_of (under scheme job).config) read ≡ begun (parameters_of job.config) read
 unfolding start_regs second_regs
 begun_under scheme job (Ok contents) = refl
 begun_under scheme job (Err e) = refl
 
 -- what is read is the program of the job under each scheme
-abbrev pub program_under : (scheme : SchemeName) (name : List ℕ) (job : Job) (stock : Stock) → IsProgram (file name) job stock → IsProgram (file name) (under scheme job) stock
+abbrev pub program_under : (scheme : SchemeName) (name : List ℕ) (job : Job) (stock : Stock) → IsProgram (file name) job stock
+    → IsProgram (file name) (under scheme job) stock
 program_under scheme name job stock p = record {
   bytes = p.bytes;
   input = p.input;
-  fetched = record { are_bytes = p.fetched.are_bytes; fetched = p.fetched.fetched; input_bytes = p.fetched.input_bytes; is_input = p.fetched.is_input };
+  fetched = record {
+    are_bytes = p.fetched.are_bytes;
+    fetched = p.fetched.fetched;
+    input_bytes = p.fetched.input_bytes;
+    is_input = p.fetched.is_input;
+  };
   begins = p.begins;
   means = begun_under scheme job _ ∙ p.means;
 }

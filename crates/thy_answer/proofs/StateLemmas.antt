@@ -64,7 +64,8 @@ FitsSlot-faultless p ceiling slot h =
 
 -- ---- the other hart
 
-IsReservation-by : (word double : Bool) (at : ℕ) → IsNumber at → IsReservation (if word then Word at else if double then DoubleWord at else Nothing at)
+IsReservation-by : (word double : Bool) (at : ℕ) → IsNumber at
+    → IsReservation (if word then Word at else if double then DoubleWord at else Nothing at)
 IsReservation-by true double at h = h
 IsReservation-by false true at h = h
 IsReservation-by false false at h = h
@@ -81,7 +82,8 @@ IsOther-made slot words = record {
 }
 
 -- the other hart is there exactly with two harts
-other_made : (p : Parameters) (two : Bool) (o : OtherHart) → (p.harts == 2) ≡ two → IsOther o → IsOtherRecordable p (if two then Some o else None)
+other_made : (p : Parameters) (two : Bool) (o : OtherHart) → (p.harts == 2) ≡ two → IsOther o
+    → IsOtherRecordable p (if two then Some o else None)
 other_made p true o e h = (eqb-true p.harts 2 e, h)
 other_made p false o e h = λ same. let both : true ≡ false = sym (eq-eqb p.harts 2 same) ∙ e in absurd (cc)
 
@@ -95,7 +97,8 @@ IsOtherOf-recordable p (Some o) h = h.1
 -- ---- the state
 
 -- the state that record and memory make can be stored
-IsStorable-made : (p : Parameters) (ceiling : ℕ) (slot memory : List Block) → AreOfBytes slot → AreOfBytes memory → length memory ≡ memory_blocks p
+IsStorable-made : (p : Parameters) (ceiling : ℕ) (slot memory : List Block) → AreOfBytes slot → AreOfBytes memory
+    → length memory ≡ memory_blocks p
     → FitsSlot p ceiling slot → IsStorable (program_size p) (state_from p (cpu_of_record p slot) memory)
 unfolding state_from cpu_of_record
 IsStorable-made p ceiling slot memory words blocks all fits =
@@ -133,7 +136,8 @@ IsSmallState-made p ceiling slot memory words fits =
     }
 
 -- a storable state with a small count and console, and the geometry's harts, can be recorded
-IsRecordable-small : (p : Parameters) (ceiling : ℕ) (s : State) → IsStorable (program_size p) s → IsSmallState p ceiling s → IsRecordable p ceiling (cpu_of s)
+IsRecordable-small : (p : Parameters) (ceiling : ℕ) (s : State) → IsStorable (program_size p) s → IsSmallState p ceiling s
+    → IsRecordable p ceiling (cpu_of s)
 IsRecordable-small p ceiling s h small = record {
   pc = h.pc;
   regs_length = h.registers;
@@ -154,6 +158,7 @@ pub CanBegin-made : (p : Parameters) (ceiling epoch : ℕ) (slot memory : List B
     → state_from p (cpu_of_record p slot) memory ≡ s → CanBegin p ceiling epoch s
 CanBegin-made p ceiling epoch slot memory s words blocks all none below is =
     let fits = FitsSlot-faultless p ceiling slot none in
-    let storable : IsStorable (program_size p) s = subst (IsStorable (program_size p)) is (IsStorable-made p ceiling slot memory words blocks all fits) in
+    let storable : IsStorable (program_size p) s =
+    subst (IsStorable (program_size p)) is (IsStorable-made p ceiling slot memory words blocks all fits) in
     let small : IsSmallState p ceiling s = subst (IsSmallState p ceiling) is (IsSmallState-made p ceiling slot memory words fits) in
     record { recordable = IsRecordable-small p ceiling s storable small; storable = storable; below = below }

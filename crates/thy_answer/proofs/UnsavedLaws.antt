@@ -12,13 +12,16 @@ use Rattle.thy_answer.specs.Machines.{Choice}
 use Rattle.thy_answer.specs.Saving.{SavesUnder, saves}
 
 -- a run that saves nothing leaves shelf and device as they stood when it stopped
-pub saves_none : (due : Bool) (c : Config) (stood left : Device) (old new : Stock) (why : Option PutError) → SavesUnder None due c stood left old new why → (left ≡ stood) × (new ≡ old) × (why ≡ None)
+pub saves_none : (due : Bool) (c : Config) (stood left : Device) (old new : Stock) (why : Option PutError)
+    → SavesUnder None due c stood left old new why → (left ≡ stood) × (new ≡ old) × (why ≡ None)
 saves_none true c stood left old new why h = h
 saves_none false c stood left old new why h = h
 
 -- a run by a scheme leaves the shelf alone
-pub shelf_stays : {N : Type 0} (c : Choice) (d : NvmOf N) (x : Subject) (first : Bool) (scheme : SchemeName) (old new : Stage N) (events : List Event)
+pub shelf_stays : {N : Type 0} (c : Choice) (d : NvmOf N) (x : Subject) (first : Bool) (scheme : SchemeName) (old new : Stage N)
+    (events : List Event)
     → RunsBy c d x first scheme old new events → new.around.shelf ≡ old.around.shelf
 shelf_stays c d x first scheme old new events r =
     let seen = r.over.ran.seen in
-    (saves_none (saves seen.ending.stop) (under scheme x.job).config seen.stood r.over.ran.left old.around.shelf new.around.shelf seen.why seen.saved).1
+    (saves_none (saves seen.ending.stop)
+    (under scheme x.job).config seen.stood r.over.ran.left old.around.shelf new.around.shelf seen.why seen.saved).1

@@ -42,7 +42,8 @@ faultless v h =
 values_in-range : (rows : List Row) (v : Values) → values_in rows ≡ Ok v → AreInRange v
 values_in-range rows v = go (unreadable rows) (values_at rows) (value_fault (values_at rows)) refl
   where
-    go : (u : Option Field) (w : Values) (o : Option ConfigError) → value_fault w ≡ o → option_map_or (λ f. Err (Word f)) u (ranged w o) ≡ Ok v → AreInRange v
+    go : (u : Option Field) (w : Values) (o : Option ConfigError) → value_fault w ≡ o
+        → option_map_or (λ f. Err (Word f)) u (ranged w o) ≡ Ok v → AreInRange v
     go None w None e h = let same : w ≡ v = cc in subst AreInRange same (faultless w e)
     go None w (Some f) e h = absurd (cc)
     go (Some f) w o e h = absurd (cc)
@@ -72,7 +73,8 @@ order_named-range (Some p) o h = go (verb_of p.0) h
     go (Some verb) h = order_for-range verb p.1 o h
 
 -- an answer that is exact has its values in range
-pub answers-range : (words : List Text) (r : Result Command WordsError) → Answers (settings_of words) r → IfOk r (λ c. IsInRange (order_of c))
+pub answers-range : (words : List Text) (r : Result Command WordsError) → Answers (settings_of words) r
+    → IfOk r (λ c. IsInRange (order_of c))
 unfolding settings_of
 answers-range words (Ok c) h = order_named-range (named words) (order_of c) h
 answers-range words (Err e) h = tt

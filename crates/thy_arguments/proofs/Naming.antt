@@ -25,7 +25,8 @@ found_by (Some p) name rows n r =
 -- the name of what is found
 pub name_found : (m : ArgMatches) → subcommand_name_of m ≡ option_map (λ p. p.0) (subcommand_rows_of m)
 name_found m =
-    elim (out-ArgMatches m).subcommand as (λ o. option_map (λ b. (out-SubCommand (box_value b)).name.now) o ≡ option_map (λ p. p.0) (subcommand_rows o)) [
+    elim (out-ArgMatches m).subcommand
+    as (λ o. option_map (λ b. (out-SubCommand (box_value b)).name.now) o ≡ option_map (λ p. p.0) (subcommand_rows o)) [
       | None ↦ refl
       | Some b ↦ refl
     ]

@@ -42,7 +42,8 @@ test_in (multiple_of unit) n h = grind (arith, nat_tests)
 test_in (divisor_of whole) n h = grind (arith, nat_tests)
 test_in (both a b) n h = and_from _ _ (test_in a n h.0) (test_in b n h.1)
 
-none_of : (fits : Bool) (rest : Option ConfigError) (fault : ConfigError) → cond fits rest (Some fault) ≡ None → (fits ≡ true) × (rest ≡ None)
+none_of : (fits : Bool) (rest : Option ConfigError) (fault : ConfigError) → cond fits rest (Some fault) ≡ None
+    → (fits ≡ true) × (rest ≡ None)
 none_of true rest fault h = (refl, h)
 none_of false rest fault h = cc
 
@@ -82,7 +83,8 @@ fault_in-cuts c few =
 
 -- if no field before place i has a fault, and the one there has one, that is the first
 pub first_found : (c : Config) (fs : List Field) (i : ℕ) (d : Field) (fault : ConfigError) → i < length fs
-    → fault_in (flat_map (rows_at c) (take i fs)) ≡ None → fault_in (rows_at c (get_or fs i d)) ≡ Some fault → fault_in (flat_map (rows_at c) fs) ≡ Some fault
+    → fault_in (flat_map (rows_at c) (take i fs)) ≡ None → fault_in (rows_at c (get_or fs i d)) ≡ Some fault
+    → fault_in (flat_map (rows_at c) fs) ≡ Some fault
 first_found c [] i d fault l before here = absurd (omega arith)
 first_found c (f ∷ fs) zero d fault l before here =
     fault_in-append (rows_at c f) (flat_map (rows_at c) fs) ∙ ap (λ o. option_or o (fault_in (flat_map (rows_at c) fs))) here
@@ -95,7 +97,8 @@ first_found c (f ∷ fs) (suc i) d fault l before here =
 
 -- if no field before place i has a fault, nor the one there, none up to it has
 pub none_more : (c : Config) (fs : List Field) (i : ℕ) (d : Field) → i < length fs
-    → fault_in (flat_map (rows_at c) (take i fs)) ≡ None → fault_in (rows_at c (get_or fs i d)) ≡ None → fault_in (flat_map (rows_at c) (take (i + 1) fs)) ≡ None
+    → fault_in (flat_map (rows_at c) (take i fs)) ≡ None → fault_in (rows_at c (get_or fs i d)) ≡ None
+    → fault_in (flat_map (rows_at c) (take (i + 1) fs)) ≡ None
 none_more c fs i d l before here =
     ap (λ t. fault_in (flat_map (rows_at c) t)) (take_more fs i d l)
     ∙ ap fault_in (flat_map-append (rows_at c) (take i fs) (get_or fs i d ∷ []))

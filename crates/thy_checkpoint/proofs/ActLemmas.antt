@@ -41,7 +41,8 @@ load_asks w Confirm = refl
 load_asks w r = tt
 
 module _ {C : Type 0} (F : FillingOf C) (laws : IsFilling F) where
-  load_acts : (w : RoundWrites) (r : Round) (d : Booting) → Asks (boot_did (answer_at F (loads_on (next_round w.blocks r)) d)) (round_action w r)
+  load_acts : (w : RoundWrites) (r : Round) (d : Booting)
+      → Asks (boot_did (answer_at F (loads_on (next_round w.blocks r)) d)) (round_action w r)
   load_acts w Confirm d = refl
   load_acts w r d = tt
 
@@ -181,11 +182,13 @@ module _ {C : Type 0} (F : FillingOf C) (laws : IsFilling F) where
 
   same_there : (q : Stage) (b d : Booting) → d.p ≡ b.p → d.commit ≡ b.commit → IsThere F b q → IsThere F d q
   same_there (Reads (Slot k)) b d same commit h =
-      subst (λ (x : ℕ). k < x) (ap (λ p. (layout_in F (record b { p = p })).slot_blocks b.commit) (sym same) ∙ ap (λ x. (layout_in F d).slot_blocks x) (sym commit)) h
+      subst (λ (x : ℕ). k < x) (ap (λ p. (layout_in F (record b { p = p })).slot_blocks b.commit) (sym same)
+      ∙ ap (λ x. (layout_in F d).slot_blocks x) (sym commit)) h
   same_there (Reads (Fills k)) b d same commit h = subst (λ (x : ℕ). k < x) (ap F.most_fills (sym same)) h
   same_there (Migrates r) b d same commit h =
       subst (λ (x : ℕ). IsInRound x r)
-      (ap (λ p. (layout_in F (record b { p = p })).slot_blocks (anew b.commit)) (sym same) ∙ ap (λ x. (layout_in F d).slot_blocks (anew x)) (sym commit)) h
+      (ap (λ p. (layout_in F (record b { p = p })).slot_blocks (anew b.commit)) (sym same)
+      ∙ ap (λ x. (layout_in F d).slot_blocks (anew x)) (sym commit)) h
   same_there q b d same commit h = tt
 
   inside_of : (b : Booting) (k : ℕ) → b.stage ≡ Reads (Slot k) → IsBoot F b → k < (layout_in F b).slot_blocks b.commit
@@ -199,7 +202,8 @@ module _ {C : Type 0} (F : FillingOf C) (laws : IsFilling F) where
   fits_read Header n b is boot block =
       record { room = boot.room; there = by_fault (head_fault (layout_in F b) (newest n 0) b.commit) }
     where
-      by_fault : (o : Option BadImage) → IsThere F (at_stage (after_header (layout_in F b) (newest n 0) b) b) (refusing_or o (Reads (Slot 0)))
+      by_fault : (o : Option BadImage)
+          → IsThere F (at_stage (after_header (layout_in F b) (newest n 0) b) b) (refusing_or o (Reads (Slot 0)))
       by_fault None = slot_some F laws b.p b.commit
       by_fault (Some bad) = tt
   fits_read (Slot k) n b is boot block = record { room = size; there = by_more (has_more F k b) refl } where
@@ -207,12 +211,14 @@ module _ {C : Type 0} (F : FillingOf C) (laws : IsFilling F) where
     size =
         let inside = inside_of b k is boot in
         let most = (laws.laid.slot b.p b.commit).most in
-        length-written b.slot (64 * k) (newest n ((layout_in F b).slot_place b.commit + k)).0 (omega (arith, boot.room, inside, most, block)) ∙ boot.room
+        length-written b.slot (64 * k) (newest n ((layout_in F b).slot_place b.commit + k)).0
+        (omega (arith, boot.room, inside, most, block)) ∙ boot.room
 
     by_more : (z : Bool) → has_more F k b ≡ z
         → IsThere F (read_on F (Slot k) n b) (if z then Reads (Slot (k + 1)) else after_slot F (slot_kept F k n b))
     by_more true e = ltb-true (k + 1) ((layout_in F b).slot_blocks b.commit) e
-    by_more false e = same_there (after_slot F (slot_kept F k n b)) (slot_kept F k n b) (read_on F (Slot k) n b) refl refl (slot_there (slot_kept F k n b))
+    by_more false e = same_there (after_slot F (slot_kept F k n b)) (slot_kept F k n b) (read_on F (Slot k) n b) refl refl
+        (slot_there (slot_kept F k n b))
   fits_read (Fills k) n b is boot block = record {
     room = boot.room;
     there = same_there (filling_from F (k + 1) b) b (at_stage (filling_from F (k + 1) b) b) refl refl (next_there b (k + 1));
@@ -220,7 +226,8 @@ module _ {C : Type 0} (F : FillingOf C) (laws : IsFilling F) where
   fits_read (Refusing bad) n b is boot block = boot
 
   -- a step of a boot in which a block was read
-  reads_on : (r : ReadStage) (n : Device) (b : Booting) (c e : C) → b.stage ≡ Reads r → IsBoot F b → HasRead F n b c → IsBlock F r n b → FillsOn F r n b c e
+  reads_on : (r : ReadStage) (n : Device) (b : Booting) (c e : C) → b.stage ≡ Reads r → IsBoot F b → HasRead F n b c → IsBlock F r n b
+      → FillsOn F r n b c e
       → ReadsOn F r n b c n (read_on F r n b) e
   reads_on r n b c e is boot h block f = record {
     same_p = same_p r;
@@ -253,9 +260,11 @@ module _ {C : Type 0} (F : FillingOf C) (laws : IsFilling F) where
   after_read Unread n new b c left = left
   after_read r n new b c left = left
 
-  pub takes_read : {T : Type 0} (result : Result T NvmError) (s : State) (r : ReadStage) (n : Device) (b : Booting) (c : C) (m : Device) (d : Booting) (e : C)
+  pub takes_read : {T : Type 0} (result : Result T NvmError) (s : State) (r : ReadStage) (n : Device) (b : Booting) (c : C) (m : Device)
+      (d : Booting) (e : C)
       → b.stage ≡ Reads r → IsBoot F b → HasRead F n b c
-      → OnOk result (d ≡ read_on F r n b) → OnOk result (FillsOn F r n b c e) → OnOk result (IsBlock F r n b) → OnErr result (d ≡ b) → OnErr result (e ≡ c)
+      → OnOk result (d ≡ read_on F r n b) → OnOk result (FillsOn F r n b c e) → OnOk result (IsBlock F r n b) → OnErr result (d ≡ b)
+      → OnErr result (e ≡ c)
       → Takes (read_action F b c r) result n m → TakesStep F result s n b c m d e
   takes_read (Ok x) s r n b c m d e is boot h goes fills block same_boot same_control t = record {
     steps = subst (λ (q : Stage). StepsAt F q s n b c m d e) (sym is)
@@ -279,7 +288,8 @@ module _ {C : Type 0} (F : FillingOf C) (laws : IsFilling F) where
 
   -- ---- a migration
 
-  fits_migrated : (r : Round) (b : Booting) → length b.slot ≡ 64 * (layout_in F b).most_slot → IsInRound (renewing F b).blocks r → IsBoot F (migrated_by F r b)
+  fits_migrated : (r : Round) (b : Booting) → length b.slot ≡ 64 * (layout_in F b).most_slot → IsInRound (renewing F b).blocks r
+      → IsBoot F (migrated_by F r b)
   fits_migrated (Write k) b room there = record {
     room = room;
     there = next_by (λ (q : Round). IsInRound (renewing F b).blocks q) k (renewing F b).blocks (λ more. more) (λ last. tt);
@@ -287,9 +297,11 @@ module _ {C : Type 0} (F : FillingOf C) (laws : IsFilling F) where
   fits_migrated Confirm b room there = record { room = length-renewed F laws b room; there = tt }
   fits_migrated r b room there = record { room = room; there = tt }
 
-  pub takes_migration : {T : Type 0} (result : Result T NvmError) (s : State) (r : Round) (n : Device) (b : Booting) (c : C) (m : Device) (d : Booting)
+  pub takes_migration : {T : Type 0} (result : Result T NvmError) (s : State) (r : Round) (n : Device) (b : Booting) (c : C)
+      (m : Device) (d : Booting)
       → b.stage ≡ Migrates r → IsBoot F b → CanMigrate F r n b
-      → OnOk result (d ≡ migrated_by F r b) → OnErr result (d ≡ b) → Takes (round_action (renewing F b) r) result n m → TakesStep F result s n b c m d c
+      → OnOk result (d ≡ migrated_by F r b) → OnErr result (d ≡ b) → Takes (round_action (renewing F b) r) result n m
+      → TakesStep F result s n b c m d c
   takes_migration (Ok x) s r n b c m d is boot can goes same_boot t = record {
     steps = subst (λ (q : Stage). StepsAt F q s n b c m d c) (sym is) (record { device = t.ok; boot = goes; control = refl });
     fits = subst (λ (y : Booting). IsBoot F y) (sym goes) (fits_migrated r b boot.room can.there);

@@ -63,17 +63,20 @@ module _ {C : Type 0} (F : FillingOf C) (laws : IsFilling F) where
     by_stage (Over Restored) = goes (Kept g.before) g.kept (sealed_by o g.kept)
     by_stage (Over Loaded) = goes (Kept g.next) (Some (start_mark o)) None
 
-  nvm_drained : (o : Origin) (g : BootImages) (n : Device) (b : Booting) (c : C) → IsSoundBoot F o g n b c → IsSoundBoot F o g (drained n) b c
+  nvm_drained : (o : Origin) (g : BootImages) (n : Device) (b : Booting) (c : C) → IsSoundBoot F o g n b c
+      → IsSoundBoot F o g (drained n) b c
   nvm_drained o g n b c sound = record {
     geometry = sound.geometry;
     same_p = sound.same_p;
-    keeps = IsKeeping-move o (layout_for F o) (standing_in_boot o b.stage g n) (standing_in_boot o b.stage g (drained n)) (drains_move o g n b) sound.keeps;
+    keeps = IsKeeping-move o (layout_for F o) (standing_in_boot o b.stage g n) (standing_in_boot o b.stage g (drained n))
+        (drains_move o g n b) sound.keeps;
     so_far = by_stage b.stage sound.so_far sound.keeps;
   } where
     still : (q : Stage) → n.queue ≡ [] → IsSoundAt F o q g n b c → IsSoundAt F o q g (drained n) b c
     still q settled h = subst (λ (m : Device). IsSoundAt F o q g m b c) (sym (drained-settled n settled)) h
 
-    by_stage : (q : Stage) → IsSoundAt F o q g n b c → IsKeeping o (layout_for F o) (standing_in_boot o q g n) → IsSoundAt F o q g (drained n) b c
+    by_stage : (q : Stage) → IsSoundAt F o q g n b c → IsKeeping o (layout_for F o) (standing_in_boot o q g n)
+        → IsSoundAt F o q g (drained n) b c
     by_stage (Reads r) at keeps = still (Reads r) at.read.settled at
     by_stage (Loads r) at keeps = record {
       none = at.none;
@@ -120,7 +123,8 @@ module _ {C : Type 0} (F : FillingOf C) (laws : IsFilling F) where
   read-drained (Over Loaded) n b c h = absurd h
   read-drained q n b c h = (laws.drain_fresh c h.0, h.1, h.2)
 
-  dram_drained : (o : Origin) (g : BootImages) (n : Device) (b : Booting) (c : C) → IsSoundBoot F o g n b c → IsSoundBoot F o g n b (F.drained c)
+  dram_drained : (o : Origin) (g : BootImages) (n : Device) (b : Booting) (c : C) → IsSoundBoot F o g n b c
+      → IsSoundBoot F o g n b (F.drained c)
   dram_drained o g n b c sound = record {
     geometry = sound.geometry;
     same_p = laws.drain_p c ∙ sound.same_p;
@@ -141,7 +145,8 @@ module _ {C : Type 0} (F : FillingOf C) (laws : IsFilling F) where
     by_stage : (q : Stage) → IsSoundAt F o q g n b c → IsSoundAt F o q g n b (F.drained c)
     by_stage (Loads r) at = record { none = at.none; fresh = laws.drain_fresh c at.fresh; there = at.there; made = at.made; stood = at.stood }
     by_stage (Migrates r) at = migrating-undrained F laws o b c g n r at
-    by_stage (Over Loaded) at = record { fresh = laws.drain_fresh c at.fresh; sized = at.sized; settled = at.settled; made = at.made; stood = at.stood }
+    by_stage (Over Loaded) at =
+        record { fresh = laws.drain_fresh c at.fresh; sized = at.sized; settled = at.settled; made = at.made; stood = at.stood }
     by_stage q at = reads at
 
   pub drains_keep_boot : DrainsKeepBoot F
@@ -149,13 +154,14 @@ module _ {C : Type 0} (F : FillingOf C) (laws : IsFilling F) where
 
 -- ---- what an image means to a run
 
-found-none : (o : Origin) (l : Layout) (before : List Block) (kept : Option Mark) → HasKept o l before kept → decode_by l ceiling before ≡ Nothing → kept ≡ None
-found-none o l before None t e = refl
-found-none o l before (Some m) is e = let both : Nothing ≡ At m.epoch (at o m.count) = sym e ∙ is.decodes in absurd (cc)
+module _ (o : Origin) (l : Layout) (before : List Block) where
+  found-none : (kept : Option Mark) → HasKept o l before kept → decode_by l ceiling before ≡ Nothing → kept ≡ None
+  found-none None t e = refl
+  found-none (Some m) is e = let both : Nothing ≡ At m.epoch (at o m.count) = sym e ∙ is.decodes in absurd (cc)
 
-pub never-bad : (o : Origin) (l : Layout) (before : List Block) (kept : Option Mark) (bad : BadImage) → HasKept o l before kept → decode_by l ceiling before ≡ IsRefused bad → ⊥
-never-bad o l before None bad t e = let both : Nothing ≡ IsRefused bad = sym t.0 ∙ e in absurd (cc)
-never-bad o l before (Some m) bad is e = let both : At m.epoch (at o m.count) ≡ IsRefused bad = sym is.decodes ∙ e in absurd (cc)
+  pub never-bad : (kept : Option Mark) (bad : BadImage) → HasKept o l before kept → decode_by l ceiling before ≡ IsRefused bad → ⊥
+  never-bad None bad t e = let both : Nothing ≡ IsRefused bad = sym t.0 ∙ e in absurd (cc)
+  never-bad (Some m) bad is e = let both : At m.epoch (at o m.count) ≡ IsRefused bad = sym is.decodes ∙ e in absurd (cc)
 
 -- a checkpoint that is found is the kept mark's
 pub record IsFoundAt (o : Origin) (kept : Option Mark) (epoch : ℕ) (state : State) : Type 0 where
@@ -188,7 +194,8 @@ module _ {C : Type 0} (F : FillingOf C) (laws : IsFilling F) where
   module _ (o : Origin) (g : BootImages) (m : Device) (d : Booting) (e : C) (before_is : g.before ≡ m.image)
       (same : d.p ≡ o.geometry) (meant : HasKept o (layout_for F o) g.before g.kept) (read : HasRead F m d e) where
     pub decoded : (x : Decoded) → decode_by (layout_in F d) ceiling m.image ≡ x → decode_by (layout_for F o) ceiling g.before ≡ x
-    decoded x h = ap (decode_by (layout_for F o) ceiling) before_is ∙ ap (λ (p : Parameters). decode_by (layout_at F p) ceiling m.image) (sym same) ∙ h
+    decoded x h = ap (decode_by (layout_for F o) ceiling) before_is
+        ∙ ap (λ (p : Parameters). decode_by (layout_at F p) ceiling m.image) (sym same) ∙ h
 
     none_kept : decode_by (layout_in F d) ceiling m.image ≡ Nothing → g.kept ≡ None
     none_kept h = found-none o (layout_for F o) g.before g.kept meant (decoded Nothing h)
@@ -200,7 +207,8 @@ module _ {C : Type 0} (F : FillingOf C) (laws : IsFilling F) where
         found-mark o (layout_for F o) g.before g.kept (epoch_of d.commit) state meant (decoded (At (epoch_of d.commit) state) f.found)
 
     -- a read is a move; with the last one before a migration that seals the mark that is kept
-    pub read-moves : (n : Device) → m ≡ n → (q : Stage) → HasReadAt F q m d e → Move o (layout_for F o) (reading_of o g n) (standing_in_boot o q g m)
+    pub read-moves : (n : Device) → m ≡ n → (q : Stage) → HasReadAt F q m d e
+        → Move o (layout_for F o) (reading_of o g n) (standing_in_boot o q g m)
     read-moves n is q f = by_stage q f where
       goes : Move o (layout_for F o) (reading_of o g n) (reading_of o g m)
       goes = Goes (Kept g.before) g.kept (sealed_by o g.kept) n m (Spares-same (guarded (looked_by (layout_for F o)) (Kept g.before)) n m is)
@@ -259,14 +267,16 @@ module _ {C : Type 0} (F : FillingOf C) (laws : IsFilling F) where
     shows (Reads (Refusing bad)) f = absurd (never-bad o (layout_for F o) g.before g.kept bad meant (decoded (IsRefused bad) f))
     shows (Loads r) f =
         let same_view : record (loading_view o.start.count) { written = is_written r } ≡ finding_view o.start.count g.kept
-        = ap (λ (q : Round). record (loading_view o.start.count) { written = is_written q }) f.2 ∙ ap (finding_view o.start.count) (sym (none_kept f.1)) in
+        = ap (λ (q : Round). record (loading_view o.start.count) { written = is_written q }) f.2
+        ∙ ap (finding_view o.start.count) (sym (none_kept f.1)) in
         (boots o.start.count g.kept, inl same_view)
     shows (Over Restored) f =
         let found = found-restored f.restored in
         let epoch : ℕ = epoch_of d.commit in
         let cpu : CpuState = cpu_of_record d.p (slot_read F d) in
         let count : found.m.count ≡ cpu.count
-        = sym (ap (λ (s : State). s.count) found.state_is ∙ found.counted) ∙ ap (λ (p : Parameters). (state_from p (cpu_of_record p (slot_read F d)) (F.loads e m)).count) (laws.laid.of d.p)
+        = sym (ap (λ (s : State). s.count) found.state_is ∙ found.counted)
+        ∙ ap (λ (p : Parameters). (state_from p (cpu_of_record p (slot_read F d)) (F.loads e m)).count) (laws.laid.of d.p)
         ∙ count-state_from d.p cpu (F.loads e m) in
         coe 1 0 (i. CoreStep o (finding_view o.start.count (found.kept_is i)) (HasRestarted (sym found.epoch_is i) (sym count i))
         (restored_view o (found.kept_is i))) (restores o found.m)
@@ -278,7 +288,8 @@ module _ {C : Type 0} (F : FillingOf C) (laws : IsFilling F) where
   pub shows_image : ShowsImage F
   shows_image o g n b c r sound is =
       let rec : IsRecovering F g n b c = subst (λ (q : Stage). IsSoundAt F o q g n b c) is sound.so_far in
-      let k : IsKeeping o (layout_for F o) (reading_of o g n) = subst (λ (q : Stage). IsKeeping o (layout_for F o) (standing_in_boot o q g n)) is sound.keeps in
+      let k : IsKeeping o (layout_for F o) (reading_of o g n) =
+      subst (λ (q : Stage). IsKeeping o (layout_for F o) (standing_in_boot o q g n)) is sound.keeps in
       ap (seen_at o g.kept) is
       ∙ sym (finding_view-meant o (layout_for F o) g.before g.kept o.start.count k.meant)
       ∙ ap (λ (h : List Block). view_of_image o.start.count (decode_by (layout_for F o) ceiling h)) rec.before_is
@@ -288,7 +299,8 @@ module _ {C : Type 0} (F : FillingOf C) (laws : IsFilling F) where
   pub restored_is_kept : RestoredIsKept F
   restored_is_kept o g n b c sound is =
       let rec : IsRecovering F g n b c = subst (λ (q : Stage). IsSoundAt F o q g n b c) is sound.so_far in
-      let k : IsKeeping o (layout_for F o) (reading_of o g n) = subst (λ (q : Stage). IsKeeping o (layout_for F o) (standing_in_boot o q g n)) is sound.keeps in
+      let k : IsKeeping o (layout_for F o) (reading_of o g n) =
+      subst (λ (q : Stage). IsKeeping o (layout_for F o) (standing_in_boot o q g n)) is sound.keeps in
       let f : IsFoundNew F n b c = subst (λ (q : Stage). HasReadAt F q n b c) is rec.read.so_far in
       let found = found-restored o g n b c rec.before_is sound.geometry k.meant rec.read f.restored in
       let keeps : Keeps o (layout_for F o) n (Kept g.before) (Some found.m) None
@@ -298,6 +310,7 @@ module _ {C : Type 0} (F : FillingOf C) (laws : IsFilling F) where
   pub never_refused : NeverRefused F
   never_refused o g n b c bad sound is =
       let at : IsRecovering F g n b c = subst (λ (q : Stage). IsSoundAt F o q g n b c) is sound.so_far in
-      let k : IsKeeping o (layout_for F o) (reading_of o g n) = subst (λ (q : Stage). IsKeeping o (layout_for F o) (standing_in_boot o q g n)) is sound.keeps in
+      let k : IsKeeping o (layout_for F o) (reading_of o g n) =
+      subst (λ (q : Stage). IsKeeping o (layout_for F o) (standing_in_boot o q g n)) is sound.keeps in
       let f : decode_by (layout_in F b) ceiling n.image ≡ IsRefused bad = subst (λ (q : Stage). HasReadAt F q n b c) is at.read.so_far in
       never-bad o (layout_for F o) g.before g.kept bad k.meant (decoded o g n b c at.before_is sound.geometry k.meant at.read (IsRefused bad) f)

@@ -17,7 +17,8 @@ use Rattle.thy_checkpoint.specs.Progress.{Progress, phase_of, layout_of, slot_bl
 
 -- engine and controller belong together at a stage outside the round
 fits_at : {C : Type 0} (F : FillingOf C) (I : ItemsOf C) (e : Progress) (q : EngineStage) (d : C)
-    → F.p d ≡ e.p → ((r : Round) → q ≡ InRound r → IsInRound (slot_blocks F e) r) → I.stands (phase_of q) d → Fits F I (record e { stage = q }) d
+    → F.p d ≡ e.p → ((r : Round) → q ≡ InRound r → IsInRound (slot_blocks F e) r) → I.stands (phase_of q) d
+    → Fits F I (record e { stage = q }) d
 fits_at F I e q d same inside stands = record { same_p = same; inside = inside; stands = stands }
 
 module _ {C : Type 0} (F : FillingOf C) (I : ItemsOf C) (a : AreItems F I) (e : Progress) (c : C) (same : F.p c ≡ e.p) where
@@ -36,7 +37,8 @@ module _ {C : Type 0} (F : FillingOf C) (I : ItemsOf C) (a : AreItems F I) (e : 
 
   fits_round : (r : Round) → I.stands Made c → FitsAfter (RoundItem r)
   fits_round (Write k) made =
-      next_by (λ (q : Round). Fits F I (record e { stage = InRound q }) c) k (slot_blocks F e) (λ more. fits_in (Write (k + 1)) more made) (λ last. fits_in Settle tt made)
+      next_by (λ (q : Round). Fits F I (record e { stage = InRound q }) c) k (slot_blocks F e) (λ more. fits_in (Write (k + 1)) more made)
+      (λ last. fits_in Settle tt made)
   fits_round Settle made = fits_in Commit tt made
   fits_round Commit made = fits_in Confirm tt made
   fits_round Confirm made = let to = a.commits c made in after_commit I.has_tail to.same_p to.stands
@@ -67,13 +69,16 @@ module _ {C : Type 0} (F : FillingOf C) (I : ItemsOf C) (a : AreItems F I) (e : 
   abbrev left : Item → ℕ
   left i = left_at F I e (next_after F I e i) (control_after I i c)
 
-  counts_commit : (tail : Bool) → left_at F I e (if tail then Tail 0 else Idle) (I.committed c) + 1 ≤ 1 + (if tail then I.tail_left e.p 0 + 1 else 0)
+  counts_commit : (tail : Bool)
+      → left_at F I e (if tail then Tail 0 else Idle) (I.committed c) + 1 ≤ 1 + (if tail then I.tail_left e.p 0 + 1 else 0)
   counts_commit true = omega arith
   counts_commit false = omega arith
 
-  counts_round : (r : Round) → IsInRound (slot_blocks F e) r → left (RoundItem r) + 1 ≤ round_left (slot_blocks F e) r + after_commit_left I e.p
+  counts_round : (r : Round) → IsInRound (slot_blocks F e) r
+      → left (RoundItem r) + 1 ≤ round_left (slot_blocks F e) r + after_commit_left I e.p
   counts_round (Write k) inside =
-      next_by (λ (q : Round). round_left (slot_blocks F e) q + after_commit_left I e.p + 1 ≤ round_left (slot_blocks F e) (Write k) + after_commit_left I e.p) k (slot_blocks F e)
+      next_by (λ (q : Round). round_left (slot_blocks F e) q + after_commit_left I e.p + 1
+      ≤ round_left (slot_blocks F e) (Write k) + after_commit_left I e.p) k (slot_blocks F e)
       (λ more. omega (arith, inside)) (λ last. omega (arith, inside))
   counts_round Settle inside = omega arith
   counts_round Commit inside = omega arith
@@ -90,34 +95,37 @@ module _ {C : Type 0} (F : FillingOf C) (I : ItemsOf C) (a : AreItems F I) (e : 
   counts_tail from (Some k) next stands =
       let one = subst (λ p. I.tail_left p (k + 1) + 1 ≤ I.tail_left p from) same (a.tail_counts c from k stands next) in omega (arith, one)
 
-  counts : (q : EngineStage) → ((r : Round) → q ≡ InRound r → IsInRound (slot_blocks F e) r) → 0 < slot_blocks F e → I.stands (phase_of q) c → is_under_way q ≡ true
+  counts : (q : EngineStage) → ((r : Round) → q ≡ InRound r → IsInRound (slot_blocks F e) r) → 0 < slot_blocks F e → I.stands (phase_of q) c
+      → is_under_way q ≡ true
       → left (item I q c) + 1 ≤ left_at F I e q c
   counts Idle inside some stands way = cc
   counts (Body from) inside some stands way = counts_body from (I.body_next c from) some refl stands
   counts (InRound r) inside some stands way = counts_round r (inside r refl)
   counts (Tail from) inside some stands way = counts_tail from (I.tail_next c from) refl stands
 
--- a block of the slot is within the image
-pub slot_inside : {C : Type 0} (F : FillingOf C) → IsFilling F → (e : Progress) (k : ℕ) → k < slot_blocks F e → slot_place F e k < (layout_of F e).image_blocks
-slot_inside F laws e k below = let whole = all_inside F laws e.p (commit_of e.epoch) in omega (arith, whole, below)
+module _ {C : Type 0} (F : FillingOf C) where
+  -- a block of the slot is within the image
+  pub slot_inside : IsFilling F → (e : Progress) (k : ℕ) → k < slot_blocks F e → slot_place F e k < (layout_of F e).image_blocks
+  slot_inside laws e k below = let whole = all_inside F laws e.p (commit_of e.epoch) in omega (arith, whole, below)
 
-pub items_fit : {C : Type 0} (F : FillingOf C) (I : ItemsOf C) → AreItems F I → ItemsFit F I
-items_fit F I a e c fits = fits_after F I a e c fits.same_p e.stage fits.stands
+  pub items_fit : (I : ItemsOf C) → AreItems F I → ItemsFit F I
+  items_fit I a e c fits = fits_after F I a e c fits.same_p e.stage fits.stands
 
--- after an item, the engine fits the controller, with this stage and this controller
-pub fits_then : {C : Type 0} (F : FillingOf C) (I : ItemsOf C) → AreItems F I → (e : Progress) (c d : C) (f : Progress) (stage : EngineStage) → Fits F I e c
-    → stage ≡ next_after F I e (item I e.stage c) → d ≡ control_after I (item I e.stage c) c → f ≡ record e { stage = stage } → Fits F I f d
-fits_then {C = C} F I a e c d f stage fits goes control is =
-    subst (λ (x : Progress). Fits F I x d) (sym is)
-    (subst (λ (q : EngineStage). Fits F I (record e { stage = q }) d) (sym goes)
-    (subst (λ (x : C). Fits F I (record e { stage = next_after F I e (item I e.stage c) }) x) (sym control) (items_fit F I a e c fits)))
+  -- after an item, the engine fits the controller, with this stage and this controller
+  pub fits_then : (I : ItemsOf C) → AreItems F I → (e : Progress) (c d : C) (f : Progress) (stage : EngineStage) → Fits F I e c
+      → stage ≡ next_after F I e (item I e.stage c) → d ≡ control_after I (item I e.stage c) c → f ≡ record e { stage = stage }
+      → Fits F I f d
+  fits_then I a e c d f stage fits goes control is =
+      subst (λ (x : Progress). Fits F I x d) (sym is)
+      (subst (λ (q : EngineStage). Fits F I (record e { stage = q }) d) (sym goes)
+      (subst (λ (x : C). Fits F I (record e { stage = next_after F I e (item I e.stage c) }) x) (sym control) (items_fit I a e c fits)))
 
--- a slot has the processor's record, so it has a block
-some_slot : {C : Type 0} (F : FillingOf C) → AreLayouts F.layouts → (e : Progress) → 0 < slot_blocks F e
-some_slot F laid e = let whole = (laid.slot e.p (commit_of e.epoch)).record_inside in omega (arith, whole)
+  -- a slot has the processor's record, so it has a block
+  some_slot : AreLayouts F.layouts → (e : Progress) → 0 < slot_blocks F e
+  some_slot laid e = let whole = (laid.slot e.p (commit_of e.epoch)).record_inside in omega (arith, whole)
 
-pub items_count : {C : Type 0} (F : FillingOf C) (I : ItemsOf C) → AreLayouts F.layouts → AreItems F I → ItemsCount F I
-items_count F I laid a e c fits way = counts F I a e c fits.same_p e.stage fits.inside (some_slot F laid e) fits.stands way
+  pub items_count : (I : ItemsOf C) → AreLayouts F.layouts → AreItems F I → ItemsCount F I
+  items_count I laid a e c fits way = counts F I a e c fits.same_p e.stage fits.inside (some_slot laid e) fits.stands way
 
 -- ---- a checkpoint takes few
 
@@ -125,7 +133,8 @@ items_count F I laid a e c fits way = counts F I a e c fits.same_p e.stage fits.
 after_tail : {C : Type 0} (I : ItemsOf C) (p : Parameters) → I.has_tail ≡ true → after_commit_left I p ≡ I.tail_left p 0 + 1
 after_tail I p follows = ap (λ (t : Bool). if t then I.tail_left p 0 + 1 else 0) follows
 
-module _ {C : Type 0} (F : FillingOf C) (I : ItemsOf C) (laid : AreLayouts F.layouts) (a : AreItems F I) (e : Progress) (c : C) (same : F.p c ≡ e.p) where
+module _ {C : Type 0} (F : FillingOf C) (I : ItemsOf C) (laid : AreLayouts F.layouts) (a : AreItems F I) (e : Progress) (c : C)
+    (same : F.p c ≡ e.p) where
   few : (q : EngineStage) → I.stands (phase_of q) c → left_at F I e q c ≤ most_cycles F I e.p
   few Idle stands = omega arith
   few (Body from) stands =

@@ -62,7 +62,8 @@ module _ {C : Type 0} (F : FillingOf C) (laws : IsFilling F) (p : Parameters) wh
   pub slot_inside : (commit : Block) → ly.slot_place commit + ly.slot_blocks commit ≤ ly.image_blocks
   slot_inside commit = (laws.laid.slot p commit).inside ly.image_blocks (long commit)
 
-  pub block_inside : (commit : Block) (k : ℕ) → commit ≡ commit_of 0 → k < ly.slot_blocks (commit_of 0) → ly.slot_place commit + k < ly.image_blocks
+  pub block_inside : (commit : Block) (k : ℕ) → commit ≡ commit_of 0 → k < ly.slot_blocks (commit_of 0)
+      → ly.slot_place commit + k < ly.image_blocks
   block_inside commit k is here = omega (arith, slot_inside commit, subst (λ (x : Block). k < ly.slot_blocks x) (sym is) here)
 
   pub head_inside : 1 < ly.image_blocks
@@ -144,7 +145,8 @@ module _ {C : Type 0} (F : FillingOf C) (laws : IsFilling F) (o : Origin) (can :
   start = first_of F o
 
   pub first-checkpoint : AreIssued (layout_for F o).image_blocks start.parts n start.memory start.parts.slot_blocks → Reads n 0 start.header
-      → IsOf o (layout_for F o) (next_image n start.commit) (start_mark o) × IsIssued (looked_by (layout_for F o)) n (next_image n start.commit)
+      → IsOf o (layout_for F o) (next_image n start.commit) (start_mark o)
+      × IsIssued (looked_by (layout_for F o)) n (next_image n start.commit)
       × (slot_in (layout_for F o) (next_image n start.commit) ≡ slot_of start.parts)
   first-checkpoint issued header =
       let next = checkpoint_is F laws o.geometry o.start can n issued header in (
@@ -212,7 +214,8 @@ module _ {C : Type 0} (F : FillingOf C) (laws : IsFilling F) (b : Booting) (c : 
 
   memory_apart : (k : ℕ) → k < parts.slot_blocks → ¬ Contains parts.memory (parts.slot_place + k)
   memory_apart k inside here =
-      of_each l (anew commit) (slot_anew l commit slot) (λ x. x ≢ parts.slot_place + k) (λ i low. places_new.apart i k low inside) (parts.slot_place + k)
+      of_each l (anew commit) (slot_anew l commit slot) (λ x. x ≢ parts.slot_place + k) (λ i low. places_new.apart i k low inside)
+      (parts.slot_place + k)
       (subst (λ (xs : List ℕ). Contains xs (parts.slot_place + k)) (sym is_the_same.places) here) refl
 
   pub placed_anew : ArePlaced l.image_blocks parts
@@ -274,10 +277,12 @@ module _ {C : Type 0} (F : FillingOf C) (laws : IsFilling F) (b : Booting) (c : 
 
   pub state_anew : (memory : List Block) → state_by l (slot_of parts) memory ≡ state_by l slot memory
   state_anew memory =
-      subst (λ (p : Parameters). state_from p (cpu_of_record p (slot_of parts)) memory ≡ state_from p (cpu_of_record p slot) memory) (sym (laws.laid.of b.p))
+      subst (λ (p : Parameters). state_from p (cpu_of_record p (slot_of parts)) memory ≡ state_from p (cpu_of_record p slot) memory)
+      (sym (laws.laid.of b.p))
       (ap (λ (cpu : CpuState). state_from b.p cpu memory) is_the_same.cpu)
 
-  module _ (n : Device) (header : header_bad l (newest n 0) true ≡ None) (all : AreIssued l.image_blocks parts n (F.loads c n) parts.slot_blocks) where
+  module _ (n : Device) (header : header_bad l (newest n 0) true ≡ None)
+      (all : AreIssued l.image_blocks parts n (F.loads c n) parts.slot_blocks) where
     no_fault : fault_of l ceiling true (newest n 0) (anew commit) (slot_of parts) ≡ None
     no_fault =
         all_none (header_bad l (newest n 0) true) (commit_bad ceiling (newest n 0) (anew commit)) (l.slot_bad ceiling (anew commit) (slot_of parts))

@@ -21,7 +21,8 @@ module _ {C : Type 0} (F : FillingOf C) (laws : IsFilling F) (o : Origin) (origi
   loaded-memory =
       laws.first_loads c n o.start loaded.fresh loaded.settled
       ∙ ap (λ (p : Parameters). map (newest n) (first_by F p o.start).parts.memory) same
-      ∙ (AreIssued-written (first_of F o) n loaded.stood (layout_for F o).image_blocks loaded.sized (first-whole F laws o.geometry o.start)).memory_is
+      ∙ (AreIssued-written (first_of F o) n loaded.stood (layout_for F o).image_blocks loaded.sized
+      (first-whole F laws o.geometry o.start)).memory_is
 
   pub loaded-state : state_from o.geometry (cpu_of o.start) (F.loads c n) ≡ at o o.start.count
   loaded-state =

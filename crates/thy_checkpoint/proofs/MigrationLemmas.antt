@@ -80,27 +80,32 @@ module _ {C : Type 0} (F : FillingOf C) (laws : IsFilling F) (o : Origin) (can :
   MadeThen None next = IsFirstImage o ly f next
 
   -- what holds then makes a boot of the run
-  pub sound_then : (b : Booting) (c : C) (h : BootImages) (m : Device) → F.fresh c → h.kept ≡ None → length m.image ≡ ly.image_blocks → (x : Option Round)
+  pub sound_then : (b : Booting) (c : C) (h : BootImages) (m : Device) → F.fresh c → h.kept ≡ None → length m.image ≡ ly.image_blocks
+      → (x : Option Round)
       → HasWrittenThen ws x m → MadeThen x h.next → IsSoundAt F o (loads_on x) h m b c
   sound_then b c h m fresh none sized (Some r) stood made = record { none = none; fresh = fresh; there = stood.0; made = made; stood = stood.1 }
   sound_then b c h m fresh none sized None stood made = record { fresh = fresh; sized = sized; settled = stood.1; made = made; stood = stood.0 }
 
-  module _ (g : BootImages) (n : Device) (r : Round) (inside : IsInRound ws.blocks r) (keeps : IsKeeping o ly (standing_in_boot o (Loads r) g n))
+  module _ (g : BootImages) (n : Device) (r : Round) (inside : IsInRound ws.blocks r)
+      (keeps : IsKeeping o ly (standing_in_boot o (Loads r) g n))
       (made : IsMade o ly f r g.next) (stood : HasWrittenBefore ws r n) where
     may_load : MayTake o ly (start_mark o) ws r g.before g.next n
     may_load = by_round r inside keeps made stood where
-      by_round : (r : Round) → IsInRound ws.blocks r → IsKeeping o ly (standing_in_boot o (Loads r) g n) → IsMade o ly f r g.next → HasWrittenBefore ws r n
+      by_round : (r : Round) → IsInRound ws.blocks r → IsKeeping o ly (standing_in_boot o (Loads r) g n) → IsMade o ly f r g.next
+          → HasWrittenBefore ws r n
           → MayTake o ly (start_mark o) ws r g.before g.next n
       by_round (Write k) inside keeps made stood = alone ly g.before (ws.place k) keeps.meant.0 (apart.elsewhere k inside)
       by_round Settle inside keeps made stood = let next = whole n keeps.sized stood in (next.0, next.1)
       by_round Commit inside keeps made stood = (
         made.commit,
-        subst (λ (b : Block). IsOneWordApart b ws.commit) (sym (nothing-stated ly ceiling g.before keeps.meant.0.0)) (one_word-first (commit_magic VersionTwo)),
+        subst (λ (b : Block). IsOneWordApart b ws.commit) (sym (nothing-stated ly ceiling g.before keeps.meant.0.0))
+            (one_word-first (commit_magic VersionTwo)),
       )
       by_round Confirm inside keeps made stood = (made.commit, stood.1)
 
     pub load_moves : (new : Device) → IsLeftBy (round_action ws r) n new
-        → Move o ly (standing_in_boot o (Loads r) g n) (standing_in_boot o (loads_on (next_round ws.blocks r)) (images_after f (Loads r) n g) new)
+        → Move o ly (standing_in_boot o (Loads r) g n)
+        (standing_in_boot o (loads_on (next_round ws.blocks r)) (images_after f (Loads r) n g) new)
     load_moves new left = then_stands (next_round ws.blocks r) (rounds_move o ly (start_mark o) ws r g.before g.next None n new may_load left) where
       then_stands : (x : Option Round)
           → Move o ly (standing_in_boot o (Loads r) g n)
@@ -170,7 +175,8 @@ module _ {C : Type 0} (F : FillingOf C) (laws : IsFilling F) where
       -- what is then before an action
       pub goes-to : (images : BootImages) (next : Round) → images.before ≡ g.before → images.kept ≡ g.kept
           → IsInRound (renewing F b).blocks next × AreIssuedBefore l.image_blocks (renewed_parts F b) (anew b.commit) next new (F.loads c n)
-          → IsMadeAnew o (layout_for F o) m (anew b.commit) (renewed_parts F b) next images.next new → IsMigrating F o next images new (at_stage (Migrates next) b) c
+          → IsMadeAnew o (layout_for F o) m (anew b.commit) (renewed_parts F b) next images.next new
+          → IsMigrating F o next images new (at_stage (Migrates next) b) c
       goes-to images next before kept issued made = record {
         m = m;
         kept = kept ∙ at-round.kept;
@@ -178,11 +184,13 @@ module _ {C : Type 0} (F : FillingOf C) (laws : IsFilling F) where
         version = at-round.version;
         there = issued.0;
         room = at-round.room;
-        listed = subst (λ (h : List Block). HasListed F h (at_stage (Migrates next) b) c) (sym before) (relist F (Migrates next) g.before b c at-round.listed);
+        listed = subst (λ (h : List Block). HasListed F h (at_stage (Migrates next) b) c) (sym before)
+            (relist F (Migrates next) g.before b c at-round.listed);
         whole = still.0;
         state = state-alike;
         header = header-alike;
-        issued = subst (λ (memory : List Block). AreIssuedBefore l.image_blocks (renewed_parts F b) (anew b.commit) next new memory) (sym still.1) issued.1;
+        issued = subst (λ (memory : List Block). AreIssuedBefore l.image_blocks (renewed_parts F b) (anew b.commit) next new memory)
+            (sym still.1) issued.1;
         made = made;
       }
 
@@ -220,7 +228,8 @@ module _ {C : Type 0} (F : FillingOf C) (laws : IsFilling F) where
 
     -- ---- the moves
 
-    may_take : (r : Round) (is : IsMigrating F o r g n b c) → IsKeeping o lay (standing_in_boot o (Migrates r) g n) → MayTake o lay is.m w r g.before g.next n
+    may_take : (r : Round) (is : IsMigrating F o r g n b c) → IsKeeping o lay (standing_in_boot o (Migrates r) g n)
+        → MayTake o lay is.m w r g.before g.next n
     may_take (Write k) is keeps = slot_spared F laws b c same g.before is.listed is.version k is.there
     may_take Settle is keeps = ((made is keeps).of, next-issued F laws b c same g.before is.listed is.version n is.header is.issued)
     may_take Commit is keeps =
@@ -228,7 +237,8 @@ module _ {C : Type 0} (F : FillingOf C) (laws : IsFilling F) where
         let meant : IsOf o lay g.before is.m = subst (λ (k : Option Mark). HasKept o lay g.before k) is.kept keeps.meant.0 in (
           new.commit_is,
           subst (IsOneWordApart (block_at g.before 1)) new.commit_is
-              (one_word-between lay ceiling g.before g.next is.m.epoch is.m.epoch (at o is.m.count) (at o is.m.count) meant.decodes new.of.decodes (inr refl)),
+              (one_word-between lay ceiling g.before g.next is.m.epoch is.m.epoch (at o is.m.count)
+              (at o is.m.count) meant.decodes new.of.decodes (inr refl)),
         )
     may_take Confirm is keeps = (is.made.0.commit_is, is.issued.1)
 
@@ -250,9 +260,11 @@ module _ {C : Type 0} (F : FillingOf C) (laws : IsFilling F) where
         (rounds_move o lay is.m w r g.before g.next (Some is.m) n x (may_take r is keeps) left)))
 
     pub migration_fails : (r : Round) → IsMigrating F o r g n b c → IsKeeping o lay (standing_in_boot o (Migrates r) g n) → (new : Device)
-        → FailsTo (round_action w r) n new → IsFramed n new → Move o lay (standing_in_boot o (Migrates r) g n) (standing_after_fault o (Migrates r) g new)
+        → FailsTo (round_action w r) n new → IsFramed n new
+        → Move o lay (standing_in_boot o (Migrates r) g n) (standing_after_fault o (Migrates r) g new)
     migration_fails r is keeps new failed framed =
-        subst (λ (k : Option Mark). Move o lay (standing n (saved_in r g.before g.next) k k) (standing new (saved_after_fault r g.before g.next) k k)) (sym is.kept)
+        subst (λ (k : Option Mark). Move o lay (standing n (saved_in r g.before g.next) k k)
+        (standing new (saved_after_fault r g.before g.next) k k)) (sym is.kept)
         (failed_rounds_move o lay is.m w r g.before g.next (Some is.m) n new (may_take r is keeps) failed framed)
 
     -- ---- where the boot is then
@@ -270,10 +282,12 @@ module _ {C : Type 0} (F : FillingOf C) (laws : IsFilling F) where
     issued_then : (r : Round) (new : Device) → IsLeftBy (round_action w r) n new → (is : IsMigrating F o r g n b c)
         → AreIssuedThen lay.image_blocks (renewed_parts F b) new_commit (next_round w.blocks r) new (F.loads c n)
     issued_then r new left is =
-        rounds_issue lay.image_blocks (renewed_parts F b) new_commit (placed_anew F laws b c same g.before is.listed is.version) r n new (F.loads c n) is.there
+        rounds_issue lay.image_blocks (renewed_parts F b) new_commit (placed_anew F laws b c same g.before is.listed is.version) r n new
+        (F.loads c n) is.there
         is.issued left
 
-    migrates_to : (r : Round) (new : Device) → IsLeftBy (round_action w r) n new → (is : IsMigrating F o r g n b c) → length n.image ≡ lay.image_blocks
+    migrates_to : (r : Round) (new : Device) → IsLeftBy (round_action w r) n new → (is : IsMigrating F o r g n b c)
+        → length n.image ≡ lay.image_blocks
         → (images : BootImages) (q : Round) → images.before ≡ g.before → images.kept ≡ g.kept
         → IsInRound w.blocks q × AreIssuedBefore lay.image_blocks (renewed_parts F b) new_commit q new (F.loads c n)
         → IsMadeAnew o lay is.m new_commit (renewed_parts F b) q images.next new
@@ -367,7 +381,8 @@ module _ {C : Type 0} (F : FillingOf C) (laws : IsFilling F) where
 
   -- ---- drains
 
-  module _ (o : Origin) (b : Booting) (c : C) (same : F.p c ≡ b.p) (g : BootImages) (n : Device) (sized : length n.image ≡ (layout_in F b).image_blocks) where
+  module _ (o : Origin) (b : Booting) (c : C) (same : F.p c ≡ b.p) (g : BootImages) (n : Device)
+      (sized : length n.image ≡ (layout_in F b).image_blocks) where
     made-drained : (m : Mark) (r : Round) → IsMadeAnew o (layout_for F o) m (anew b.commit) (renewed_parts F b) r g.next n
         → IsMadeAnew o (layout_for F o) m (anew b.commit) (renewed_parts F b) r g.next (drained n)
     made-drained m Commit h = (h.0, next-drained n (anew b.commit) ∙ h.1)
@@ -388,7 +403,8 @@ module _ {C : Type 0} (F : FillingOf C) (laws : IsFilling F) where
           whole = (still o b c same g n r at-round sized (drained n) alike).0;
           state = state-alike o b c same g n r at-round sized (drained n) alike;
           header = header-alike o b c same g n r at-round sized (drained n) alike;
-          issued = issued_over (layout_in F b).image_blocks (renewed_parts F b) (renewed_parts F b) (anew b.commit) r n (drained n) (F.loads c n) (F.loads c (drained n))
+          issued = issued_over (layout_in F b).image_blocks (renewed_parts F b) (renewed_parts F b) (anew b.commit) r n (drained n)
+              (F.loads c n) (F.loads c (drained n))
               refl at-round.there
               (λ k few h. subst (λ (memory : List Block). AreIssued (layout_in F b).image_blocks (renewed_parts F b) (drained n) memory k)
               (sym (still o b c same g n r at-round sized (drained n) alike).1)

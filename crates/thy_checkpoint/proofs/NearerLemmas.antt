@@ -49,12 +49,14 @@ module _ {C : Type 0} (F : FillingOf C) (laws : IsFilling F) where
 
   pub nearer_header : (b : Booting) (block : Block) → IsNearer F b Header (at_stage (after_header (layout_in F b) block b) b)
   nearer_header b block = by_fault (head_fault (layout_in F b) block b.commit) where
-    by_fault : (o : Option BadImage) → boot_left F (at_stage (after_header (layout_in F b) block b) b) (refusing_or o (Reads (Slot 0))) < reads_left F b Header
+    by_fault : (o : Option BadImage)
+        → boot_left F (at_stage (after_header (layout_in F b) block b) b) (refusing_or o (Reads (Slot 0))) < reads_left F b Header
     by_fault None = omega (arith, room b)
     by_fault (Some bad) = omega arith
 
   -- what is left with all filled
-  filled_left : (b : Booting) (v : LayoutVersion) → boot_left F b (filled_by v) ≤ migration_by v ((layout_in F b).slot_blocks (anew b.commit))
+  filled_left : (b : Booting) (v : LayoutVersion)
+      → boot_left F b (filled_by v) ≤ migration_by v ((layout_in F b).slot_blocks (anew b.commit))
   filled_left b VersionOne = omega arith
   filled_left b VersionTwo = omega arith
 
@@ -66,7 +68,8 @@ module _ {C : Type 0} (F : FillingOf C) (laws : IsFilling F) where
     by_next None e = omega (arith, filled_left b (version_in F b))
     by_next (Some k) e = let above = laws.above b.p b.commit (slot_read F b) from k e in omega (arith, above.0)
 
-  pub nearer_slot : (b : Booting) (k : ℕ) → k < (layout_in F b).slot_blocks b.commit → boot_left F (gone_on F k b) (gone_on F k b).stage < reads_left F b (Slot k)
+  pub nearer_slot : (b : Booting) (k : ℕ) → k < (layout_in F b).slot_blocks b.commit
+      → boot_left F (gone_on F k b) (gone_on F k b).stage < reads_left F b (Slot k)
   nearer_slot b k inside = by_test (has_more F k b) where
     by_fault : (o : Option BadImage) → boot_left F (gone_on F k b) (refusing_or o (filling_from F 0 b)) < reads_left F b (Slot k)
     by_fault None =
@@ -80,7 +83,8 @@ module _ {C : Type 0} (F : FillingOf C) (laws : IsFilling F) where
 
   pub nearer_fill : (b : Booting) (k : ℕ) → k < F.most_fills b.p → IsNearer F b (Fills k) (at_stage (filling_from F (k + 1) b) b)
   nearer_fill b k inside =
-      let less : boot_left F (at_stage (filling_from F (k + 1) b) b) (filling_from F (k + 1) b) ≤ F.most_fills b.p - (k + 1) + (numbers_of F b).migration
+      let less : boot_left F (at_stage (filling_from F (k + 1) b) b) (filling_from F (k + 1) b)
+      ≤ F.most_fills b.p - (k + 1) + (numbers_of F b).migration
       = nearer_next b (k + 1) in
       omega (arith, inside, less)
 

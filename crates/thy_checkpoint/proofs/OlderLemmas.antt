@@ -27,7 +27,8 @@ unknown scheme p some = ne_eqb (last_word scheme p) 0 (λ e. omega (arith, e, so
 pub never_older : (scheme : ℕ) (p : Parameters) (commit : Block) → 0 < scheme → version_of scheme p commit ≡ VersionOne → ⊥
 never_older scheme p commit some is =
     by_word (word_of commit 0 == commit_magic VersionOne)
-    (ap (λ (known : Bool). if word_of commit 0 == commit_magic VersionOne && known then VersionOne else VersionTwo) (sym (unknown scheme p some)) ∙ is)
+    (ap (λ (known : Bool). if word_of commit 0 == commit_magic VersionOne && known then VersionOne else VersionTwo)
+    (sym (unknown scheme p some)) ∙ is)
 
 pub numbered_never_migrate : {C : Type 0} (F : FillingOf C) → NumberedNeverMigrate F
 numbered_never_migrate F o g n b c some sound = by_stage b.stage sound.so_far where

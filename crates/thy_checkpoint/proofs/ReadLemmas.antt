@@ -44,14 +44,16 @@ decode-fault : (l : Layout) (g : List Block) (commit : Block) (o : Option BadIma
 unfolding decode_by
 decode-fault l g commit o c long h =
     ap (λ (b : Block). if is_zero b then Nothing
-    else refused_or_at (fault_of l ceiling (is_sized l g) (block_at g 0) b (slot_in l g)) (epoch_of b) (state_by l (slot_in l g) (memory_in l g))) c.is
+    else refused_or_at (fault_of l ceiling (is_sized l g) (block_at g 0) b (slot_in l g)) (epoch_of b)
+    (state_by l (slot_in l g) (memory_in l g))) c.is
     ∙ (λ i. if c.committed i then Nothing
     else refused_or_at ((ap (λ t. fault_of l ceiling t (block_at g 0) commit (slot_in l g)) (sized_if_long l g long) ∙ h) i)
     (epoch_of commit) (state_by l (slot_in l g) (memory_in l g)))
 
 module _ {C : Type 0} (F : FillingOf C) where
   -- what a boot has read once it read the commit block
-  pub commit-found : (n : Device) (b : Booting) (c : C) → b.stage ≡ Reads Unread → HasRead F n b c → HasRead F n (after_commit (newest n 1) b) c
+  pub commit-found : (n : Device) (b : Booting) (c : C) → b.stage ≡ Reads Unread → HasRead F n b c
+      → HasRead F n (after_commit (newest n 1) b) c
   commit-found n b c is h = record { same_p = h.same_p; sized = h.sized; settled = h.settled; so_far = by_zero (is_zero (newest n 1)) refl } where
     fresh : F.fresh c
     fresh = subst (λ (s : Stage). HasReadAt F s n b c) is h.so_far
@@ -59,7 +61,8 @@ module _ {C : Type 0} (F : FillingOf C) where
     there : newest n 1 ≡ block_at n.image 1
     there = newest-empty n 1 h.settled
 
-    by_zero : (z : Bool) → is_zero (newest n 1) ≡ z → HasReadAt F (if z then Loads (Write 0) else Reads Header) n (after_commit (newest n 1) b) c
+    by_zero : (z : Bool) → is_zero (newest n 1) ≡ z
+        → HasReadAt F (if z then Loads (Write 0) else Reads Header) n (after_commit (newest n 1) b) c
     by_zero true e = (fresh, decode_by-zero (layout_in F b) ceiling n.image (ap is_zero (sym there) ∙ e), refl)
     by_zero false e = (fresh, record { committed = e; is = sym there })
 
@@ -91,7 +94,8 @@ module _ {C : Type 0} (F : FillingOf C) where
     }
 
   -- the whole slot, judged: it is refused, or, listed by the controller, filled or restored
-  module _ (n : Device) (b : Booting) (c : C) (laws : IsFilling F) (same : F.p c ≡ b.p) (settled : n.queue ≡ []) (sized : length n.image ≡ (layout_in F b).image_blocks)
+  module _ (n : Device) (b : Booting) (c : C) (laws : IsFilling F) (same : F.p c ≡ b.p) (settled : n.queue ≡ [])
+      (sized : length n.image ≡ (layout_in F b).image_blocks)
       (head : HasHead (layout_in F b) n.image b.commit) (whole : slot_read F b ≡ slot_in (layout_in F b) n.image)
       (room : length b.slot ≡ 64 * (layout_in F b).most_slot) where
     abbrev l : Layout
@@ -104,19 +108,22 @@ module _ {C : Type 0} (F : FillingOf C) where
         → decode_by l ceiling n.image ≡ refused_or_at o (epoch_of b.commit) (state_by l (slot_in l n.image) (memory_in l n.image))
     meaning o e =
         decode-fault l n.image b.commit o head.commit_is sized
-        (last_one (header_bad l (block_at n.image 0) true) (commit_bad ceiling (block_at n.image 0) b.commit) (l.slot_bad ceiling b.commit (slot_in l n.image)) o
+        (last_one (header_bad l (block_at n.image 0) true) (commit_bad ceiling (block_at n.image 0) b.commit)
+        (l.slot_bad ceiling b.commit (slot_in l n.image)) o
         head.header_fits head.commit_fits (ap (l.slot_bad ceiling b.commit) (sym whole) ∙ e))
 
     pub refused : (bad : BadImage) → slot_fault F b ≡ Some bad → decode_by l ceiling n.image ≡ IsRefused bad
     refused bad e = meaning (Some bad) e
 
     -- what a boot has read that fills from a position on
-    pub filling-found : (from : ℕ) → slot_fault F b ≡ None → F.lists b.commit slot c → F.filled c n from → HasReadAt F (filling_from F from b) n b c
+    pub filling-found : (from : ℕ) → slot_fault F b ≡ None → F.lists b.commit slot c → F.filled c n from
+        → HasReadAt F (filling_from F from b) n b c
     filling-found from fits lists filled = by_next (F.next_fill b.p b.commit slot from) refl where
       listed : HasListed F n.image b c
       listed = record { head = head; slot_is = whole; slot_fits = fits; lists = lists }
 
-      by_version : (v : LayoutVersion) → version_in F b ≡ v → IsRestored F n b c → F.loads c n ≡ memory_in l n.image → HasReadAt F (filled_by v) n b c
+      by_version : (v : LayoutVersion) → version_in F b ≡ v → IsRestored F n b c → F.loads c n ≡ memory_in l n.image
+          → HasReadAt F (filled_by v) n b c
       by_version VersionOne is restored memory = record { restored = restored; memory = memory; room = room; version = is; first = refl }
       by_version VersionTwo is restored memory =
           let two : version_of l.scheme l.p b.commit ≡ VersionTwo = ap (λ p. version_of l.scheme p b.commit) (laws.laid.of b.p) ∙ is in
@@ -166,7 +173,8 @@ module _ {C : Type 0} (F : FillingOf C) where
 
   -- a position was filled with what its read gave
   pub fill-found : (n : Device) (b : Booting) (c : C) (k : ℕ) → IsFilling F → length b.slot ≡ 64 * (layout_in F b).most_slot
-      → b.stage ≡ Reads (Fills k) → HasRead F n b c → HasRead F n (at_stage (filling_from F (k + 1) b) b) (F.with_fill b.commit k (newest n (F.fill_place c b.commit k)) c)
+      → b.stage ≡ Reads (Fills k) → HasRead F n b c
+      → HasRead F n (at_stage (filling_from F (k + 1) b) b) (F.with_fill b.commit k (newest n (F.fill_place c b.commit k)) c)
   fill-found n b c k laws room is h =
       let had : HasReadAt F (Reads (Fills k)) n b c = subst (λ (s : Stage). HasReadAt F s n b c) is h.so_far in
       let listed : HasListed F n.image b c = had.0 in
@@ -184,7 +192,8 @@ module _ {C : Type 0} (F : FillingOf C) where
       }
 
   -- a block of the slot was kept, and with the last of them the slot was judged
-  module _ (n : Device) (b : Booting) (c d : C) (k : ℕ) (laws : IsFilling F) (boot : IsBoot F b) (is : b.stage ≡ Reads (Slot k)) (h : HasRead F n b c)
+  module _ (n : Device) (b : Booting) (c d : C) (k : ℕ) (laws : IsFilling F) (boot : IsBoot F b) (is : b.stage ≡ Reads (Slot k))
+      (h : HasRead F n b c)
       (long : length (newest n ((layout_in F b).slot_place b.commit + k)).0 ≡ 64) where
     abbrev lay : Layout
     lay = layout_in F b
@@ -247,6 +256,7 @@ module _ {C : Type 0} (F : FillingOf C) where
         }
 
   -- what a new boot has read
-  pub HasRead-new : (p : Parameters) (n : Device) (c : C) → F.fresh c → F.p c ≡ p → length n.image ≡ (layout_in F (new_boot F p)).image_blocks → n.queue ≡ []
+  pub HasRead-new : (p : Parameters) (n : Device) (c : C) → F.fresh c → F.p c ≡ p
+      → length n.image ≡ (layout_in F (new_boot F p)).image_blocks → n.queue ≡ []
       → HasRead F n (new_boot F p) c
   HasRead-new p n c fresh same sized settled = record { same_p = same; sized = sized; settled = settled; so_far = fresh }

@@ -59,7 +59,8 @@ module _ {C : Type 0} (F : FillingOf C) (laws : IsFilling F) where
 
   pub sound_may_step : SoundMayStep F
   sound_may_step o g n b c origin sound going up = by_stage b.stage sound.so_far sound.keeps going where
-    by_stage : (q : Stage) → IsSoundAt F o q g n b c → IsKeeping o (layout_for F o) (standing_in_boot o q g n) → IsGoing q → CanStepAt F q o.start n b c
+    by_stage : (q : Stage) → IsSoundAt F o q g n b c → IsKeeping o (layout_for F o) (standing_in_boot o q g n) → IsGoing q
+        → CanStepAt F q o.start n b c
     by_stage (Reads stage) at k going = at.read
     by_stage (Loads r) at k going = record {
       start = subst (λ (p : Parameters). CanStart p o.start) (sym sound.geometry) (CanStart-origin o origin);
@@ -77,14 +78,20 @@ module _ {C : Type 0} (F : FillingOf C) (laws : IsFilling F) where
   -- after an action of loading or of a migration the next one may be taken
   load_on : (s : State) (b : Booting) (c : C) (x : Device) (q : Option Round) → CanStart b.p s
       → ((r : Round) → q ≡ Some r → IsInRound (first_writes (first_by F b.p s)).blocks r)
-      → length x.image ≡ (layout_in F b).image_blocks → x.down ≡ false → IsGoing (loads_on q) → CanStepAt F (loads_on q) s x (at_stage (loads_on q) b) c
+      → length x.image ≡ (layout_in F b).image_blocks → x.down ≡ false → IsGoing (loads_on q)
+      → CanStepAt F (loads_on q) s x (at_stage (loads_on q) b) c
   load_on s b c x (Some r) start there sized up going = record { start = start; there = there r refl; sized = sized; up = up }
   load_on s b c x None start there sized up going = absurd going
 
-  migration_on : (s : State) (b : Booting) (c : C) (r : Round) (x : Device) → IsInRound (renewing F b).blocks r → length x.image ≡ (layout_in F b).image_blocks
+  migration_on : (s : State) (b : Booting) (c : C) (r : Round) (x : Device) → IsInRound (renewing F b).blocks r
+      → length x.image ≡ (layout_in F b).image_blocks
       → x.down ≡ false → IsGoing (migrated_by F r b).stage → CanStepAt F (migrated_by F r b).stage s x (migrated_by F r b) c
   migration_on s b c (Write k) x there sized up going =
-      record { there = next_by (λ (q : Round). IsInRound (renewing F b).blocks q) k (renewing F b).blocks (λ more. more) (λ last. tt); sized = sized; up = up }
+      record {
+        there = next_by (λ (q : Round). IsInRound (renewing F b).blocks q) k (renewing F b).blocks (λ more. more) (λ last. tt);
+        sized = sized;
+        up = up;
+      }
   migration_on s b c Confirm x there sized up going = absurd going
   migration_on s b c r x there sized up going = record { there = tt; sized = sized; up = up }
 
@@ -122,7 +129,8 @@ module _ {C : Type 0} (F : FillingOf C) (laws : IsFilling F) where
         let still : m.down ≡ false = down-after (round_action w r) n m l.device ∙ up in
         let going_q : IsGoing q = subst (λ (y : Booting). IsGoing y.stage) l.boot going in
         let next : CanStepAt F q s m (at_stage q b) c
-        = load_on s b c m (next_round w.blocks r) start (λ y e. next_inside w.blocks r y e) (length-after (round_action w r) n m l.device ∙ can.sized) still going_q in (
+        = load_on s b c m (next_round w.blocks r) start (λ y e. next_inside w.blocks r y e)
+        (length-after (round_action w r) n m l.device ∙ can.sized) still going_q in (
           ap (λ (y : Booting). y.p) l.boot,
           still,
           coe 1 0 (i. CanStepAt F (l.boot i).stage s m (l.boot i) (l.control i)) next,
@@ -163,7 +171,8 @@ module _ {C : Type 0} (F : FillingOf C) (laws : IsFilling F) where
     abbrev IsSafe : Option Mark → Option Mark → Type 0
     IsSafe done doubt = Safe (reading F.layouts) o done doubt n
 
-    reads : (kept : Option Mark) → IsSafe kept None → IsSafe (finding_view o.start.count kept).done (doubt_of (finding_view o.start.count kept))
+    reads : (kept : Option Mark) → IsSafe kept None
+        → IsSafe (finding_view o.start.count kept).done (doubt_of (finding_view o.start.count kept))
     reads None safe = safe
     reads (Some m) safe = safe
 
@@ -184,7 +193,8 @@ module _ {C : Type 0} (F : FillingOf C) (laws : IsFilling F) where
     migrating None s k = subst (λ (x : Option Mark). IsSafe None x) (none-in s) (Safe-kept F.layouts o n s None None k)
     migrating (Some m) s k = Safe-same (reading F.layouts) o m n (Safe-sealed F.layouts o n s (Some m) (Some m) k)
 
-    safe_at : (q : Stage) → IsKeeping o (layout_for F o) (standing_in_boot o q g n) → IsSafe (seen_at o g.kept q).done (doubt_of (seen_at o g.kept q))
+    safe_at : (q : Stage) → IsKeeping o (layout_for F o) (standing_in_boot o q g n)
+        → IsSafe (seen_at o g.kept q).done (doubt_of (seen_at o g.kept q))
     safe_at (Reads at) k = reads g.kept (kept k)
     safe_at (Loads (Write j)) k = loading (Write j) k
     safe_at (Loads r) k = loading r k
@@ -197,7 +207,8 @@ module _ {C : Type 0} (F : FillingOf C) (laws : IsFilling F) where
 
   -- ---- steps that failed
 
-  fails_read : (o : Origin) (g : BootImages) (n m : Device) → HasFailed n m → IsFramed n m → Move o (layout_for F o) (reading_of o g n) (reading_of o g m)
+  fails_read : (o : Origin) (g : BootImages) (n m : Device) → HasFailed n m → IsFramed n m
+      → Move o (layout_for F o) (reading_of o g n) (reading_of o g m)
   fails_read o g n m failed framed =
       Goes (Kept g.before) g.kept (sealed_by o g.kept) n m (Spares-failed (guarded (looked_by (layout_for F o)) (Kept g.before)) n m failed framed)
 
@@ -212,7 +223,8 @@ module _ {C : Type 0} (F : FillingOf C) (laws : IsFilling F) where
   read_failed b c r n m f = f
 
   -- after a read of the boot that failed, what is kept is safe
-  seen_safe : (o : Origin) (m : Device) (a : Action) (kept : Option Mark) → is_commit_write a ≡ false → Safe (reading F.layouts) o kept None m
+  seen_safe : (o : Origin) (m : Device) (a : Action) (kept : Option Mark) → is_commit_write a ≡ false
+      → Safe (reading F.layouts) o kept None m
       → Safe (reading F.layouts) o (finding_view o.start.count kept).done (doubt_after_fault a (finding_view o.start.count kept)) m
   seen_safe o m a None spared safe =
       subst (λ (b : Bool). Safe (reading F.layouts) o None (if b || false then Some (start_mark o) else None) m) (sym spared) safe
@@ -224,7 +236,8 @@ module _ {C : Type 0} (F : FillingOf C) (laws : IsFilling F) where
       Move o (layout_for F o) (standing_in_boot o q g n) (standing_after_fault o q g m)
       × Safe (reading F.layouts) o (seen_at o g.kept q).done (doubt_after_fault a (seen_at o g.kept q)) m
 
-  read_failure : (o : Origin) (g : BootImages) (n m : Device) (a : Action) → is_commit_write a ≡ false → IsKeeping o (layout_for F o) (reading_of o g n) → HasFailed n m → IsFramed n m
+  read_failure : (o : Origin) (g : BootImages) (n m : Device) (a : Action) → is_commit_write a ≡ false
+      → IsKeeping o (layout_for F o) (reading_of o g n) → HasFailed n m → IsFramed n m
       → Move o (layout_for F o) (reading_of o g n) (reading_of o g m)
       × Safe (reading F.layouts) o (finding_view o.start.count g.kept).done (doubt_after_fault a (finding_view o.start.count g.kept)) m
   read_failure o g n m a spared k failed framed =
@@ -243,7 +256,8 @@ module _ {C : Type 0} (F : FillingOf C) (laws : IsFilling F) where
     loading_doubt (Write k) inside = elsewhere o (w.place k) ((apart F laws o starts).elsewhere k inside)
     loading_doubt r inside = refl
 
-    load_failure : (n m : Device) (r : Round) (c : C) → IsLoading F o r g n c → IsKeeping o (layout_for F o) (standing_in_boot o (Loads r) g n)
+    load_failure : (n m : Device) (r : Round) (c : C) → IsLoading F o r g n c
+        → IsKeeping o (layout_for F o) (standing_in_boot o (Loads r) g n)
         → FailsTo (round_action w r) n m → IsFramed n m → Failure o g n (Loads r) (round_action w r) m
     load_failure n m r c at k failed framed =
         let move = load_fails F laws o starts g n r at.there k at.made at.stood m failed framed in
@@ -254,7 +268,8 @@ module _ {C : Type 0} (F : FillingOf C) (laws : IsFilling F) where
 
   -- a migration's action that failed
   migration_failure : (o : Origin) (g : BootImages) (n m : Device) (b : Booting) (c : C) (r : Round) → F.p c ≡ o.geometry → b.p ≡ o.geometry
-      → IsMigrating F o r g n b c → IsKeeping o (layout_for F o) (standing_in_boot o (Migrates r) g n) → FailsTo (round_action (renewing F b) r) n m → IsFramed n m
+      → IsMigrating F o r g n b c → IsKeeping o (layout_for F o) (standing_in_boot o (Migrates r) g n)
+      → FailsTo (round_action (renewing F b) r) n m → IsFramed n m
       → Failure o g n (Migrates r) (round_action (renewing F b) r) m
   migration_failure o g n m b c r same geometry there k failed framed =
       let a : Action = round_action (renewing F b) r in
@@ -270,7 +285,8 @@ module _ {C : Type 0} (F : FillingOf C) (laws : IsFilling F) where
       let safe : Safe (reading F.layouts) o (Some there.m) None m
       = Safe-same (reading F.layouts) o there.m m (Safe-sealed F.layouts o m s (Some there.m) (Some there.m) both) in (
         move,
-        subst (λ (x : Option Mark). Safe (reading F.layouts) o (finding_view o.start.count x).done (doubt_after_fault a (finding_view o.start.count x)) m)
+        subst (λ (x : Option Mark). Safe (reading F.layouts) o (finding_view o.start.count x).done
+            (doubt_after_fault a (finding_view o.start.count x)) m)
             (sym there.kept) (subst (λ x. Safe (reading F.layouts) o (Some there.m) x m) (none-either (is_commit_write a || false)) safe),
       )
 
@@ -299,7 +315,8 @@ module _ {C : Type 0} (F : FillingOf C) (laws : IsFilling F) where
 
   -- how the view changes while the program is loaded
   load_shows : (o : Origin) (kept : Option Mark) (blocks : ℕ) (r : Round) (d : Booting)
-      → CoreStep o (seen_at o kept (Loads r)) (boot_did (answer_at F (loads_on (next_round blocks r)) d)) (seen_at o kept (loads_on (next_round blocks r)))
+      → CoreStep o (seen_at o kept (Loads r)) (boot_did (answer_at F (loads_on (next_round blocks r)) d))
+      (seen_at o kept (loads_on (next_round blocks r)))
   load_shows o kept blocks (Write k) d =
       next_by (λ (q : Round). CoreStep o (seen_at o kept (Loads (Write k))) (boot_did (answer_at F (Loads q) d)) (seen_at o kept (Loads q))) k blocks
       (λ more. (refl, inl refl)) (λ last. (refl, inl refl))
@@ -307,8 +324,10 @@ module _ {C : Type 0} (F : FillingOf C) (laws : IsFilling F) where
   load_shows o kept blocks Confirm d = record { phase = refl; none = refl; written = refl; sealed = refl; becomes = refl }
   load_shows o kept blocks r d = (refl, inl refl)
 
-  module _ (o : Origin) (starts : CanStart o.geometry o.start) (g : BootImages) (n : Device) (b : Booting) (c : C) (geometry : b.p ≡ o.geometry) where
-    read_outcome : (r : ReadStage) (m : Device) (d : Booting) (e : C) → IsRecovering F g n b c → IsKeeping o (layout_for F o) (reading_of o g n)
+  module _ (o : Origin) (starts : CanStart o.geometry o.start) (g : BootImages) (n : Device) (b : Booting) (c : C)
+      (geometry : b.p ≡ o.geometry) where
+    read_outcome : (r : ReadStage) (m : Device) (d : Booting) (e : C) → IsRecovering F g n b c
+        → IsKeeping o (layout_for F o) (reading_of o g n)
         → ReadsOn F r n b c m d e → Outcome o g n (Reads r) m d e
     read_outcome r m d e rec k on =
         let before_is : g.before ≡ m.image = rec.before_is ∙ ap (λ (x : Device). x.image) (sym on.device) in
@@ -343,7 +362,8 @@ module _ {C : Type 0} (F : FillingOf C) (laws : IsFilling F) where
             geometry = geometry;
             same_p = same;
             keeps = IsKeeping-move o (layout_for F o) (standing_in_boot o (Loads r) g n) (standing_in_boot o q h m) move k;
-            so_far = sound_then F laws o starts (at_stage q b) c h m at.fresh at.none (length-after (round_action ws r) n m left ∙ k.sized) (next_round ws.blocks r)
+            so_far = sound_then F laws o starts (at_stage q b) c h m at.fresh at.none (length-after (round_action ws r) n m left ∙ k.sized)
+                (next_round ws.blocks r)
                 (rounds_write ws (layout_for F o).image_blocks r n m (apart F laws o starts) k.sized at.there at.stood
                 (after-is (round_action ws r) n m left))
                 (made_on F laws o starts g n r at.there k at.made at.stood);
@@ -357,7 +377,8 @@ module _ {C : Type 0} (F : FillingOf C) (laws : IsFilling F) where
         let q : Stage = loads_on (next_round ws.blocks r) in
         let left : IsAfter (round_action ws r) n m
         = subst (λ (p : Parameters). IsAfter (round_action (first_writes (first_by F p o.start)) r) n m) geometry l.device in
-        let d_is : d ≡ at_stage q b = l.boot ∙ ap (λ (p : Parameters). at_stage (loads_on (next_round (first_writes (first_by F p o.start)).blocks r)) b) geometry in
+        let d_is : d ≡ at_stage q b = l.boot
+        ∙ ap (λ (p : Parameters). at_stage (loads_on (next_round (first_writes (first_by F p o.start)).blocks r)) b) geometry in
         coe 1 0 (i. Outcome o g n (Loads r) m (d_is i) (l.control i)) (load_outcome same r m left at k)
 
   -- an action of a migration
@@ -371,11 +392,14 @@ module _ {C : Type 0} (F : FillingOf C) (laws : IsFilling F) where
 
     migration_shows : (b : Booting) → b.p ≡ o.geometry → IsKeeping o (layout_for F o) (then_at b)
         → IsSoundAt F o (migrated_by F r b).stage images new (migrated_by F r b) c
-        → CoreStep o (seen_at o g.kept (Migrates r)) (boot_did (answer_of F (migrated_by F r b))) (seen_at o g.kept (migrated_by F r b).stage)
+        → CoreStep o (seen_at o g.kept (Migrates r)) (boot_did (answer_of F (migrated_by F r b)))
+        (seen_at o g.kept (migrated_by F r b).stage)
     migration_shows b geometry = by_round r where
       by_round : (k : Round) → (let h : BootImages = images_after (first_of F o) (Migrates k) n g in
-          IsKeeping o (layout_for F o) (standing_in_boot o (migrated_by F k b).stage h new) → IsSoundAt F o (migrated_by F k b).stage h new (migrated_by F k b) c
-          → CoreStep o (seen_at o g.kept (Migrates k)) (boot_did (answer_of F (migrated_by F k b))) (seen_at o g.kept (migrated_by F k b).stage))
+          IsKeeping o (layout_for F o) (standing_in_boot o (migrated_by F k b).stage h new)
+          → IsSoundAt F o (migrated_by F k b).stage h new (migrated_by F k b) c
+          → CoreStep o (seen_at o g.kept (Migrates k)) (boot_did (answer_of F (migrated_by F k b)))
+          (seen_at o g.kept (migrated_by F k b).stage))
       by_round Confirm keeps sound =
           shows F laws o (images_after (first_of F o) (Migrates Confirm) n g) new (migrated_by F Confirm b) c
           sound.before_is geometry keeps.meant sound.read (Over Restored) sound.read.so_far
@@ -398,7 +422,8 @@ module _ {C : Type 0} (F : FillingOf C) (laws : IsFilling F) where
           migration_shows b geometry keeps on.1,
         )
 
-    pub migration_outcome_is : (b d : Booting) (e : C) → b.p ≡ o.geometry → IsKeeping o (layout_for F o) (standing_in_boot o (Migrates r) g n)
+    pub migration_outcome_is : (b d : Booting) (e : C) → b.p ≡ o.geometry
+        → IsKeeping o (layout_for F o) (standing_in_boot o (Migrates r) g n)
         → IsMigrating F o r g n b c → MigratesOn F r n b c new d e → Outcome o g n (Migrates r) new d e
     migration_outcome_is b d e geometry k there l =
         coe 1 0 (i. Outcome o g n (Migrates r) new (l.boot i) (l.control i))
@@ -412,7 +437,8 @@ module _ {C : Type 0} (F : FillingOf C) (laws : IsFilling F) where
       starts : CanStart o.geometry o.start
       starts = CanStart-origin o origin
 
-      by_stage : (q : Stage) → IsSoundAt F o q g n b c → IsKeeping o (layout_for F o) (standing_in_boot o q g n) → StepsAt F q o.start n b c m d e
+      by_stage : (q : Stage) → IsSoundAt F o q g n b c → IsKeeping o (layout_for F o) (standing_in_boot o q g n)
+          → StepsAt F q o.start n b c m d e
           → Outcome o g n q m d e
       by_stage (Reads r) at k on = read_outcome o starts g n b c sound.geometry r m d e at k on
       by_stage (Loads r) at k l = load_outcome_is o starts g n b c sound.geometry sound.same_p r m d e at k l

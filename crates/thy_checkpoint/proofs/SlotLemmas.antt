@@ -37,18 +37,22 @@ take_here xs ys zs b n inside size =
     ap (take n) (drop_at (take b xs) (ys ++ zs) b long) ∙ take_at ys zs n size
 
 -- a block below the one that was written
-pub block_in-below : (slot : List ℕ) (m k : ℕ) (block : Block) → m < k → 64 * k + 64 ≤ length slot → block_in (written slot (64 * k) block.0) m ≡ block_in slot m
+pub block_in-below : (slot : List ℕ) (m k : ℕ) (block : Block) → m < k → 64 * k + 64 ≤ length slot
+    → block_in (written slot (64 * k) block.0) m ≡ block_in slot m
 block_in-below slot m k block below room =
-    ap (λ (bytes : List ℕ). record { 0 = bytes }) (take_below slot (block.0 ++ drop (64 * k + length block.0) slot) (64 * m) 64 (64 * k) (omega arith) (omega (arith, room)))
+    ap (λ (bytes : List ℕ). record { 0 = bytes })
+    (take_below slot (block.0 ++ drop (64 * k + length block.0) slot) (64 * m) 64 (64 * k) (omega arith) (omega (arith, room)))
 
 -- the blocks that were kept, with one more
-pub HasSlot-more : (l : Layout) (g : List Block) (commit : Block) (k : ℕ) (slot : List ℕ) (block : Block) → 64 * k + 64 ≤ length slot → length block.0 ≡ 64
+pub HasSlot-more : (l : Layout) (g : List Block) (commit : Block) (k : ℕ) (slot : List ℕ) (block : Block) → 64 * k + 64 ≤ length slot
+    → length block.0 ≡ 64
     → block ≡ block_at g (l.slot_place commit + k) → HasSlot l g commit k slot → HasSlot l g commit (k + 1) (written slot (64 * k) block.0)
 HasSlot-more l g commit k slot block room size is h = record {
   each = λ m below. elim (cases_eq m k) as (λ _. block_in (written slot (64 * k) block.0) m ≡ block_at g (l.slot_place commit + m)) [
     | inl e ↦
         subst (λ (i : ℕ). block_in (written slot (64 * k) block.0) i ≡ block_at g (l.slot_place commit + i)) (sym e)
-        (ap (λ (bytes : List ℕ). record { 0 = bytes }) (take_here slot block.0 (drop (64 * k + length block.0) slot) (64 * k) 64 (omega (arith, room)) size) ∙ is)
+        (ap (λ (bytes : List ℕ). record { 0 = bytes })
+        (take_here slot block.0 (drop (64 * k + length block.0) slot) (64 * k) 64 (omega (arith, room)) size) ∙ is)
     | inr ne ↦
         block_in-below slot m k block (omega (arith, below, ne)) room ∙ h.each m (omega arith)
   ];
@@ -87,8 +91,10 @@ blocks_of-take bytes n inside =
     ∙ sym (get_or-take n (blocks_of bytes) k zero_block l ∙ block_at-blocks_of bytes k (omega arith)))
 
 -- all blocks of the slot, read into the room, are the slot
-pub slot_is_whole : {C : Type 0} (F : FillingOf C) (g : List Block) (b : Booting) (k : ℕ) → HasCommit g b.commit → length b.slot ≡ 64 * (layout_in F b).most_slot
-    → (layout_in F b).slot_blocks b.commit ≤ (layout_in F b).most_slot → k ≡ (layout_in F b).slot_blocks b.commit → HasSlot (layout_in F b) g b.commit k b.slot
+pub slot_is_whole : {C : Type 0} (F : FillingOf C) (g : List Block) (b : Booting) (k : ℕ) → HasCommit g b.commit
+    → length b.slot ≡ 64 * (layout_in F b).most_slot
+    → (layout_in F b).slot_blocks b.commit ≤ (layout_in F b).most_slot → k ≡ (layout_in F b).slot_blocks b.commit
+    → HasSlot (layout_in F b) g b.commit k b.slot
     → slot_read F b ≡ slot_in (layout_in F b) g
 slot_is_whole F g b k commit room most all h =
     let l : Layout = layout_in F b in
@@ -145,7 +151,8 @@ module _ {C : Type 0} (F : FillingOf C) (laws : IsFilling F) (b : Booting) (room
   same_block k below = elim (cases_lt k found) as (λ _. block_in bytes k ≡ block_at (slot_read F b) k) [
     | inl low ↦
         ap (λ (xs : List ℕ). record { 0 = xs })
-        (take_below b.slot (replicate (length b.slot - 64 * found) 0) (64 * k) 64 (64 * found) (omega (arith, low)) (omega (arith, room, most_found)))
+        (take_below b.slot (replicate (length b.slot - 64 * found) 0) (64 * k) 64 (64 * found) (omega (arith, low))
+        (omega (arith, room, most_found)))
         ∙ sym (block_at-blocks_of b.slot k (omega (arith, room, low, most_found)))
         ∙ sym (get_or-take found (blocks_of b.slot) k zero_block low)
     | inr past ↦

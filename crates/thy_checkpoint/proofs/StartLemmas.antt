@@ -94,14 +94,16 @@ pub block_behind_memory : (memory console : List ℕ) (from k : ℕ) → length 
 block_behind_memory memory console from k behind enough =
     let e : length memory + (from - length memory) ≡ from = omega arith in
     sym (zeros_beyond console (from - length memory) k enough)
-    ∙ ap (take 64) (sym (drop-append-add memory (console ++ replicate k 0) (from - length memory)) ∙ ap (λ n. drop n (memory ++ (console ++ replicate k 0))) e)
+    ∙ ap (take 64) (sym (drop-append-add memory (console ++ replicate k 0) (from - length memory))
+    ∙ ap (λ n. drop n (memory ++ (console ++ replicate k 0))) e)
 
 -- a block is its bytes
 pub block_of_bytes : (b : Block) (bytes : List ℕ) → b.0 ≡ bytes → b ≡ record { 0 = bytes }
 block_of_bytes b bytes e = let at : List ℕ → Block = λ bytes. record { 0 = bytes } in ap at e
 
 -- a whole block of memory
-pub memory_block : (b : Block) (memory rest seen : List ℕ) (from : ℕ) → seen ≡ memory → b.0 ≡ take 64 (drop from seen) → from + 64 ≤ length memory
+pub memory_block : (b : Block) (memory rest seen : List ℕ) (from : ℕ) → seen ≡ memory → b.0 ≡ take 64 (drop from seen)
+    → from + 64 ≤ length memory
     → b ≡ record { 0 = take 64 (drop from (memory ++ rest)) }
 memory_block b memory rest seen from same is inside =
     block_of_bytes b _ (is ∙ ap (λ xs. take 64 (drop from xs)) same ∙ block_of_memory memory rest from inside)
@@ -157,11 +159,14 @@ length-start_bytes p s range h =
 
 -- memory and console of a state are found in the bytes of its start
 pub start_parts : (s : State) (size : ℕ) (zeros : List ℕ) → length s.memory ≡ size
-    → state_with (cpu_of s) (take size (s.memory ++ (s.console ++ zeros))) (take (length s.console) (drop size (s.memory ++ (s.console ++ zeros)))) ≡ s
+    → state_with (cpu_of s) (take size (s.memory ++ (s.console ++ zeros)))
+    (take (length s.console) (drop size (s.memory ++ (s.console ++ zeros)))) ≡ s
 start_parts s size zeros e =
-    let first = λ (n : ℕ). state_with (cpu_of s) (take n (s.memory ++ (s.console ++ zeros))) (take (length s.console) (drop n (s.memory ++ (s.console ++ zeros)))) in
+    let first = λ (n : ℕ). state_with (cpu_of s) (take n (s.memory ++ (s.console ++ zeros)))
+    (take (length s.console) (drop n (s.memory ++ (s.console ++ zeros)))) in
     ap first (sym e)
-    ∙ ap (λ m. state_with (cpu_of s) m (take (length s.console) (drop (length s.memory) (s.memory ++ (s.console ++ zeros))))) (take-append_seam s.memory (s.console ++ zeros))
+    ∙ ap (λ m. state_with (cpu_of s) m (take (length s.console) (drop (length s.memory) (s.memory ++ (s.console ++ zeros)))))
+    (take-append_seam s.memory (s.console ++ zeros))
     ∙ ap (λ bs. state_with (cpu_of s) s.memory (take (length s.console) bs)) (drop-append_seam s.memory (s.console ++ zeros))
     ∙ ap (state_with (cpu_of s) s.memory) (take-append_seam s.console zeros)
 

@@ -11,8 +11,10 @@ use Rattle.thy_answer.proofs.AnsweredLaws.{Completes-run, Completes-pair, Comple
 use Rattle.thy_cli.specs.Watching.{ClaimSeen}
 
 -- what is claimed of a call follows from what its result is, and from what its observer has seen
-pub ClaimSeen-answered : {N O : Type 0} (c : Choice) (d : NvmOf N) (has_seen : O → List Taken → Type 0) (has_seen_last : O → ℕ → State → Type 0) (words : List (List ℕ)) (before after : Around N) (a : Answer) (observer : O)
-    → (h : Answered c d words before after a) → HasSeenCall c d has_seen has_seen_last words before after a h observer → ClaimSeen c d has_seen has_seen_last words before after a observer
+pub ClaimSeen-answered : {N O : Type 0} (c : Choice) (d : NvmOf N) (has_seen : O → List Taken → Type 0)
+    (has_seen_last : O → ℕ → State → Type 0) (words : List (List ℕ)) (before after : Around N) (a : Answer) (observer : O)
+    → (h : Answered c d words before after a) → HasSeenCall c d has_seen has_seen_last words before after a h observer
+    → ClaimSeen c d has_seen has_seen_last words before after a observer
 ClaimSeen-answered c d has_seen has_seen_last words before after a observer h has = (
   record {
     answered = h;

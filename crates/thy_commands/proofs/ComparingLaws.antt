@@ -21,7 +21,8 @@ nothing_due_behind [] b some = some
 nothing_due_behind (x ∷ xs) b some = λ e. absurd (cc)
 
 -- first lines that a report took whole, and others that it took or failed in
-pub sent_behind : (failed : Bool) (a b : List ℕ) (old mid new : Stream) → Sent false old mid a → Sent failed mid new b → Sent failed old new (a ++ b)
+pub sent_behind : (failed : Bool) (a b : List ℕ) (old mid new : Stream) → Sent false old mid a → Sent failed mid new b
+    → Sent failed old new (a ++ b)
 sent_behind false a b old mid new took sent = Took-append old mid new a b took sent
 sent_behind true a b old mid new took sent = (TookPart-append old mid new a b took sent.0, nothing_due_behind a b sent.1)
 
@@ -40,9 +41,11 @@ ended_append [] v = or_false (is_end v)
 ended_append (w ∷ vs) v = or_more (is_end w) (has_ended (vs ++ v ∷ [])) (has_ended vs) (is_end v) (ended_append vs v)
 
 -- the first events with one more have an end if they had one, or if the one is an end
-pub ended_more : (events : List Event) (i : ℕ) (v : Event) → slice_get events i ≡ Some v → has_ended (take (i + 1) events) ≡ (has_ended (take i events) || is_end v)
+pub ended_more : (events : List Event) (i : ℕ) (v : Event) → slice_get events i ≡ Some v
+    → has_ended (take (i + 1) events) ≡ (has_ended (take i events) || is_end v)
 ended_more events i v is =
-    ap has_ended (take_more events i Reload (slice_get_within events i v is) ∙ ap (λ (x : Event). take i events ++ x ∷ []) (get_or_from_slice_get events i v Reload is))
+    ap has_ended (take_more events i Reload (slice_get_within events i v is)
+    ∙ ap (λ (x : Event). take i events ++ x ∷ []) (get_or_from_slice_get events i v Reload is))
     ∙ ended_append (take i events) v
 
 pub after_end : (so_far : Bool) (more : Bool) → more ≡ true → true ≡ (so_far || more)
@@ -60,7 +63,8 @@ pub joined_last : (before made own : List Event) (v : Event) → made ≡ before
 joined_last before made own v is = ap (λ (l : List Event). l ++ own) is ∙ append_assoc before (v ∷ []) own
 
 -- the events after a run's first event was added and taken away again
-pub last_taken : (before made last popped : List Event) (v : Event) → made ≡ before ++ v ∷ [] → last ≡ [] → popped ≡ take (length made - 1) made → popped ++ last ≡ before
+pub last_taken : (before made last popped : List Event) (v : Event) → made ≡ before ++ v ∷ [] → last ≡ []
+    → popped ≡ take (length made - 1) made → popped ++ last ≡ before
 last_taken before made last popped v is none taken =
     let many : length made - 1 ≡ length before = omega (arith, ap length is, length-append before (v ∷ [])) in
     ap (λ (l : List Event). popped ++ l) none ∙ append-nil popped ∙ taken
@@ -70,17 +74,20 @@ last_taken before made last popped v is none taken =
 -- ---- room for one more
 
 -- the event of a run was added to those before
-pub made_room : {T E : Type 0} (result : Result T E) (before joined made : List Event) (v : Event) → joined ≡ before → OnOk result (made ≡ joined ++ v ∷ []) → OnOk result (made ≡ before ++ v ∷ [])
+pub made_room : {T E : Type 0} (result : Result T E) (before joined made : List Event) (v : Event) → joined ≡ before
+    → OnOk result (made ≡ joined ++ v ∷ []) → OnOk result (made ≡ before ++ v ∷ [])
 made_room (Ok t) before joined made v same h = h ∙ ap (λ (l : List Event). l ++ v ∷ []) same
 made_room (Err e) before joined made v same h = h
 
 -- the event of a run was not added, and the events before are all in the first list
-pub kept_room : {T E : Type 0} (result : Result T E) (before joined made last : List Event) → joined ≡ before → last ≡ [] → OnErr result (made ≡ joined) → OnErr result (made ++ last ≡ before)
+pub kept_room : {T E : Type 0} (result : Result T E) (before joined made last : List Event) → joined ≡ before → last ≡ []
+    → OnErr result (made ≡ joined) → OnErr result (made ++ last ≡ before)
 kept_room (Ok t) before joined made last same none h = h
 kept_room (Err e) before joined made last same none h = ap (λ (l : List Event). made ++ l) none ∙ append-nil made ∙ h ∙ same
 
 -- no event was added, and the events of both lists are where they were
-pub kept_both : {T E : Type 0} (result : Result T E) (before joined last left : List Event) → joined ≡ before → left ≡ last → OnErr result (joined ++ left ≡ before ++ last)
+pub kept_both : {T E : Type 0} (result : Result T E) (before joined last left : List Event) → joined ≡ before → left ≡ last
+    → OnErr result (joined ++ left ≡ before ++ last)
 kept_both (Ok t) before joined last left same none = tt
 kept_both (Err e) before joined last left same none = ap (λ (l : List Event). l ++ left) same ∙ ap (λ (l : List Event). before ++ l) none
 

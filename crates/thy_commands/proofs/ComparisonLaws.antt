@@ -56,12 +56,14 @@ all_end_as : (c : Counts) (m : Marks) (events : List Event) → AllLawfulAt c m 
 all_end_as c m [] h = tt
 all_end_as c m (v ∷ vs) h = (ends_as c m v h.0, all_end_as c (marks_after c.start m v) vs h.1)
 
-last_among : (c : Counts) (m : Marks) (events : List Event) (status : Status) (count cycle : ℕ) (s : State) → AllLawfulAt c m events → Contains events (Ended status count cycle s) → IsLast c s
+last_among : (c : Counts) (m : Marks) (events : List Event) (status : Status) (count cycle : ℕ) (s : State) → AllLawfulAt c m events
+    → Contains events (Ended status count cycle s) → IsLast c s
 last_among c m events status count cycle s h there =
     All-contains (EndsAs c) events (Ended status count cycle s) (All-from_recursion (EndsAs c) events (all_end_as c m events h)) there
 
 -- with one hart any two ends have the same state
-ends_alike : (o : Origin) (m : Marks) (events : List Event) → o.geometry.harts ≡ 1 → HasNoTurns m → AllLawful (course_of o) m events → EndAlike events
+ends_alike : (o : Origin) (m : Marks) (events : List Event) → o.geometry.harts ≡ 1 → HasNoTurns m → AllLawful (course_of o) m events
+    → EndAlike events
 ends_alike o m events one_hart unlisted all = λ a b k l cycle other s t one two.
     let c : Counts = counts_of (course_of o) in
     let by_counts : AllLawfulAt c m events = to-counts (course_of o) m events one_hart unlisted all in
@@ -77,11 +79,13 @@ ends_alike o m events one_hart unlisted all = λ a b k l cycle other s t one two
 -- ---- one course
 
 -- the scheme is nothing to what events are checked against
-course_under : (scheme : SchemeName) (job : Job) (b : Beginning) (input : List ℕ) → course_of (origin_for (under scheme job) b input) ≡ course_of (origin_for job b input)
+course_under : (scheme : SchemeName) (job : Job) (b : Beginning) (input : List ℕ)
+    → course_of (origin_for (under scheme job) b input) ≡ course_of (origin_for job b input)
 unfolding at
 course_under scheme job b input = refl
 
-module _ {N : Type 0} (c : Choice) (d : NvmOf N) (x : Subject) (begins : Beginning) (means : meaning_of (file x.name) x.job x.bytes x.input ≡ Ok begins) where
+module _ {N : Type 0} (c : Choice) (d : NvmOf N) (x : Subject) (begins : Beginning)
+    (means : meaning_of (file x.name) x.job x.bytes x.input ≡ Ok begins) where
   abbrev o : Origin
   o = origin_for x.job begins x.input
 
@@ -117,29 +121,36 @@ module _ {N : Type 0} (c : Choice) (d : NvmOf N) (x : Subject) (begins : Beginni
     lawful_run m =
         let all : AllLawful one (loading_marks o.start.count) (all_of r.run.events) =
         subst (λ k. AllLawful k (loading_marks o.start.count) (all_of r.run.events)) same_course
-        (subst (λ n. AllLawful (course_of (origin_for (under scheme x.job) p.begins p.input)) n (all_of r.run.events)) same_marks r.over.ran.seen.promise.events_lawful) in
+        (subst (λ n. AllLawful (course_of (origin_for (under scheme x.job) p.begins p.input)) n (all_of r.run.events)) same_marks
+        r.over.ran.seen.promise.events_lawful) in
         subst (AllLawful one m) (sym r.events_are) (tt, all)
 
   -- the events of all runs are lawful
-  lawful_through : (first : Bool) (schemes : List SchemeName) (old new : Stage N) (events : List Event) (m : Marks) → RunsThrough c d x first schemes old new events → AllLawful one m events
+  lawful_through : (first : Bool) (schemes : List SchemeName) (old new : Stage N) (events : List Event) (m : Marks)
+      → RunsThrough c d x first schemes old new events → AllLawful one m events
   lawful_through first [] old new events m (same, none) = subst (AllLawful one m) (sym none) tt
   lawful_through first (scheme ∷ schemes) old new events m (inl ends) = subst (AllLawful one m) (sym ends.none) tt
   lawful_through first (scheme ∷ schemes) old new events m (inr (middle, own, rest, run, parts, then)) =
-      subst (AllLawful one m) (sym parts) (AllLawful-append one m own rest (lawful_run first scheme old middle own run m) (by_low (nat_le middle.status 1) (lawful_through false schemes middle new rest (marks_from one.start m own)) then))
+      subst (AllLawful one m) (sym parts) (AllLawful-append one m own rest (lawful_run first scheme old middle own run m)
+      (by_low (nat_le middle.status 1) (lawful_through false schemes middle new rest (marks_from one.start m own)) then))
     where
-      by_low : (low : Bool) → (RunsThrough c d x false schemes middle new rest → AllLawful one (marks_from one.start m own) rest) → MatchBool low (RunsThrough c d x false schemes middle new rest) ((new ≡ middle) × (rest ≡ [])) → AllLawful one (marks_from one.start m own) rest
+      by_low : (low : Bool) → (RunsThrough c d x false schemes middle new rest → AllLawful one (marks_from one.start m own) rest)
+          → MatchBool low (RunsThrough c d x false schemes middle new rest) ((new ≡ middle) × (rest ≡ []))
+          → AllLawful one (marks_from one.start m own) rest
       by_low true go more = go more
       by_low false go (same, none) = subst (AllLawful one (marks_from one.start m own)) (sym none) tt
 
 -- the runs of a plan, which is the program's plan under each scheme, are a comparison of the program
-pub IsComparison-compares : {N : Type 0} (c : Choice) (d : NvmOf N) (name : List ℕ) (job : Job) (plan : Plan) (before after : Around N) (a : Answer) (p : IsProgram (file name) job before.shelf)
+pub IsComparison-compares : {N : Type 0} (c : Choice) (d : NvmOf N) (name : List ℕ) (job : Job) (plan : Plan) (before after : Around N)
+    (a : Answer) (p : IsProgram (file name) job before.shelf)
     → ((scheme : SchemeName) → IsPlanFor (record { name = name; job = job; bytes = p.bytes; input = p.input }) before.shelf plan scheme)
     → Compares c d name plan before after a → IsComparison c d name job before after a
 IsComparison-compares c d name job plan before after a p plans compares =
     let x : Subject = record { name = name; job = job; bytes = p.bytes; input = p.input } in
     let all = compares x refl plans in
     let o : Origin = origin_for job p.begins p.input in
-    let lawful : AllLawful (course_of o) (first_marks o) (all_of a.events) = lawful_through c d x p.begins p.means true compared (first_stage before) all.0 (all_of a.events) (first_marks o) all.1 in
+    let lawful : AllLawful (course_of o) (first_marks o) (all_of a.events) =
+    lawful_through c d x p.begins p.means true compared (first_stage before) all.0 (all_of a.events) (first_marks o) all.1 in
     record {
       program = p;
       last = all.0;

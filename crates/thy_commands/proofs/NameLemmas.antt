@@ -19,16 +19,20 @@ WordsDue-shown words (Word field) h = h
 WordsDue-shown words (Value field value) h = h
 WordsDue-shown words (WordsMemory e) h = tt
 
--- a run of a source under a name is one under the same name in other words
-pub RunSeen-file : {M O : Type 0} (K : KindOf M) (has_seen : O → List Taken → Type 0) (name own : List ℕ) (job : Job) (before after : Outside) (a : Answer) (observer : O) → name ≡ own
-    → RunSeen K has_seen (file name) job before after a observer → RunSeen K has_seen (file own) job before after a observer
-RunSeen-file K has_seen name own job before after a observer same h = subst (λ n. RunSeen K has_seen (file n) job before after a observer) same h
+module _ {M O : Type 0} (K : KindOf M) (has_seen : O → List Taken → Type 0) (name own : List ℕ) (job : Job) (before after : Outside)
+    (a : Answer) (observer : O) (same : name ≡ own) where
+  -- a run of a source under a name is one under the same name in other words
+  pub RunSeen-file : RunSeen K has_seen (file name) job before after a observer
+      → RunSeen K has_seen (file own) job before after a observer
+  RunSeen-file h = subst (λ n. RunSeen K has_seen (file n) job before after a observer) same h
 
-pub RunSeen-image : {M O : Type 0} (K : KindOf M) (has_seen : O → List Taken → Type 0) (name own : List ℕ) (job : Job) (before after : Outside) (a : Answer) (observer : O) → name ≡ own
-    → RunSeen K has_seen (image name) job before after a observer → RunSeen K has_seen (image own) job before after a observer
-RunSeen-image K has_seen name own job before after a observer same h = subst (λ n. RunSeen K has_seen (image n) job before after a observer) same h
+  pub RunSeen-image : RunSeen K has_seen (image name) job before after a observer
+      → RunSeen K has_seen (image own) job before after a observer
+  RunSeen-image h = subst (λ n. RunSeen K has_seen (image n) job before after a observer) same h
 
 -- what is said of a name is said of its bytes
-pub PlainSeen-named : {O : Type 0} (has_seen : O → List Taken → Type 0) (has_seen_last : O → ℕ → State → Type 0) (name own : List ℕ) (job : Job) (before after : Outside) (a : Answer) (observer : O) → name ≡ own
+pub PlainSeen-named : {O : Type 0} (has_seen : O → List Taken → Type 0) (has_seen_last : O → ℕ → State → Type 0) (name own : List ℕ)
+    (job : Job) (before after : Outside) (a : Answer) (observer : O) → name ≡ own
     → PlainSeen has_seen has_seen_last name job before after a observer → PlainSeen has_seen has_seen_last own job before after a observer
-PlainSeen-named has_seen has_seen_last name own job before after a observer same h = subst (λ n. PlainSeen has_seen has_seen_last n job before after a observer) same h
+PlainSeen-named has_seen has_seen_last name own job before after a observer same h =
+    subst (λ n. PlainSeen has_seen has_seen_last n job before after a observer) same h

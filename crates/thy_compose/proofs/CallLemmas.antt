@@ -61,20 +61,23 @@ pub made_then : {S A : Type 0} (made : Made S A) (s t : S) (n m : Device) (r : R
 made_then made s t n m (Ok x) answer acts = record { answer_is = answer; scheme_is = acts.control; nvm_is = acts.device }
 made_then made s t n m (Err x) answer acts = tt
 
-pub promoted_then : {S : Type 0} (later s t : S) (n m : Device) (r : Result (Unit {0}) NvmError) → MakesPromotion later r s t → IsReading r n m
+pub promoted_then : {S : Type 0} (later s t : S) (n m : Device) (r : Result (Unit {0}) NvmError) → MakesPromotion later r s t
+    → IsReading r n m
     → IfOk r (λ done. Makes (changed_to later) done n t m)
 promoted_then later s t n m (Ok x) makes reads = record { answer_is = refl; scheme_is = makes.made; nvm_is = reads.same }
 promoted_then later s t n m (Err x) makes reads = tt
 
 -- a step of the boot that reads leaves the NVM
-read-leaves : {C : Type 0} (F : FillingOf C) (b : Booting) (c : C) (at : ReadStage) (n m : Device) → m ≡ n → IsAfter (read_action F b c at) n m
+read-leaves : {C : Type 0} (F : FillingOf C) (b : Booting) (c : C) (at : ReadStage) (n m : Device) → m ≡ n
+    → IsAfter (read_action F b c at) n m
 read-leaves F b c Unread n m same = same
 read-leaves F b c Header n m same = same
 read-leaves F b c (Slot next) n m same = same
 read-leaves F b c (Fills k) n m same = same
 read-leaves F b c (Refusing bad) n m same = same
 
-boots-at : {C : Type 0} (F : FillingOf C) (start : State) (stage : Stage) (n : Device) (b : Booting) (c : C) (m : Device) (d : Booting) (e : C)
+boots-at : {C : Type 0} (F : FillingOf C) (start : State) (stage : Stage) (n : Device) (b : Booting) (c : C) (m : Device)
+    (d : Booting) (e : C)
     → StepsAt F stage start n b c m d e
     → (d ≡ boot_after F start stage n b) × FillsBy F stage n b c e × IsAfter (action_at F stage start b c) n m
 boots-at F start (Reads at) n b c m d e s = (s.boot, s.control, read-leaves F b c at n m s.device)
@@ -92,13 +95,15 @@ booted_then D start s t n m (Err x) takes = tt
 module _ {C : Type 0} (D : DesignOf C) (w : AreParts D) where
   -- ---- power
 
-  pub cut_sized : (s : Composed C) (pick : ℕ) (r : Contents) → r ≡ lost (D.filling.dram s.control) pick → (p : Parameters) → IsOf D p s → IsDramOf p r
+  pub cut_sized : (s : Composed C) (pick : ℕ) (r : Contents) → r ≡ lost (D.filling.dram s.control) pick → (p : Parameters) → IsOf D p s
+      → IsDramOf p r
   cut_sized s pick r is p of =
       IsDramOf-lost p (D.filling.dram s.control) pick r (w.design.dram_length s.control of.sound ∙ ap dram_blocks of.same_p) of.room is
 
   -- ---- drains, merges, promotions and seals
 
-  pub drains_then : (o : Origin) (k : CheckpointMarks) (s t : Composed C) (n : Device) → t ≡ drained D s → 0 < (D.filling.dram s.control).queued
+  pub drains_then : (o : Origin) (k : CheckpointMarks) (s t : Composed C) (n : Device) → t ≡ drained D s
+      → 0 < (D.filling.dram s.control).queued
       → Stands (scheme_of D) o k s n → Drains (scheme_of D) o k s n t
   drains_then o k s t n is some stands =
       subst (λ (x : Composed C). Drains (scheme_of D) o k s n x) (sym is) (drains D w.design o k s n stands some)
@@ -137,7 +142,10 @@ module _ {C : Type 0} (D : DesignOf C) (w : AreParts D) where
     abbrev action : Action
     action = D.parts.store_action b block s.control
 
-    made : MakesStore D b block s.control n (D.parts.stored b block s.control n) (after n.writes (D.parts.store_action b block s.control) n)
+    abbrev acted : Device
+    acted = after n.writes action n
+
+    made : MakesStore D b block s.control n (D.parts.stored b block s.control n) acted
     made = w.storing.store b block s.control n can
 
     -- if no block was stored, none was before
@@ -146,7 +154,7 @@ module _ {C : Type 0} (D : DesignOf C) (w : AreParts D) where
     rests_by true h = (refl, h)
     rests_by false h = absurd (both_ways (D.parts.storeless_after (D.parts.store_answer b s.control) false) (w.storing.stored_once s.control b) h)
 
-    stays_stored : Stays D s n (stored D b block s n) (after n.writes (D.parts.store_action b block s.control) n)
+    stays_stored : Stays D s n (stored D b block s n) acted
     stays_stored = record {
       control = made.stays;
       engine = refl;
@@ -164,12 +172,12 @@ module _ {C : Type 0} (D : DesignOf C) (w : AreParts D) where
       rests = λ r. record { before = r; still = w.storing.still_same s.control };
     }
 
-    one_more : (d : C) (m : Device) → m ≡ after n.writes (D.parts.store_action b block s.control) n → ActsOnDram n m (D.filling.dram s.control) (D.filling.dram d)
+    one_more : (d : C) (m : Device) → m ≡ acted → ActsOnDram n m (D.filling.dram s.control) (D.filling.dram d)
         → length m.queue + (D.filling.dram d).queued ≤ length n.queue + (D.filling.dram s.control).queued + 1
     one_more d m is acts = elim acts as (λ _. length m.queue + (D.filling.dram d).queued ≤ length n.queue + (D.filling.dram s.control).queued + 1) [
       | inl same ↦
           let left = ap (λ (x : Device). length x.queue) is in
-          let more = queue_of n.writes (D.parts.store_action b block s.control) n in
+          let more = queue_of n.writes action n in
           omega (arith, left, more, ap (λ (x : Contents). x.queued) same)
       | inr write ↦ omega (arith, ap (λ (x : Contents). x.queued) write.left, ap (λ (x : Device). length x.queue) write.nvm)
     ]
@@ -177,37 +185,37 @@ module _ {C : Type 0} (D : DesignOf C) (w : AreParts D) where
     up : n.down ≡ false
     up = (held_block D s.control n b can.inside).up
 
-    up_then : (after n.writes (D.parts.store_action b block s.control) n).down ≡ false
-    up_then = down_of n.writes (D.parts.store_action b block s.control) n ∙ up
+    up_then : acted.down ≡ false
+    up_then = down_of n.writes action n ∙ up
 
-    once_stored : IsFramed n (after n.writes (D.parts.store_action b block s.control) n)
-        → IsOneAccess (scheme_of D) s n (stored D b block s n) (after n.writes (D.parts.store_action b block s.control) n)
+    once_stored : IsFramed n acted
+        → IsOneAccess (scheme_of D) s n (stored D b block s n) acted
     once_stored framed = record {
-      action = D.parts.store_action b block s.control;
+      action = action;
       access = w.storing.access b block s.control;
       succeeds = λ alive. record {
-        left = access-leaves (D.parts.store_action b block s.control) n (w.storing.access b block s.control);
+        left = access-leaves action n (w.storing.access b block s.control);
         dram = made.dram;
-        queue = one_more (D.parts.stored b block s.control n) (after n.writes (D.parts.store_action b block s.control) n) refl made.dram;
+        queue = one_more (D.parts.stored b block s.control n) acted refl made.dram;
         copies = made.copies;
       };
-      fails = λ dead. absurd (both_ways (after n.writes (D.parts.store_action b block s.control) n).down up_then dead);
+      fails = λ dead. absurd (both_ways acted.down up_then dead);
       frame = framed;
       stays = stays_stored;
     }
 
     pub store_once : (t : Composed C) (m : Device) (r : Result Stored NvmError)
-        → Acts (D.parts.store_action b block s.control) (stored D b block s n) r s n t m → IsOneAccess (scheme_of D) s n t m
+        → Acts action (stored D b block s n) r s n t m → IsOneAccess (scheme_of D) s n t m
     store_once t m (Ok answer) acts =
-        let is : m ≡ after n.writes (D.parts.store_action b block s.control) n =
-        access-is (D.parts.store_action b block s.control) n m (w.storing.access b block s.control) acts.device in
+        let is : m ≡ acted =
+        access-is action n m (w.storing.access b block s.control) acts.device in
         subst (λ (x : Composed C). IsOneAccess (scheme_of D) s n x m) (sym acts.control)
         (subst (λ (d : Device). IsOneAccess (scheme_of D) s n (stored D b block s n) d) (sym is) (once_stored (subst (IsFramed n) is acts.frame)))
     store_once t m (Err x) acts =
         subst (λ (y : Composed C). IsOneAccess (scheme_of D) s n y m) (sym acts.kept) (record {
-          action = D.parts.store_action b block s.control;
+          action = action;
           access = w.storing.access b block s.control;
-          succeeds = λ alive. absurd (both_ways m.down alive (fails-down (D.parts.store_action b block s.control) n m acts.failed));
+          succeeds = λ alive. absurd (both_ways m.down alive (fails-down action n m acts.failed));
           fails = λ dead. acts.failed;
           frame = acts.frame;
           stays = stays_failed m (w.storing.store_fails b block s.control n m can acts.failed acts.frame);
@@ -215,12 +223,15 @@ module _ {C : Type 0} (D : DesignOf C) (w : AreParts D) where
 
   -- ---- a step of the engine
 
-  module _ (o : Origin) (k : CheckpointMarks) (s t : Composed C) (n m : Device) (way : is_under_way s.engine.stage ≡ true) (stands : Stands (scheme_of D) o k s n) where
+  module _ (o : Origin) (k : CheckpointMarks) (s t : Composed C) (n m : Device) (way : is_under_way s.engine.stage ≡ true)
+      (stands : Stands (scheme_of D) o k s n) where
     pub engines_then : (r : Result EngineStep NvmError) → IfOk r (λ step. step ≡ step_of D s)
-        → Acts (action_next D.filling D.items s.engine s.control n) (taken D s) r s n t m → IfOk r (λ step. Engines (scheme_of D) o k step s n t m)
+        → Acts (action_next D.filling D.items s.engine s.control n) (taken D s) r s n t m
+        → IfOk r (λ step. Engines (scheme_of D) o k step s n t m)
     engines_then (Ok step) answer acts =
         subst (λ (x : EngineStep). Engines (scheme_of D) o k x s n t m) (sym answer)
-        (subst (λ (x : Composed C). Engines (scheme_of D) o k (step_of D s) s n x m) (sym acts.control) (engines D w.design o k s n stands way m acts.device))
+        (subst (λ (x : Composed C). Engines (scheme_of D) o k (step_of D s) s n x m) (sym acts.control)
+        (engines D w.design o k s n stands way m acts.device))
     engines_then (Err x) answer acts = tt
 
     pub engine_fails_then : (r : Result EngineStep NvmError)

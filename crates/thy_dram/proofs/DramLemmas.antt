@@ -21,15 +21,18 @@ pub contents_in-fresh : (blocks room : ℕ) → contents_in (made blocks room []
 contents_in-fresh blocks room =
     let whole : blocks - 0 ≡ blocks = omega arith in
     let below : List Block → List Block = blocks_over 0 in
-    let reads : merged (replicate blocks true) (replicate (blocks - 0) zero_block) (below (replicate (blocks - 0) zero_block)) ≡ replicate blocks zero_block
-    = merged-all blocks (replicate (blocks - 0) zero_block) (below (replicate (blocks - 0) zero_block)) (length-replicate (blocks - 0) zero_block ∙ whole)
+    let reads : merged (replicate blocks true) (replicate (blocks - 0) zero_block) (below (replicate (blocks - 0) zero_block))
+    ≡ replicate blocks zero_block
+    = merged-all blocks (replicate (blocks - 0) zero_block) (below (replicate (blocks - 0) zero_block))
+    (length-replicate (blocks - 0) zero_block ∙ whole)
     ∙ ap (λ n. replicate n zero_block) whole in
     ap (λ bs. record (fresh blocks room) { blocks = bs }) reads
 
 -- ---- places
 
 -- a place of the contents is one of the marks, and one of the ring
-pub within : (held : Held) (marks : List Bool) (pick at : ℕ) (d : Contents) → contents_in held marks pick ≡ d → length marks ≡ length held.image
+pub within : (held : Held) (marks : List Bool) (pick at : ℕ) (d : Contents) → contents_in held marks pick ≡ d
+    → length marks ≡ length held.image
     → at < length d.blocks → (at < length marks) × (at < length held.image)
 within held marks pick at d is same l =
     let counted : length d.blocks ≡ length marks

@@ -14,7 +14,8 @@ pub bytes_over-step : (xs : List ℕ) (i draws draw next : ℕ) → i < length x
 unfolding bytes_over
 bytes_over-step xs i draws draw next l e f =
     let after : i < i + 1 = omega arith in
-    let rest : bytes_over draws (drop i xs) ≡ lcg_draw (lcg_next draws) % 256 ∷ bytes_over (lcg_next draws) (drop (i + 1) xs) = at_drop_more (bytes_over draws) xs i 0 l in
+    let rest : bytes_over draws (drop i xs) ≡ lcg_draw (lcg_next draws) % 256 ∷ bytes_over (lcg_next draws) (drop (i + 1) xs) =
+    at_drop_more (bytes_over draws) xs i 0 l in
     ap (λ ys. ys ++ bytes_over next (drop (i + 1) (slice_set xs i draw))) (take_more_set xs i draw l)
     ∙ append_assoc (take i xs) (draw ∷ []) (bytes_over next (drop (i + 1) (slice_set xs i draw)))
     ∙ ap (λ ys. take i xs ++ draw ∷ bytes_over next ys) (drop-set-lt (i + 1) xs i draw after)
@@ -55,10 +56,12 @@ unfolding after_block
 after_block-draws seed = after_bytes-draws seed (replicate 64 0)
 
 -- each block takes its draws after all draws of the blocks before it
-pub block_at-over : (seed : ℕ) (xs : List Block) (x : ℕ) → x < length xs → block_at (blocks_over seed xs) x ≡ drawn_block (after_draws (x * 64) seed)
+pub block_at-over : (seed : ℕ) (xs : List Block) (x : ℕ) → x < length xs
+    → block_at (blocks_over seed xs) x ≡ drawn_block (after_draws (x * 64) seed)
 block_at-over seed [] x l = absurd (omega arith)
 block_at-over seed (b ∷ bs) zero l = ap drawn_block (sym (after_draws-none seed))
 block_at-over seed (b ∷ bs) (suc x) l =
     let next : 64 + x * 64 ≡ suc x * 64 = omega arith in
     block_at-over (after_block seed) bs x (omega arith)
-    ∙ ap drawn_block (ap (after_draws (x * 64)) (after_block-draws seed) ∙ sym (after_draws-add 64 (x * 64) seed) ∙ ap (λ n. after_draws n seed) next)
+    ∙ ap drawn_block (ap (after_draws (x * 64)) (after_block-draws seed) ∙ sym (after_draws-add 64 (x * 64) seed)
+    ∙ ap (λ n. after_draws n seed) next)

@@ -15,7 +15,8 @@ put_mid_twice memory first second at n z is_n is_z fits =
     let joined : drop (at + n + z - (at + n)) (drop (at + n) once) ≡ drop (at + length (first ++ second)) once =
     drop-drop (at + n + z - (at + n)) (at + n) once ∙ ap (λ i. drop i once) (omega (arith, length-append first second)) in
     let after : drop (at + length (first ++ second)) once ≡ drop (at + length (first ++ second)) memory =
-    drop-put_mid at (at + n - at) memory first (at + length (first ++ second)) (omega (arith, length-append first second)) (omega arith) (omega arith) in
+    drop-put_mid at (at + n - at) memory first (at + length (first ++ second)) (omega (arith, length-append first second))
+    (omega arith) (omega arith) in
     rw (before, joined, after) (
     append_assoc (take at memory) first (second ++ drop (at + length (first ++ second)) memory)
     ∙ ap (λ xs. take at memory ++ xs) (sym (append_assoc first second (drop (at + length (first ++ second)) memory))))

@@ -12,7 +12,8 @@ use Rattle.thy_elf.proofs.IndexLemmas.{indices_step, indices_end, indices_start}
 
 -- the first refusal of the demands from index k on is the first one at k, or else the first one after k
 pub demands_step : (demands : ℕ → List (Demand ElfError)) (k n : ℕ) → k < n
-    → first_fault (flat_map demands (range_with_len k (n - k))) ≡ option_or (first_fault (demands k)) (first_fault (flat_map demands (range_with_len (k + 1) (n - (k + 1)))))
+    → first_fault (flat_map demands (range_with_len k (n - k))) ≡ option_or (first_fault (demands k))
+    (first_fault (flat_map demands (range_with_len (k + 1) (n - (k + 1)))))
 demands_step demands k n h =
     ap (λ ks. first_fault (flat_map demands ks)) (indices_step k n h)
     ∙ first_fault-append (demands k) (flat_map demands (range_with_len (k + 1) (n - (k + 1))))
@@ -38,5 +39,6 @@ due_cause contents (Memory e) refusal = absurd refusal
 due_cause contents _ refusal = refl
 
 -- the first refusal of a file is the cause of its error
-pub cause_of : (first : Option ElfError) (contents : Contents) (e : ElfError) → Some e ≡ first → IsRefusal e → IsCause (refused_or first contents) e
+pub cause_of : (first : Option ElfError) (contents : Contents) (e : ElfError) → Some e ≡ first → IsRefusal e
+    → IsCause (refused_or first contents) e
 cause_of first contents e is refusal = subst (λ o. IsCause (refused_or o contents) e) is (due_cause contents e refusal)

@@ -22,7 +22,8 @@ pub record Fits (file : List ℕ) (base size : ℕ) (p : ProgramHeader) : Type 0
   pub below : p.address + p.memory_size ≤ base + size
 
 -- if the first fault of three tests is none, none fails
-none_of : (a b c : Bool) (d e f : ElfError) → first_fault (asked a d ∷ asked b e ∷ asked c f ∷ []) ≡ None → (a ≡ true) × (b ≡ true) × (c ≡ true)
+none_of : (a b c : Bool) (d e f : ElfError) → first_fault (asked a d ∷ asked b e ∷ asked c f ∷ []) ≡ None
+    → (a ≡ true) × (b ≡ true) × (c ≡ true)
 none_of false b c d e f h = absurd cc
 none_of true false c d e f h = absurd cc
 none_of true true false d e f h = absurd cc
@@ -35,11 +36,13 @@ fits_of : (kind file_size memory_size offset address len base size : ℕ)
     → (not (kind == 1) || (file_size == 0 || nat_le (offset + file_size) len)) ≡ true
     → (not (kind == 1 && not (memory_size == 0)) || is_inside base size address memory_size) ≡ true
     → (file_size ≤ memory_size) × (0 < file_size → offset + file_size ≤ len) × (base ≤ address) × (address + memory_size ≤ base + size)
-fits_of kind file_size memory_size offset address len base size takes filled in_file within = (grind (arith, nat_tests), grind (arith, nat_tests), grind (arith, nat_tests), grind (arith, nat_tests))
+fits_of kind file_size memory_size offset address len base size takes filled in_file within =
+    (grind (arith, nat_tests), grind (arith, nat_tests), grind (arith, nat_tests), grind (arith, nat_tests))
 
 -- if no demand of a program header is refused, its segment fits
 pub segment_fits : (file : List ℕ) (base size k : ℕ)
-    → first_fault (segment_demands file base size k) ≡ None → takes_memory (program_header file k) ≡ true → Fits file base size (program_header file k)
+    → first_fault (segment_demands file base size k) ≡ None → takes_memory (program_header file k) ≡ true
+    → Fits file base size (program_header file k)
 segment_fits file base size k none takes =
     let p = program_header file k in
     let tests = none_of (not (is_load p) || nat_le p.file_size p.memory_size)
@@ -50,16 +53,19 @@ segment_fits file base size k none takes =
     record { filled = fits.0; in_file = fits.1; above = fits.2; below = fits.3 }
 
 -- if no demand of any program header from a on is refused, none of header k is
-demands_at : (demands : ℕ → List (Demand ElfError)) (n a k : ℕ) → first_fault (flat_map demands (range_with_len a n)) ≡ None → a ≤ k → k < a + n → first_fault (demands k) ≡ None
+demands_at : (demands : ℕ → List (Demand ElfError)) (n a k : ℕ) → first_fault (flat_map demands (range_with_len a n)) ≡ None → a ≤ k
+    → k < a + n → first_fault (demands k) ≡ None
 demands_at demands zero a k none above below = absurd (omega arith)
 demands_at demands (suc n) a k none above below =
-    let both = none_of_two (first_fault (demands a)) (first_fault (flat_map demands (range_with_len (a + 1) n))) (sym (first_fault-append (demands a) (flat_map demands (range_with_len (a + 1) n))) ∙ none) in
+    let both = none_of_two (first_fault (demands a)) (first_fault (flat_map demands (range_with_len (a + 1) n)))
+    (sym (first_fault-append (demands a) (flat_map demands (range_with_len (a + 1) n))) ∙ none) in
     elim (cases_lt a k) [
       | inl later ↦ demands_at demands n (a + 1) k both.1 (omega arith) (omega arith)
       | inr here ↦ let e : k ≡ a = omega arith in rw e both.0
     ]
 
 -- if a file is accepted, no demand of header k is refused
-pub accepted_at : (file : List ℕ) (base size k : ℕ) → IsAccepted file base size → k < (header_of file).count → first_fault (segment_demands file base size k) ≡ None
+pub accepted_at : (file : List ℕ) (base size k : ℕ) → IsAccepted file base size → k < (header_of file).count
+    → first_fault (segment_demands file base size k) ≡ None
 accepted_at file base size k accepted below =
     demands_at (segment_demands file base size) (header_of file).count 0 k accepted.segments (omega arith) (omega arith)

@@ -83,7 +83,8 @@ IsLeftAs-direct gap n none = record {
 -- lines before they are fitted
 pub IsFoundAs-levelled : (gap every since moves : ℕ) (name : GName) (n : Device) → 0 < gap
     → IsFoundAs gap n (looks every since moves no_lines (lent_by name n))
-IsFoundAs-levelled gap every since moves name n some = record { direct = λ none. absurd (omega (arith, none, some)); faults = refl; fits = refl; whole = refl }
+IsFoundAs-levelled gap every since moves name n some =
+    record { direct = λ none. absurd (omega (arith, none, some)); faults = refl; fits = refl; whole = refl }
 
 -- a cut leaves the same of a device that is lent
 crash_lent : (name : GName) (n : Device) (g : List Block) → Crash n g → Crash (lent_by name n) g
@@ -111,7 +112,8 @@ IsLeftAs-levelled gap every since moves name r n some lines image crash left mov
     record {
       direct = λ none. absurd (omega (arith, none, some));
       image = through-levelled gap some n.image ∙ image lines;
-      crash = λ g c. subst (Crash (looks every since moves r (lent_by name n))) (sym (through-levelled gap some g)) (crash lines g (crash_lent name n g c));
+      crash = λ g c. subst (Crash (looks every since moves r (lent_by name n))) (sym (through-levelled gap some g))
+          (crash lines g (crash_lent name n g c));
       left = map_both (through gap) unmapped (through-levelled gap some) n.left ∙ left lines;
       picks = ap (λ b. if b then [] else n.picks) fitted;
       queue_room = refl;
@@ -134,7 +136,8 @@ abbrev within : Device → Device
 within n = record n { lent = drop 1 n.lent }
 
 -- a fit that failed failed on the device that is lent
-pub failed_within : (e : FitError) (name other : GName) (old new : Device) → HasFailedToFit e (lent_by name old) (lent_by other new) → HasFailedToFit e old new
+pub failed_within : (e : FitError) (name other : GName) (old new : Device) → HasFailedToFit e (lent_by name old) (lent_by other new)
+    → HasFailedToFit e old new
 failed_within Failed name other old new (failed, framed, rose) = (
   record { down = failed.down; no_more = failed.no_more; counts = record { writes = failed.counts.writes; wear = failed.counts.wear } },
   framed_within name other (record old { fits = next old.fits }) new framed,
@@ -144,7 +147,8 @@ failed_within (Memory e) name other old new (inl same) = inl (ap within same)
 failed_within (Memory e) name other old new (inr same) = inr (ap within same)
 
 -- the loan is the same after a fit that failed
-pub same_loan_failed : (e : FitError) (name other : GName) (old new : Device) → HasFailedToFit e (lent_by name old) (lent_by other new) → other ≡ name
+pub same_loan_failed : (e : FitError) (name other : GName) (old new : Device) → HasFailedToFit e (lent_by name old) (lent_by other new)
+    → other ≡ name
 same_loan_failed Failed name other old new (failed, framed, rose) = same_loan name other (record old { fits = next old.fits }) new framed
 same_loan_failed (Memory e) name other old new (inl same) = ap (λ (n : Device). slice_index_or n.lent 0 name) same
 same_loan_failed (Memory e) name other old new (inr same) = ap (λ (n : Device). slice_index_or n.lent 0 name) same
@@ -152,7 +156,8 @@ same_loan_failed (Memory e) name other old new (inr same) = ap (λ (n : Device).
 -- ---- what is so known of the device that is handed back
 
 -- images that fit the events fit them by what they mean
-AllFit-map : (f : List Block → List Block) (read : List Block → Decoded) (cycles : ℕ) (s : Found) (events : List Event) (left : List (List Block)) → AllFit read (HasLeft cycles) s events (map f left)
+AllFit-map : (f : List Block → List Block) (read : List Block → Decoded) (cycles : ℕ) (s : Found) (events : List Event)
+    (left : List (List Block)) → AllFit read (HasLeft cycles) s events (map f left)
     → AllFit (λ g. read (f g)) (HasLeft cycles) s events left
 AllFit-map f read cycles s [] [] h = (refl, h.1)
 AllFit-map f read cycles s [] (g ∷ left) h = absurd (let none : f g ∷ map f left ≡ [] = h.0 in cc)
@@ -180,19 +185,23 @@ images_one : (pick : ℕ) (stood left : Device) → IsCut pick stood left → Ar
 images_one pick stood left cut =
     let is : left.left ≡ stood.left ++ left.image ∷ [] = ap (λ (n : Device). n.left) cut.device in
     record {
-      first = ap (take (length stood.left)) is ∙ take-append-le (length stood.left) stood.left (left.image ∷ []) (omega arith) ∙ take_all (length stood.left) stood.left (omega arith);
+      first = ap (take (length stood.left)) is ∙ take-append-le (length stood.left) stood.left (left.image ∷ []) (omega arith)
+          ∙ take_all (length stood.left) stood.left (omega arith);
       many = ap length is ∙ length-append stood.left (left.image ∷ []);
     }
 
-images_of : (name : Option (List ℕ)) (due : Bool) (c : Config) (stood left : Device) (old new : Stock) (why : Option PutError) → SavesUnder name due c stood left old new why
+images_of : (name : Option (List ℕ)) (due : Bool) (c : Config) (stood left : Device) (old new : Stock) (why : Option PutError)
+    → SavesUnder name due c stood left old new why
     → AreImages (images_of_save name due) stood left
 images_of (Some name) true c stood left old new why h = images_one (save_pick c) stood left h.0
 images_of (Some name) false c stood left old new why h = images_none stood left h.0
 images_of None true c stood left old new why h = images_none stood left h.0
 images_of None false c stood left old new why h = images_none stood left h.0
 
-IsHandedBack-left : {M : Type 0} (K : KindOf M) (o : Origin) (given : Given) (gap cycles saved : ℕ) (events : List Event) (handed stood left : Device) → IsLeftAs gap handed left
-    → AreImages saved stood left → Promise K o given cycles events stood → IsSafeFor K o events left → IsHandedBack K o gap cycles events saved handed
+IsHandedBack-left : {M : Type 0} (K : KindOf M) (o : Origin) (given : Given) (gap cycles saved : ℕ) (events : List Event)
+    (handed stood left : Device) → IsLeftAs gap handed left
+    → AreImages saved stood left → Promise K o given cycles events stood → IsSafeFor K o events left
+    → IsHandedBack K o gap cycles events saved handed
 IsHandedBack-left K o given gap cycles saved events handed stood left is images promise safe =
     let k : ℕ = length (cuts_among events) in
     let many : length stood.left ≡ k = promise.room.kept in
@@ -206,7 +215,8 @@ IsHandedBack-left K o given gap cycles saved events handed stood left is images 
       images = omega (arith, sym (length-map handed.left (through gap)), ap length is.left, images.many, many);
     }
 
-PutsThrough-saved : (gap : ℕ) (name : Option (List ℕ)) (due : Bool) (c : Config) (handed stood left : Device) (old new : Stock) (why : Option PutError) → IsLeftAs gap handed left
+PutsThrough-saved : (gap : ℕ) (name : Option (List ℕ)) (due : Bool) (c : Config) (handed stood left : Device) (old new : Stock)
+    (why : Option PutError) → IsLeftAs gap handed left
     → SavesUnder name due c stood left old new why → PutsThrough gap name due handed old new why
 PutsThrough-saved gap (Some name) true c handed stood left old new why is h = subst (λ g. IsPut name (flat g) old new why) (sym is.image) h.1
 PutsThrough-saved gap (Some name) false c handed stood left old new why is h = (h.1, h.2)
@@ -214,9 +224,11 @@ PutsThrough-saved gap None true c handed stood left old new why is h = (h.1, h.2
 PutsThrough-saved gap None false c handed stood left old new why is h = (h.1, h.2)
 
 -- a run over the device that it sees is one over the device that was handed in
-pub RunOverSeen-seen : {M O : Type 0} (K : KindOf M) (has_seen : O → List Taken → Type 0) (source : ProgramSource) (job : Job) (before : Outside) (program : IsProgram source job before.shelf) (after : Outside) (found left : Device) (ran : Ran) (observer : O)
+pub RunOverSeen-seen : {M O : Type 0} (K : KindOf M) (has_seen : O → List Taken → Type 0) (source : ProgramSource) (job : Job)
+    (before : Outside) (program : IsProgram source job before.shelf) (after : Outside) (found left : Device) (ran : Ran) (observer : O)
     → IsFoundAs job.config.gap before.device found → IsLeftAs job.config.gap after.device left
-    → ((h : IsRunOf K source job (with_device found before) program (with_device left after) (answer_of ran)) × (h.ending.stop ≡ ran.stop) × HasSeenOf K has_seen source job (with_device found before) program (with_device left after) (answer_of ran) h observer)
+    → ((h : IsRunOf K source job (with_device found before) program (with_device left after) (answer_of ran)) × (h.ending.stop ≡ ran.stop)
+    × HasSeenOf K has_seen source job (with_device found before) program (with_device left after) (answer_of ran) h observer)
     → RunOverSeen K has_seen source job before program after ran observer
 RunOverSeen-seen K has_seen source job before program after found left ran observer is_found is_left (run, stops, has) = (
   record {
@@ -229,7 +241,8 @@ RunOverSeen-seen K has_seen source job before program after found left ran obser
         IsHandedBack-left K (origin_for job program.begins program.input) (given_for K job program.begins found) job.config.gap ran.cycles
         (images_of_save job.save (saves run.ending.stop)) ran.events after.device run.stood left is_left
         (images_of job.save (saves run.ending.stop) job.config run.stood left before.shelf after.shelf run.why run.saved) run.promise run.safe;
-    put = PutsThrough-saved job.config.gap job.save (saves run.ending.stop) job.config after.device run.stood left before.shelf after.shelf run.why is_left run.saved;
+    put = PutsThrough-saved job.config.gap job.save
+        (saves run.ending.stop) job.config after.device run.stood left before.shelf after.shelf run.why is_left run.saved;
   },
   stops,
   has,
@@ -237,14 +250,32 @@ RunOverSeen-seen K has_seen source job before program after found left ran obser
 
 -- ---- blocks and loans
 
-stayed_saved : (name : Option (List ℕ)) (due : Bool) (c : Config) (stood left : Device) (old new : Stock) (why : Option PutError) → SavesUnder name due c stood left old new why → HasStayed stood left
-stayed_saved (Some name) true c stood left old new why h = record { blocks = h.0.crash.same_length; lent = ap (λ (n : Device). n.lent) h.0.device; every = every-cut stood.down stood.wear left.wear h.0.wear }
-stayed_saved (Some name) false c stood left old new why h = record { blocks = ap (λ (n : Device). length n.image) h.0; lent = ap (λ (n : Device). n.lent) h.0; every = ap (λ (n : Device). every_of n.wear) h.0 }
-stayed_saved None true c stood left old new why h = record { blocks = ap (λ (n : Device). length n.image) h.0; lent = ap (λ (n : Device). n.lent) h.0; every = ap (λ (n : Device). every_of n.wear) h.0 }
-stayed_saved None false c stood left old new why h = record { blocks = ap (λ (n : Device). length n.image) h.0; lent = ap (λ (n : Device). n.lent) h.0; every = ap (λ (n : Device). every_of n.wear) h.0 }
+stayed_saved : (name : Option (List ℕ)) (due : Bool) (c : Config) (stood left : Device) (old new : Stock) (why : Option PutError)
+    → SavesUnder name due c stood left old new why → HasStayed stood left
+stayed_saved (Some name) true c stood left old new why h = record {
+  blocks = h.0.crash.same_length;
+  lent = ap (λ (n : Device). n.lent) h.0.device;
+  every = every-cut stood.down stood.wear left.wear h.0.wear;
+}
+stayed_saved (Some name) false c stood left old new why h = record {
+  blocks = ap (λ (n : Device). length n.image) h.0;
+  lent = ap (λ (n : Device). n.lent) h.0;
+  every = ap (λ (n : Device). every_of n.wear) h.0;
+}
+stayed_saved None true c stood left old new why h = record {
+  blocks = ap (λ (n : Device). length n.image) h.0;
+  lent = ap (λ (n : Device). n.lent) h.0;
+  every = ap (λ (n : Device). every_of n.wear) h.0;
+}
+stayed_saved None false c stood left old new why h = record {
+  blocks = ap (λ (n : Device). length n.image) h.0;
+  lent = ap (λ (n : Device). n.lent) h.0;
+  every = ap (λ (n : Device). every_of n.wear) h.0;
+}
 
 -- a run and a save leave a device with the same number of blocks, reached by the same loans
-pub HasStayed-ran : {M : Type 0} (K : KindOf M) (o : Origin) (given : Given) (cycles : ℕ) (events : List Event) (name : Option (List ℕ)) (due : Bool) (c : Config) (stood left : Device) (old new : Stock) (why : Option PutError)
+pub HasStayed-ran : {M : Type 0} (K : KindOf M) (o : Origin) (given : Given) (cycles : ℕ) (events : List Event) (name : Option (List ℕ))
+    (due : Bool) (c : Config) (stood left : Device) (old new : Stock) (why : Option PutError)
     → Promise K o given cycles events stood → SavesUnder name due c stood left old new why → HasStayed given.fitted left
 HasStayed-ran K o given cycles events name due c stood left old new why promise saved =
     let last : HasStayed stood left = stayed_saved name due c stood left old new why saved in

@@ -40,23 +40,28 @@ use Rattle.thy_files.proofs.RestoringLaws.{IsOrigin-restored}
 -- ---- programs
 
 -- what a file was read as is what it means
-pub bytes_read : (job : Job) (bytes read : List ℕ) (p numbers : Parameters) (size : ℕ) (means : Result Contents ElfError) → p ≡ parameters_of job.config → numbers ≡ p → read ≡ bytes
-    → size ≡ program_size p → read_of read numbers.base size ≡ means → read_of bytes job.config.base (program_size (parameters_of job.config)) ≡ means
+pub bytes_read : (job : Job) (bytes read : List ℕ) (p numbers : Parameters) (size : ℕ) (means : Result Contents ElfError)
+    → p ≡ parameters_of job.config → numbers ≡ p → read ≡ bytes
+    → size ≡ program_size p → read_of read numbers.base size ≡ means
+    → read_of bytes job.config.base (program_size (parameters_of job.config)) ≡ means
 bytes_read job bytes read p numbers size means geometry same as_read as_long h =
     ap (λ b. read_of b job.config.base (program_size (parameters_of job.config))) (sym as_read)
     ∙ ap (λ b. read_of read b (program_size (parameters_of job.config))) (sym (ap (λ (x : Parameters). x.base) (same ∙ geometry)))
     ∙ ap (read_of read numbers.base) (sym (as_long ∙ ap program_size geometry)) ∙ h
 
 -- what a program file was read as is what its bytes mean
-pub meaning_is : (source : ProgramSource) (job : Job) (bytes input : List ℕ) (means : Result Contents ElfError) → IsElf source → read_of bytes job.config.base (program_size (parameters_of job.config)) ≡ means
+pub meaning_is : (source : ProgramSource) (job : Job) (bytes input : List ℕ) (means : Result Contents ElfError) → IsElf source
+    → read_of bytes job.config.base (program_size (parameters_of job.config)) ≡ means
     → meaning_of source job bytes input ≡ begun (parameters_of job.config) means
 meaning_is (file name) job bytes input means elf h = ap (begun (parameters_of job.config)) h
 meaning_is (made n) job bytes input means elf h = ap (begun (parameters_of job.config)) h
 meaning_is (image name) job bytes input means elf h = absurd elf
 
 -- a program is what was read of the bytes of a program file
-pub IsProgramOf-read : (source : ProgramSource) (job : Job) (stock : Stock) (p : Parameters) (fetched : FetchedBytes) (i : Image) → IsElf source → AreFetchedFor source job stock p fetched
-    → read_of (bytes_of fetched.bytes) job.config.base (program_size (parameters_of job.config)) ≡ Ok (contents_of i) → length (bytes_of i.memory) ≡ program_size p
+pub IsProgramOf-read : (source : ProgramSource) (job : Job) (stock : Stock) (p : Parameters) (fetched : FetchedBytes) (i : Image)
+    → IsElf source → AreFetchedFor source job stock p fetched
+    → read_of (bytes_of fetched.bytes) job.config.base (program_size (parameters_of job.config)) ≡ Ok (contents_of i)
+    → length (bytes_of i.memory) ≡ program_size p
     → IsProgramOf source job stock (record { geometry = p; image = i; input = fetched.input })
 IsProgramOf-read source job stock p fetched i elf h read size = record {
   geometry = h.numbers;
@@ -87,7 +92,8 @@ start_recordable p o true e h = (eqb-true p.harts 2 e, h)
 start_recordable p o false e h = eqb-false p.harts 2 e
 
 -- a start state begins a run from a file
-pub IsOrigin-start : (o : Origin) (contents : Contents) → IsInRange o.geometry → o.start ≡ start_state o.geometry contents → IsStorable (program_size o.geometry) o.start → IsReadable (setting_of o) → o.kept ≡ None → IsOrigin o
+pub IsOrigin-start : (o : Origin) (contents : Contents) → IsInRange o.geometry → o.start ≡ start_state o.geometry contents
+    → IsStorable (program_size o.geometry) o.start → IsReadable (setting_of o) → o.kept ≡ None → IsOrigin o
 IsOrigin-start o contents range is storable readable fresh =
     let console : length o.start.console ≡ 0 = ap (λ (s : State). length s.console) is in
     let count : o.start.count ≡ 0 = ap (λ (s : State). s.count) is in
@@ -117,7 +123,8 @@ IsOrigin-start o contents range is storable readable fresh =
     }
 
 -- a beginning in hand is the one that is meant
-beginning_is : (s : Start) (blocks : List Block) (begins : Beginning) → state_of s.state ≡ begins.start → s.kept ≡ begins.kept → blocks ≡ begins.blocks → begun_with s blocks ≡ begins
+beginning_is : (s : Start) (blocks : List Block) (begins : Beginning) → state_of s.state ≡ begins.start → s.kept ≡ begins.kept
+    → blocks ≡ begins.blocks → begun_with s blocks ≡ begins
 beginning_is s blocks begins start kept same =
     ap (λ x. record { start = x; kept = s.kept; blocks = blocks }) start
     ∙ ap (λ m. record { start = begins.start; kept = m; blocks = blocks }) kept
@@ -132,7 +139,8 @@ Begins-entry source job stock p b program start storable kept reads blocks =
     let fresh : begins.kept ≡ None = ap (λ (x : Beginning). x.kept) program.begins in
     let bare : begins.blocks ≡ [] = ap (λ (x : Beginning). x.blocks) program.begins in
     let there : begins.start ≡ start_state p.geometry (contents_of p.image) = ap (λ (x : Beginning). x.start) program.begins in
-    let first : begins.start ≡ start_state (parameters_of job.config) (contents_of p.image) = there ∙ ap (λ q. start_state q (contents_of p.image)) program.geometry in
+    let first : begins.start ≡ start_state (parameters_of job.config) (contents_of p.image) =
+    there ∙ ap (λ q. start_state q (contents_of p.image)) program.geometry in
     let same : state_of b.start.state ≡ begins.start = start ∙ sym there in
     record {
       program = program.program;
@@ -141,23 +149,33 @@ Begins-entry source job stock p b program start storable kept reads blocks =
       origin = IsOrigin-start (origin_for job begins program.program.input) (contents_of p.image)
           (subst IsInRange program.geometry program.in_range) first
           (subst (λ q. IsStorable (program_size q) begins.start) program.geometry (subst (IsStorable (program_size p.geometry)) same storable))
-          (record { bytes = program.program.fetched.input_bytes; size = input_size stock job.input program.program.input program.program.fetched.is_input })
+          (record {
+            bytes = program.program.fetched.input_bytes;
+            size = input_size stock job.input program.program.input program.program.fetched.is_input;
+          })
           fresh;
       fits = subst (FitsKept (parameters_of job.config) begins) (sym fresh) bare;
     }
 
 within_is : (bytes input : List ℕ) (epoch : ℕ) (s : State) → s.cursor ≤ length input
     → restored bytes input (At epoch s) ≡ Ok (record { start = s; kept = Some (mark epoch s.count); blocks = blocks_of bytes })
-within_is bytes input epoch s l = ap (λ t. if t then Ok (record { start = s; kept = Some (mark epoch s.count); blocks = blocks_of bytes }) else Err (Input s.cursor (length input))) (le-leb s.cursor (length input) l)
+within_is bytes input epoch s l = ap (λ t. if t then Ok (record {
+  start = s;
+  kept = Some (mark epoch s.count);
+  blocks = blocks_of bytes;
+}) else Err (Input s.cursor (length input))) (le-leb s.cursor (length input) l)
 
 -- what a run of an image begins with
-pub Begins-image : (name : List ℕ) (job : Job) (stock : Stock) (p : Parameters) (fetched : FetchedBytes) (epoch : ℕ) (b : BeginningValue) → AreFetchedFor (image name) job stock p fetched
-    → IsRestored p (bytes_of fetched.bytes) (bytes_of fetched.input) epoch b → b.start.state.cursor ≤ length (bytes_of fetched.input) → Begins (image name) job stock b
+pub Begins-image : (name : List ℕ) (job : Job) (stock : Stock) (p : Parameters) (fetched : FetchedBytes) (epoch : ℕ) (b : BeginningValue)
+    → AreFetchedFor (image name) job stock p fetched
+    → IsRestored p (bytes_of fetched.bytes) (bytes_of fetched.input) epoch b → b.start.state.cursor ≤ length (bytes_of fetched.input)
+    → Begins (image name) job stock b
 Begins-image name job stock p fetched epoch b h r within =
     let s : State = state_of b.start.state in
     let bytes : List ℕ = bytes_of fetched.bytes in
     let input : List ℕ = bytes_of fetched.input in
-    let decodes : decode_bytes (parameters_of job.config) (2 ^ 62) bytes ≡ At epoch s = ap (λ q. decode_bytes q (2 ^ 62) bytes) (sym h.numbers) ∙ r.decodes in
+    let decodes : decode_bytes (parameters_of job.config) (2 ^ 62) bytes ≡ At epoch s =
+    ap (λ q. decode_bytes q (2 ^ 62) bytes) (sym h.numbers) ∙ r.decodes in
     let begins : Beginning = record { start = s; kept = Some (mark epoch s.count); blocks = blocks_of bytes } in
     record {
       program = record {

@@ -74,12 +74,14 @@ module _ (shape : Shape) (start : List Block) (n : Device) (some : 0 < shape.blo
       let none : shape.blocks + 2 - length (first_image shape.blocks start) ≡ 0 = omega (arith, length-first_image shape.blocks start most) in
       ap (λ k. first_image shape.blocks start ++ replicate k zero_block) none ∙ append-nil (first_image shape.blocks start)
 
-  pub IsLevelled-fitted : shape.blocks + 2 < 2 ^ 64 → shape.cuts + 1 < 2 ^ 64 → IsLevelled (unmoved shape.blocks) 0 (fitted (inner_shape shape) (first_image shape.blocks start) n)
+  pub IsLevelled-fitted : shape.blocks + 2 < 2 ^ 64 → shape.cuts + 1 < 2 ^ 64
+      → IsLevelled (unmoved shape.blocks) 0 (fitted (inner_shape shape) (first_image shape.blocks start) n)
   IsLevelled-fitted room cuts =
       let r : Registers = unmoved shape.blocks in
       let f : Device = fitted (inner_shape shape) (first_image shape.blocks start) n in
       let w : IsWhole r = whole-unmoved shape.blocks some room in
-      let q : IsQuiet r f = rest-quiet r f refl (ap (λ (g : List Block). block_at g (shape.blocks + 1)) image-fitted ∙ first-registers shape.blocks start most) in
+      let q : IsQuiet r f = rest-quiet r f refl
+      (ap (λ (g : List Block). block_at g (shape.blocks + 1)) image-fitted ∙ first-registers shape.blocks start most) in
       record {
         whole = w;
         blocks = ap length image-fitted ∙ length-first_image shape.blocks start most;
@@ -90,14 +92,21 @@ module _ (shape : Shape) (start : List Block) (n : Device) (some : 0 < shape.blo
         room = omega (arith, cuts);
       }
 
-  pub seen-fitted : (r : Registers) → seen (unmoved shape.blocks) (fitted (inner_shape shape) (first_image shape.blocks start) n) ≡ fitted shape start (seen r n)
+  pub seen-fitted : (r : Registers)
+      → seen (unmoved shape.blocks) (fitted (inner_shape shape) (first_image shape.blocks start) n) ≡ fitted shape start (seen r n)
   seen-fitted r =
       let lines : List Block = start ++ replicate (shape.blocks - length start) zero_block in
-      let has : length lines ≡ shape.blocks = omega (arith, length-append start (replicate (shape.blocks - length start) zero_block), length-replicate (shape.blocks - length start) zero_block, most) in
+      let has : length lines ≡ shape.blocks = omega (
+        arith,
+        length-append start (replicate (shape.blocks - length start) zero_block),
+        length-replicate (shape.blocks - length start) zero_block,
+        most,
+      ) in
       let same : unmap (unmoved shape.blocks) (fitted (inner_shape shape) (first_image shape.blocks start) n).image ≡ lines =
       ap (unmap (unmoved shape.blocks)) image-fitted
       ∙ unmap-is (unmoved shape.blocks) (first_image shape.blocks start) lines has
       (λ x l. ap (block_at (first_image shape.blocks start)) (place-unmoved shape.blocks x l) ∙ first-line shape.blocks start x most l) in
       let made : List Block → Bool → Device =
-      λ g t. record (fitted shape start (seen r n)) { image = g; left = if t then [] else []; picks = if t then [] else []; left_room = if t then 0 else shape.cuts + 1 } in
+      λ g t. record (fitted shape start (seen r n))
+      { image = g; left = if t then [] else []; picks = if t then [] else []; left_room = if t then 0 else shape.cuts + 1 } in
       ap (λ g. made g (shape.blocks == 0)) same ∙ ap (λ t. made lines t) (ne_eqb shape.blocks 0 (λ e. omega (arith, e, some)))

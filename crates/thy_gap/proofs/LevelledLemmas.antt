@@ -29,7 +29,8 @@ IsQuiet-settled r count n q = record {
   in_hand = λ b h. q.in_hand b (no_more-settled count n (r.lines + 1) b h);
 }
 
-pub IsQuiet-written : (r : Registers) (n : Device) (x : ℕ) (block : Block) → IsWhole r → x < r.lines → IsQuiet r n → IsQuiet r (written_to n (place r x) block)
+pub IsQuiet-written : (r : Registers) (n : Device) (x : ℕ) (block : Block) → IsWhole r → x < r.lines → IsQuiet r n
+    → IsQuiet r (written_to n (place r x) block)
 IsQuiet-written r n x block w l q = record {
   lines =
       All-push (λ (w : Write). is_some (line_at r w.at) ≡ true) (drop (surplus n) n.queue) (write_of (place r x) block)
@@ -38,7 +39,8 @@ IsQuiet-written r n x block w l q = record {
 }
 
 -- a device of which nothing else has changed stays levelled
-pub IsLevelled-quiet : (r : Registers) (cuts : ℕ) (old new : Device) → IsLevelled r cuts old → IsFramed old new → IsQuiet r new → IsLevelled r cuts new
+pub IsLevelled-quiet : (r : Registers) (cuts : ℕ) (old new : Device) → IsLevelled r cuts old → IsFramed old new → IsQuiet r new
+    → IsLevelled r cuts new
 IsLevelled-quiet r cuts old new i f q = record {
   whole = i.whole;
   blocks = f.blocks ∙ i.blocks;
@@ -51,60 +53,65 @@ IsLevelled-quiet r cuts old new i f q = record {
 
 -- ---- where a call failed
 
-pub IsOfRegisters-no_more : (r : Registers) (old new : Device) (b : Block) → IsOfRegisters r old b → HoldsNoMore old new → IsOfRegisters r new b
+pub IsOfRegisters-no_more : (r : Registers) (old new : Device) (b : Block) → IsOfRegisters r old b → HoldsNoMore old new
+    → IsOfRegisters r new b
 IsOfRegisters-no_more r old new b t no_more = record {
   in_hand = t.in_hand;
   moved_on = t.moved_on;
   copied = λ ne. IsCopied-no_more r old new (t.copied ne) (no_more r.gap) (no_more (source r));
 }
 
--- a device that is down stays levelled if its registers say the same
-pub IsLevelled-parts : (r : Registers) (cuts : ℕ) (old new : Device) → IsLevelled r cuts old → length new.image ≡ length old.image → new.left ≡ old.left → new.left_room ≡ old.left_room
-    → new.down ≡ true → ((b : Block) → CrashAt new (r.lines + 1) b → IsOfRegisters r new b) → IsLevelled r cuts new
-IsLevelled-parts r cuts old new i blocks left room down of_registers = record {
-  whole = i.whole;
-  blocks = blocks ∙ i.blocks;
-  registers = of_registers;
-  quiet = λ up. absurd (true≢false (sym down ∙ up));
-  left = subst (λ (l : List (List Block)). All (HasRegisters r.lines) l) (sym left) i.left;
-  cuts_are = ap length left ∙ i.cuts_are;
-  room = omega (arith, i.room, room);
-}
+module _ (r : Registers) (cuts : ℕ) where
+  -- a device that is down stays levelled if its registers say the same
+  pub IsLevelled-parts : (old new : Device) → IsLevelled r cuts old → length new.image ≡ length old.image → new.left ≡ old.left
+      → new.left_room ≡ old.left_room → new.down ≡ true → ((b : Block) → CrashAt new (r.lines + 1) b → IsOfRegisters r new b)
+      → IsLevelled r cuts new
+  IsLevelled-parts old new i blocks left room down of_registers = record {
+    whole = i.whole;
+    blocks = blocks ∙ i.blocks;
+    registers = of_registers;
+    quiet = λ up. absurd (true≢false (sym down ∙ up));
+    left = subst (λ (l : List (List Block)). All (HasRegisters r.lines) l) (sym left) i.left;
+    cuts_are = ap length left ∙ i.cuts_are;
+    room = omega (arith, i.room, room);
+  }
 
-pub IsLevelled-down : (r : Registers) (cuts : ℕ) (old new : Device) → IsLevelled r cuts old → IsFramed old new → new.down ≡ true
-    → ((b : Block) → CrashAt new (r.lines + 1) b → IsOfRegisters r new b) → IsLevelled r cuts new
-IsLevelled-down r cuts old new i f down of_registers = IsLevelled-parts r cuts old new i f.blocks f.left f.left_room down of_registers
+  pub IsLevelled-down : (old new : Device) → IsLevelled r cuts old → IsFramed old new → new.down ≡ true
+      → ((b : Block) → CrashAt new (r.lines + 1) b → IsOfRegisters r new b) → IsLevelled r cuts new
+  IsLevelled-down old new i f down of_registers = IsLevelled-parts old new i f.blocks f.left f.left_room down of_registers
 
--- a device whose fit failed stays levelled, whatever its count of fits
-pub IsLevelled-failed_to_fit : (r : Registers) (cuts k : ℕ) (old new : Device) → IsLevelled r cuts old → IsFramed (record old { fits = k }) new → HasFailed old new → IsLevelled r cuts new
-IsLevelled-failed_to_fit r cuts k old new i f failed =
-    IsLevelled-parts r cuts old new i f.blocks f.left f.left_room failed.down
-    (λ b h. IsOfRegisters-no_more r old new b (i.registers b (failed.no_more (r.lines + 1) b h)) failed.no_more)
+  -- a device whose fit failed stays levelled, whatever its count of fits
+  pub IsLevelled-failed_to_fit : (k : ℕ) (old new : Device) → IsLevelled r cuts old → IsFramed (record old { fits = k }) new
+      → HasFailed old new → IsLevelled r cuts new
+  IsLevelled-failed_to_fit k old new i f failed =
+      IsLevelled-parts old new i f.blocks f.left f.left_room failed.down
+      (λ b h. IsOfRegisters-no_more r old new b (i.registers b (failed.no_more (r.lines + 1) b h)) failed.no_more)
 
--- whatever it counts
-pub IsLevelled-counted : (r : Registers) (cuts fits writes : ℕ) (wear : Wear) (old : Device) → IsLevelled r cuts old
-    → IsLevelled r cuts (record old { fits = fits; writes = writes; wear = wear })
-IsLevelled-counted r cuts fits writes wear old i = record {
-  whole = i.whole;
-  blocks = i.blocks;
-  registers = λ b h. IsOfRegisters-no_more r old (record old { fits = fits; writes = writes; wear = wear }) b (i.registers b h) (λ x c h. h);
-  quiet = λ up. record { lines = (i.quiet up).lines; in_hand = (i.quiet up).in_hand };
-  left = i.left;
-  cuts_are = i.cuts_are;
-  room = i.room;
-}
+  -- whatever it counts
+  pub IsLevelled-counted : (fits writes : ℕ) (wear : Wear) (old : Device) → IsLevelled r cuts old
+      → IsLevelled r cuts (record old { fits = fits; writes = writes; wear = wear })
+  IsLevelled-counted fits writes wear old i = record {
+    whole = i.whole;
+    blocks = i.blocks;
+    registers = λ b h. IsOfRegisters-no_more r old (record old { fits = fits; writes = writes; wear = wear }) b (i.registers b h) (λ x c h. h);
+    quiet = λ up. record { lines = (i.quiet up).lines; in_hand = (i.quiet up).in_hand };
+    left = i.left;
+    cuts_are = i.cuts_are;
+    room = i.room;
+  }
 
-pub IsLevelled-failed : (r : Registers) (cuts : ℕ) (old new : Device) → IsLevelled r cuts old → IsFramed old new → new.down ≡ true → HoldsNoMore old new → IsLevelled r cuts new
-IsLevelled-failed r cuts old new i f down no_more =
-    IsLevelled-down r cuts old new i f down (λ b h. IsOfRegisters-no_more r old new b (i.registers b (no_more (r.lines + 1) b h)) no_more)
+  pub IsLevelled-failed : (old new : Device) → IsLevelled r cuts old → IsFramed old new → new.down ≡ true → HoldsNoMore old new
+      → IsLevelled r cuts new
+  IsLevelled-failed old new i f down no_more =
+      IsLevelled-down old new i f down (λ b h. IsOfRegisters-no_more r old new b (i.registers b (no_more (r.lines + 1) b h)) no_more)
 
-pub IsLevelled-failed_to_write : (r : Registers) (cuts : ℕ) (old new : Device) (x : ℕ) (block : Block)
-    → IsLevelled r cuts old → x < r.lines → old.down ≡ false → IsFramed old new → HasFailedToWrite (place r x) block old new → IsLevelled r cuts new
-IsLevelled-failed_to_write r cuts old new x block i l up f failed =
-    IsLevelled-down r cuts old new i f failed.down
-    (λ b h. IsOfRegisters-in_hand r new b i.whole
-    ((i.quiet up).in_hand b
-    (CrashAt-elsewhere old (place r x) block (r.lines + 1) b (λ e. omega (arith, e, place-within r x i.whole l)) (failed.no_more (r.lines + 1) b h))))
+  pub IsLevelled-failed_to_write : (old new : Device) (x : ℕ) (block : Block) → IsLevelled r cuts old → x < r.lines → old.down ≡ false
+      → IsFramed old new → HasFailedToWrite (place r x) block old new → IsLevelled r cuts new
+  IsLevelled-failed_to_write old new x block i l up f failed =
+      IsLevelled-down old new i f failed.down
+      (λ b h. IsOfRegisters-in_hand r new b i.whole
+      ((i.quiet up).in_hand b
+      (CrashAt-elsewhere old (place r x) block (r.lines + 1) b (λ e. omega (arith, e, place-within r x i.whole l)) (failed.no_more (r.lines + 1) b h))))
 
 -- ---- what is seen
 
@@ -120,7 +127,8 @@ pub IsFramed-moved : (every since moves later more : ℕ) (r s : Registers) (old
     → IsFramed (looks every since moves r old) (looks every later more s new)
 IsFramed-moved every since moves later more r s old new e f = record {
   blocks = length-unmap s new.image ∙ e ∙ sym (length-unmap r old.image);
-  left = ap (λ n. if n == 0 then [] else map unmapped new.left) e ∙ ap (λ (l : List (List Block)). if r.lines == 0 then [] else map unmapped l) f.left;
+  left = ap (λ n. if n == 0 then [] else map unmapped new.left) e
+      ∙ ap (λ (l : List (List Block)). if r.lines == 0 then [] else map unmapped l) f.left;
   picks = ap (λ n. if n == 0 then [] else new.picks) e ∙ ap (λ (l : List ℕ). if r.lines == 0 then [] else l) f.picks;
   queue_room = f.queue_room;
   left_room = ap (λ n. if n == 0 then 0 else new.left_room) e ∙ ap (λ (l : ℕ). if r.lines == 0 then 0 else l) f.left_room;

@@ -23,30 +23,31 @@ registers_of-block r n w e =
     ∙ ap (λ s. let q : Registers = record { lines = r.lines; start = s; gap = word_of (registers_block r) 2 } in q) (start-in_block r w)
     ∙ ap (λ y. let q : Registers = record { lines = r.lines; start = r.start; gap = y } in q) (gap-in_block r w)
 
-pub IsOfRegisters-in_hand : (r : Registers) (n : Device) (b : Block) → IsWhole r → b ≡ registers_block r → IsOfRegisters r n b
-IsOfRegisters-in_hand r n b w e =
-    let here : word_of b 2 ≡ r.gap = ap (λ (x : Block). word_of x 2) e ∙ gap-in_block r w in
-    record {
-      in_hand = λ _. e;
-      moved_on = λ other. absurd (other here);
-      copied = λ other. absurd (other here);
-    }
+module _ (r : Registers) (n : Device) (b : Block) where
+  pub IsOfRegisters-in_hand : IsWhole r → b ≡ registers_block r → IsOfRegisters r n b
+  IsOfRegisters-in_hand w e =
+      let here : word_of b 2 ≡ r.gap = ap (λ (x : Block). word_of x 2) e ∙ gap-in_block r w in
+      record {
+        in_hand = λ _. e;
+        moved_on = λ other. absurd (other here);
+        copied = λ other. absurd (other here);
+      }
 
-pub IsOfRegisters-moved : (r : Registers) (n : Device) (b : Block) → IsWhole r → b ≡ registers_block (moved r) → IsCopied r n → IsOfRegisters r n b
-IsOfRegisters-moved r n b w e copied =
-    let there : word_of b 2 ≡ source r = ap (λ (x : Block). word_of x 2) e ∙ gap-in_block (moved r) (whole-moved r w) in
-    record {
-      in_hand = λ here. absurd ((source-within r w).1 (sym there ∙ here));
-      moved_on = λ _. e;
-      copied = λ _. copied;
-    }
+  pub IsOfRegisters-moved : IsWhole r → b ≡ registers_block (moved r) → IsCopied r n → IsOfRegisters r n b
+  IsOfRegisters-moved w e copied =
+      let there : word_of b 2 ≡ source r = ap (λ (x : Block). word_of x 2) e ∙ gap-in_block (moved r) (whole-moved r w) in
+      record {
+        in_hand = λ here. absurd ((source-within r w).1 (sym there ∙ here));
+        moved_on = λ _. e;
+        copied = λ _. copied;
+      }
 
--- what a block of registers says: the registers in hand, or the next ones
-pub IsOfRegisters-cases : (r : Registers) (n : Device) (b : Block) → IsOfRegisters r n b → (b ≡ registers_block r) ⊎ ((b ≡ registers_block (moved r)) × IsCopied r n)
-IsOfRegisters-cases r n b t = elim (cases_eq (word_of b 2) r.gap) as (λ _. (b ≡ registers_block r) ⊎ ((b ≡ registers_block (moved r)) × IsCopied r n)) [
-  | inl e ↦ inl (t.in_hand e)
-  | inr ne ↦ inr (t.moved_on ne, t.copied ne)
-]
+  -- what a block of registers says: the registers in hand, or the next ones
+  pub IsOfRegisters-cases : IsOfRegisters r n b → (b ≡ registers_block r) ⊎ ((b ≡ registers_block (moved r)) × IsCopied r n)
+  IsOfRegisters-cases t = elim (cases_eq (word_of b 2) r.gap) as (λ _. (b ≡ registers_block r) ⊎ ((b ≡ registers_block (moved r)) × IsCopied r n)) [
+    | inl e ↦ inl (t.in_hand e)
+    | inr ne ↦ inr (t.moved_on ne, t.copied ne)
+  ]
 
 -- what is copied stays so if no more is possible at gap and source
 pub IsCopied-no_more : (r : Registers) (old new : Device) → IsCopied r old

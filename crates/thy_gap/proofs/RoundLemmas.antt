@@ -21,7 +21,8 @@ place-rotated r x w l = ap (stepped r.gap) (wrapped-is r.lines (x + r.start) (om
 pub place-move_cases : (r : Registers) (x : ℕ) → IsWhole r → x < r.lines
     → ((place r x ≡ source r) × (place (moved r) x ≡ r.gap)) ⊎ ((place r x ≢ source r) × (place (moved r) x ≡ place r x))
 place-move_cases r x w l =
-    elim (cases_eq (place r x) (source r)) as (λ _. ((place r x ≡ source r) × (place (moved r) x ≡ r.gap)) ⊎ ((place r x ≢ source r) × (place (moved r) x ≡ place r x))) [
+    elim (cases_eq (place r x) (source r))
+    as (λ _. ((place r x ≡ source r) × (place (moved r) x ≡ r.gap)) ⊎ ((place r x ≢ source r) × (place (moved r) x ≡ place r x))) [
       | inl here ↦ inl (here, place-moved_line r x w l here)
       | inr other ↦ inr (other, place-other_line r x w l other)
     ]
@@ -40,7 +41,11 @@ moved-down : (r : Registers) (y : ℕ) → moved (gap_at r (suc y)) ≡ gap_at r
 moved-down r y =
     let ne : (suc y == 0) ≡ false = ne_eqb (suc y) 0 (λ e. omega (arith, e)) in
     let less : suc y - 1 ≡ y = omega arith in
-    ap (λ t. let q : Registers = record { lines = r.lines; start = if t then wrapped r.lines (r.start + 1) else r.start; gap = if t then r.lines else suc y - 1 } in q) ne
+    ap (λ t. let q : Registers = record {
+      lines = r.lines;
+      start = if t then wrapped r.lines (r.start + 1) else r.start;
+      gap = if t then r.lines else suc y - 1;
+    } in q) ne
     ∙ ap (gap_at r) less
 
 -- the moves until it is there
@@ -82,7 +87,8 @@ round_of r w =
 pub round-rotates : (r : Registers) → IsWhole r → moved_times (r.lines + 1) r ≡ record r { start = (r.start + 1) % r.lines }
 round-rotates r w =
     round_of r w
-    ∙ ap (λ s. let q : Registers = record { lines = r.lines; start = s; gap = r.gap } in q) (wrapped-is r.lines (r.start + 1) (omega (arith, w.start)))
+    ∙ ap (λ s. let q : Registers = record { lines = r.lines; start = s; gap = r.gap } in q)
+    (wrapped-is r.lines (r.start + 1) (omega (arith, w.start)))
 
 pub round-shifts : (r : Registers) (x : ℕ) → IsWhole r → x < r.lines → place (moved_times (r.lines + 1) r) x ≡ place r ((x + 1) % r.lines)
 unfolding place
@@ -112,7 +118,8 @@ at_end r x t e last =
     ap (stepped 0) e ∙ ap (λ b. if b then t else t + 1) (le-ltb t 0 (omega arith)) ∙ one
 
 -- each line is at the source once in a round
-pub round-moves_each : (r : Registers) (x : ℕ) → IsWhole r → x < r.lines → (k : ℕ) × (k ≤ r.lines) × (place (moved_times k r) x ≡ source (moved_times k r))
+pub round-moves_each : (r : Registers) (x : ℕ) → IsWhole r → x < r.lines
+    → (k : ℕ) × (k ≤ r.lines) × (place (moved_times k r) x ≡ source (moved_times k r))
 round-moves_each r x w l =
     let t : ℕ = wrapped r.lines (x + r.start) in
     let below : t < r.lines = omega (arith, w.start, l, wrapped-cases r.lines (x + r.start)) in

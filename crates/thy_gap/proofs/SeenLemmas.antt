@@ -18,22 +18,23 @@ use Rattle.thy_gap.proofs.LineLemmas.{place-within, line_at-place, place-line_at
 
 -- ---- images
 
-pub length-unmap : (r : Registers) (g : List Block) → length (unmap r g) ≡ r.lines
-length-unmap r g = length-map-range_with_len (λ x. block_at g (place r x)) 0 r.lines
+module _ (r : Registers) (g : List Block) where
+  pub length-unmap : length (unmap r g) ≡ r.lines
+  length-unmap = length-map-range_with_len (λ x. block_at g (place r x)) 0 r.lines
 
-pub block_at-unmap : (r : Registers) (g : List Block) (x : ℕ) → x < r.lines → block_at (unmap r g) x ≡ block_at g (place r x)
-block_at-unmap r g x l = get_or-map-range_with_len (λ x. block_at g (place r x)) 0 r.lines x x zero_block l (omega arith)
+  pub block_at-unmap : (x : ℕ) → x < r.lines → block_at (unmap r g) x ≡ block_at g (place r x)
+  block_at-unmap x l = get_or-map-range_with_len (λ x. block_at g (place r x)) 0 r.lines x x zero_block l (omega arith)
 
-pub block_at-unmap_past : (r : Registers) (g : List Block) (x : ℕ) → r.lines ≤ x → block_at (unmap r g) x ≡ zero_block
-block_at-unmap_past r g x l = get_or_past (unmap r g) x zero_block (omega (arith, l, length-unmap r g))
+  pub block_at-unmap_past : (x : ℕ) → r.lines ≤ x → block_at (unmap r g) x ≡ zero_block
+  block_at-unmap_past x l = get_or_past (unmap r g) x zero_block (omega (arith, l, length-unmap))
 
--- the image through registers is this list, if each of its blocks is where they say
-pub unmap-is : (r : Registers) (g h : List Block) → length h ≡ r.lines → ((x : ℕ) → x < r.lines → block_at g (place r x) ≡ block_at h x) → unmap r g ≡ h
-unmap-is r g h same each =
-    ext_get_or zero_block (unmap r g) h (length-unmap r g ∙ sym same)
-    (λ x l.
-    let inside : x < r.lines = omega (arith, l, length-unmap r g) in
-    block_at-unmap r g x inside ∙ each x inside)
+  -- the image through registers is this list, if each of its blocks is where they say
+  pub unmap-is : (h : List Block) → length h ≡ r.lines → ((x : ℕ) → x < r.lines → block_at g (place r x) ≡ block_at h x) → unmap r g ≡ h
+  unmap-is h same each =
+      ext_get_or zero_block (unmap r g) h (length-unmap ∙ sym same)
+      (λ x l.
+      let inside : x < r.lines = omega (arith, l, length-unmap) in
+      block_at-unmap x inside ∙ each x inside)
 
 -- ---- writes
 
@@ -88,7 +89,8 @@ queued_for-one r at b (Some z) x w l h =
     let line = place-line_at r z at w h in
     ap (λ t. if t then b ∷ [] else []) (sym (tests r at z x w line.0 l line.1))
 
-pub queued_for-unmap : (r : Registers) (ws : List Write) (x : ℕ) → IsWhole r → x < r.lines → queued_for (unmap_queue r ws) x ≡ queued_for ws (place r x)
+pub queued_for-unmap : (r : Registers) (ws : List Write) (x : ℕ) → IsWhole r → x < r.lines
+    → queued_for (unmap_queue r ws) x ≡ queued_for ws (place r x)
 queued_for-unmap r [] x w l = refl
 queued_for-unmap r (v ∷ vs) x w l =
     queued_for-append (write_to (line_at r v.at) v.block) (unmap_queue r vs) x
@@ -97,7 +99,8 @@ queued_for-unmap r (v ∷ vs) x w l =
     ∙ sym (queued_for-append (write_of v.at v.block ∷ []) vs (place r x))
 
 -- one write, at no line
-queued_for-one_past : (r : Registers) (at : ℕ) (b : Block) (o : Option ℕ) (x : ℕ) → IsWhole r → r.lines ≤ x → line_at r at ≡ o → queued_for (write_to o b) x ≡ []
+queued_for-one_past : (r : Registers) (at : ℕ) (b : Block) (o : Option ℕ) (x : ℕ) → IsWhole r → r.lines ≤ x → line_at r at ≡ o
+    → queued_for (write_to o b) x ≡ []
 queued_for-one_past r at b None x w l h = refl
 queued_for-one_past r at b (Some z) x w l h =
     let line = place-line_at r z at w h in
@@ -141,7 +144,8 @@ pub write_to-line : (o : Option ℕ) (b : Block) → is_some o ≡ true → (x :
 write_to-line None b h = absurd (true≢false (sym h))
 write_to-line (Some x) b h = (x, refl)
 
-pub length-unmap_queue : (r : Registers) (ws : List Write) → All (λ (w : Write). is_some (line_at r w.at) ≡ true) ws → length (unmap_queue r ws) ≡ length ws
+pub length-unmap_queue : (r : Registers) (ws : List Write) → All (λ (w : Write). is_some (line_at r w.at) ≡ true) ws
+    → length (unmap_queue r ws) ≡ length ws
 length-unmap_queue r [] all = refl
 length-unmap_queue r (w ∷ ws) all =
     let one = write_to-line (line_at r w.at) w.block (All-head (λ (w : Write). is_some (line_at r w.at) ≡ true) w ws all) in
@@ -193,7 +197,8 @@ left_past r n x b w l left =
 
 pub zero_left : (r : Registers) (n : Device) (x : ℕ) → IsWhole r → r.lines ≤ x → CrashAt (seen r n) x zero_block
 zero_left r n x w l =
-    CrashAt-possible (seen r n) x zero_block (subst (λ (q : List Block). Contains q zero_block) (sym (possible-seen_past r n x w l)) (Contains-push [] zero_block))
+    CrashAt-possible (seen r n) x zero_block
+    (subst (λ (q : List Block). Contains q zero_block) (sym (possible-seen_past r n x w l)) (Contains-push [] zero_block))
 
 -- if no line may hold more in the inner device, none may hold more through the registers
 pub no_more-seen : (r : Registers) (old new : Device) → IsWhole r
@@ -214,14 +219,17 @@ pub seen-changed : (r : Registers) (n : Device) (image : List Block) (queue : Li
     → seen r (record n { image = image; queue = queue }) ≡ record (seen r n) { image = g; queue = q }
 seen-changed r n image queue g q a b = cc
 
-pub seen-landed : (r : Registers) (n : Device) (k : ℕ) → IsWhole r → length n.image ≡ r.lines + 2 → All (λ (w : Write). is_some (line_at r w.at) ≡ true) n.queue
+pub seen-landed : (r : Registers) (n : Device) (k : ℕ) → IsWhole r → length n.image ≡ r.lines + 2
+    → All (λ (w : Write). is_some (line_at r w.at) ≡ true) n.queue
     → seen r (landed k n) ≡ landed k (seen r n)
 seen-landed r n k w len all =
-    seen-changed r n (applied n.image (take k n.queue)) (drop k n.queue) (applied (unmap r n.image) (take k (unmap_queue r n.queue))) (drop k (unmap_queue r n.queue))
+    seen-changed r n (applied n.image (take k n.queue)) (drop k n.queue) (applied (unmap r n.image) (take k (unmap_queue r n.queue)))
+    (drop k (unmap_queue r n.queue))
     (unmap-applied r n.image (take k n.queue) w len ∙ ap (applied (unmap r n.image)) (take-unmap_queue r k n.queue all))
     (drop-unmap_queue r k n.queue all)
 
-pub seen-settled : (r : Registers) (count : ℕ) (n : Device) → IsWhole r → length n.image ≡ r.lines + 2 → seen r (settled count n) ≡ settled count (seen r n)
+pub seen-settled : (r : Registers) (count : ℕ) (n : Device) → IsWhole r → length n.image ≡ r.lines + 2
+    → seen r (settled count n) ≡ settled count (seen r n)
 seen-settled r count n w len =
     let m : Device = record n { writes = count; wear = if moves_next n then moved_on n.wear else n.wear } in
     seen-changed r m (applied n.image n.queue) [] (applied (unmap r n.image) (unmap_queue r n.queue)) [] (unmap-applied r n.image n.queue w len) refl
@@ -235,7 +243,8 @@ seen-with_queued r n x b w l =
     ∙ ap (λ o. unmap_queue r n.queue ++ (write_to o b ++ [])) (line_at-place r x w l))
 
 -- the lines' queue has to let the same number of writes land as the inner device's
-pub surplus-seen : (r : Registers) (n : Device) → All (λ (w : Write). is_some (line_at r w.at) ≡ true) n.queue → surplus (seen r n) ≡ surplus n
+pub surplus-seen : (r : Registers) (n : Device) → All (λ (w : Write). is_some (line_at r w.at) ≡ true) n.queue
+    → surplus (seen r n) ≡ surplus n
 surplus-seen r n all = ap (λ k. if nat_lt k n.queue_room then 0 else 1) (length-unmap_queue r n.queue all)
 
 pub seen-written : (r : Registers) (n : Device) (x : ℕ) (b : Block)
@@ -252,4 +261,7 @@ seen-written r n x b w l len all =
     (applied (unmap r n.image) (take k (unmap_queue r n.queue))) (drop k (unmap_queue r n.queue) ++ write_of x b ∷ [])
     (unmap-applied r n.image (take k n.queue) w len ∙ ap (applied (unmap r n.image)) (take-unmap_queue r k n.queue all))
     queued
-    ∙ ap (λ j. record (seen r m) { image = applied (unmap r n.image) (take j (unmap_queue r n.queue)); queue = drop j (unmap_queue r n.queue) ++ write_of x b ∷ [] }) (sym (surplus-seen r n all))
+    ∙ ap (λ j. record (seen r m) {
+      image = applied (unmap r n.image) (take j (unmap_queue r n.queue));
+      queue = drop j (unmap_queue r n.queue) ++ write_of x b ∷ [];
+    }) (sym (surplus-seen r n all))

@@ -133,7 +133,8 @@ module _ {every since moves cuts : ℕ} {r : Registers} {n : Device} (i : IsSoun
     counts = record { writes = failed.counts.writes; wear = ap (λ w. wear_over w every since moves) failed.counts.wear };
   }
 
-  pub unsettled_seen : (new : Device) → HasFailedToSettle n new → HasFailedToSettle (looks every since moves r n) (looks every since moves r new)
+  pub unsettled_seen : (new : Device) → HasFailedToSettle n new
+      → HasFailedToSettle (looks every since moves r n) (looks every since moves r new)
   unsettled_seen new failed = record {
     down = failed.down;
     no_more = no_more_seen new failed.no_more;
@@ -154,10 +155,12 @@ module _ {every since moves cuts : ℕ} {r : Registers} {n : Device} (i : IsSoun
   write_seen x b more one l up =
       let d = levelled_at x l in
       ap (λ k. looks every k moves r (written_to n (place r x) b)) one
-      ∙ ap (λ (m : Device). record m { wear = wear_over (worn n.wear) every (next since) moves }) (seen-written r n x b d.whole l d.blocks (d.quiet up).lines)
+      ∙ ap (λ (m : Device). record m { wear = wear_over (worn n.wear) every (next since) moves })
+      (seen-written r n x b d.whole l d.blocks (d.quiet up).lines)
       ∙ ap (λ (w : Wear). record (written_to (seen r n) x b) { wear = w }) (worn_over n.wear every since moves)
 
-  pub sound_written : (new : Device) (x : ℕ) (b : Block) (more : ℕ) → x < r.lines → n.down ≡ false → new ≡ written_to n (place r x) b → IsFramed n new → IsSoundGap every r more moves cuts new
+  pub sound_written : (new : Device) (x : ℕ) (b : Block) (more : ℕ) → x < r.lines → n.down ≡ false → new ≡ written_to n (place r x) b
+      → IsFramed n new → IsSoundGap every r more moves cuts new
   sound_written new x b more l up e f =
       let d = levelled_at x l in
       record {
@@ -168,7 +171,8 @@ module _ {every since moves cuts : ℕ} {r : Registers} {n : Device} (i : IsSoun
         turned = i.turned;
       }
 
-  pub sound_failed_to_write : (new : Device) (x : ℕ) (b : Block) → x < r.lines → n.down ≡ false → IsFramed n new → HasFailedToWrite (place r x) b n new → IsSoundGap every r since moves cuts new
+  pub sound_failed_to_write : (new : Device) (x : ℕ) (b : Block) → x < r.lines → n.down ≡ false → IsFramed n new
+      → HasFailedToWrite (place r x) b n new → IsSoundGap every r since moves cuts new
   sound_failed_to_write new x b l up f failed = sound_still new (λ d. IsLevelled-failed_to_write r cuts n new x b d l up f failed)
 
   pub failed_to_write_seen : (new : Device) (x : ℕ) (b : Block) → x < r.lines → HasFailedToWrite (place r x) b n new
@@ -268,12 +272,14 @@ module _ {every since moves cuts : ℕ} {r : Registers} {n : Device} (i : IsSoun
       subst (IsAtRest r) (sym e) (rest-settled r cuts m.writes n (i.fitted (fitted_where_due (due_parts due).1)) up (due_parts due).0)
 
   -- the registers have moved, and this is the count of moves
-  pub sound_moved : (m new : Device) (more : ℕ) → more ≡ next moves → is_due n since every ≡ true → n.down ≡ false → Settles n m → IsFramed n m
+  pub sound_moved : (m new : Device) (more : ℕ) → more ≡ next moves → is_due n since every ≡ true → n.down ≡ false → Settles n m
+      → IsFramed n m
       → new ≡ with_counts_of new (line_moved r m) → IsSoundGap every (moved r) 0 more cuts new
   sound_moved m new more one due up e f is =
       let l = fitted_where_due (due_parts due).1 in
       let rest = rest_before_move m due up e in
-      let d : IsLevelled r cuts m = IsLevelled-quiet r cuts n m (i.fitted l) f (subst (IsQuiet r) (sym e) (IsQuiet-settled r m.writes n ((i.fitted l).quiet up))) in
+      let d : IsLevelled r cuts m =
+      IsLevelled-quiet r cuts n m (i.fitted l) f (subst (IsQuiet r) (sym e) (IsQuiet-settled r m.writes n ((i.fitted l).quiet up))) in
       record {
         some = i.some;
         fitted = λ _.
@@ -284,8 +290,10 @@ module _ {every since moves cuts : ℕ} {r : Registers} {n : Device} (i : IsSoun
         turned = subst (λ k. k < 2 ^ 64 - 1 → moved r ≡ moved_times k (unmoved r.lines)) (sym one) (turned-on r moves i.turned);
       }
 
-  pub move_settles : (m new : Device) (s : Registers) (more : ℕ) → s ≡ moved r → more ≡ next moves → is_due n since every ≡ true → n.down ≡ false
-      → n.writes ≤ 2 ^ 64 - 1 → IsSettled n m → new ≡ with_counts_of new (line_moved r m) → is_plain new.wear ≡ is_plain m.wear → m.writes ≤ new.writes
+  pub move_settles : (m new : Device) (s : Registers) (more : ℕ) → s ≡ moved r → more ≡ next moves → is_due n since every ≡ true
+      → n.down ≡ false
+      → n.writes ≤ 2 ^ 64 - 1 → IsSettled n m → new ≡ with_counts_of new (line_moved r m) → is_plain new.wear ≡ is_plain m.wear
+      → m.writes ≤ new.writes
       → (is_plain m.wear ≡ true → new.writes ≡ next (next m.writes))
       → IsSettled (looks every since moves r n) (looks every 0 more s new)
   move_settles m new s more at one due up few settles is plain no_fewer exact =
@@ -304,10 +312,12 @@ module _ {every since moves cuts : ℕ} {r : Registers} {n : Device} (i : IsSoun
       ∙ ap (λ t. if t then next (next n.writes) else n.writes) (sym due))
       (omega (arith, no_fewer, counts-no_fewer n n.wear m.writes few settles.count))))
 
-  pub sound_failed_to_move : (m new : Device) → n.down ≡ false → Settles n m → IsFramed n m → IsFramed m new → HasFailedToMove r m new → IsSoundGap every r since moves cuts new
+  pub sound_failed_to_move : (m new : Device) → n.down ≡ false → Settles n m → IsFramed n m → IsFramed m new → HasFailedToMove r m new
+      → IsSoundGap every r since moves cuts new
   sound_failed_to_move m new up e f f2 failed =
       sound_still new
-      (λ d. IsLevelled-failed_to_move r cuts m new (IsLevelled-quiet r cuts n m d f (subst (IsQuiet r) (sym e) (IsQuiet-settled r m.writes n (d.quiet up)))) f2 failed)
+      (λ d. IsLevelled-failed_to_move r cuts m new
+      (IsLevelled-quiet r cuts n m d f (subst (IsQuiet r) (sym e) (IsQuiet-settled r m.writes n (d.quiet up)))) f2 failed)
 
   pub failed_move_seen : (m new : Device) → is_due n since every ≡ true → n.writes ≤ 2 ^ 64 - 1 → IsSettled n m → HasFailedToMove r m new
       → is_plain new.wear ≡ is_plain m.wear → m.writes ≤ new.writes
@@ -361,7 +371,8 @@ module _ {every since moves cuts : ℕ} {r : Registers} {n : Device} (i : IsSoun
   ]
 
   pub cut_seen : (pick : ℕ) (new : Device) (s : Registers) (later more : ℕ) → 0 < r.lines → IsCut pick n new
-      → s ≡ registers_of r.lines (block_at (slice_index_or new.left cuts []) (r.lines + 1)) → later ≡ counted_on r s since → more ≡ moves_on r s moves
+      → s ≡ registers_of r.lines (block_at (slice_index_or new.left cuts []) (r.lines + 1)) → later ≡ counted_on r s since
+      → more ≡ moves_on r s moves
       → IsCut pick (looks every since moves r n) (looks every later more s new) × IsSoundGap every s later more (cuts + 1) new
   cut_seen pick new s later more l c e at_later at_more =
       let d = i.fitted l in
@@ -388,7 +399,8 @@ module _ {every since moves cuts : ℕ} {r : Registers} {n : Device} (i : IsSoun
 
   -- ---- kept images
 
-  module _ (k x : ℕ) (s : Registers) (image_in : k < length (seen r n).left) (line_in : x < r.lines) (are : s ≡ registers_of r.lines (block_at (slice_index_or n.left k []) (r.lines + 1))) where
+  module _ (k x : ℕ) (s : Registers) (image_in : k < length (seen r n).left) (line_in : x < r.lines)
+      (are : s ≡ registers_of r.lines (block_at (slice_index_or n.left k []) (r.lines + 1))) where
     left_seen : (seen r n).left ≡ map unmapped n.left
     left_seen = ap (λ t. if t then [] else map unmapped n.left) (ne_eqb r.lines 0 (λ e. omega (arith, e, line_in)))
 
@@ -417,7 +429,8 @@ module _ {every since moves cuts : ℕ} {r : Registers} {n : Device} (i : IsSoun
         let g : List Block = slice_index_or n.left k [] in
         ap (λ (q : Registers). block_at g (place q x)) kept_are
         ∙ sym (block_at-unmap (registers_in g) g x (subst (λ (q : Registers). x < q.lines) kept_are kept_line))
-        ∙ ap (λ (h : List Block). block_at h x) (sym (get_or-map unmapped n.left k [] [] kept_in) ∙ ap (λ (l : List (List Block)). slice_index_or l k []) (sym left_seen))
+        ∙ ap (λ (h : List Block). block_at h x)
+        (sym (get_or-map unmapped n.left k [] [] kept_in) ∙ ap (λ (l : List (List Block)). slice_index_or l k []) (sym left_seen))
 
   -- ---- fits
 
@@ -430,7 +443,8 @@ module _ {every since moves cuts : ℕ} {r : Registers} {n : Device} (i : IsSoun
         | inr counted ↦ subst (IsLevelled r cuts) (sym counted) (IsLevelled-counted r cuts (next n.fits) n.writes n.wear n d)
       ])
 
-  pub failed_to_fit_seen : (new : Device) (e : FitError) → HasFailedToFit e n new → HasFailedToFit e (looks every since moves r n) (looks every since moves r new)
+  pub failed_to_fit_seen : (new : Device) (e : FitError) → HasFailedToFit e n new
+      → HasFailedToFit e (looks every since moves r n) (looks every since moves r new)
   failed_to_fit_seen new Failed h =
       (failed_seen new h.0, IsFramed-seen every since moves since moves r (record n { fits = next n.fits }) new h.1, h.2)
   failed_to_fit_seen new (Memory e) h =
@@ -440,7 +454,8 @@ module _ {every since moves cuts : ℕ} {r : Registers} {n : Device} (i : IsSoun
         | inr counted ↦ inr (ap (looks every since moves r) counted)
       ]
 
-  pub sound_fitted : (new : Device) (shape : Shape) (start : List Block) → 0 < shape.blocks → length start ≤ shape.blocks → shape.blocks + 2 < 2 ^ 64 → shape.cuts + 1 < 2 ^ 64
+  pub sound_fitted : (new : Device) (shape : Shape) (start : List Block) → 0 < shape.blocks → length start ≤ shape.blocks
+      → shape.blocks + 2 < 2 ^ 64 → shape.cuts + 1 < 2 ^ 64
       → new ≡ fitted (inner_shape shape) (first_image shape.blocks start) n → IsSoundGap every (unmoved shape.blocks) 0 0 0 new
   sound_fitted new shape start l most room cuts e = record {
     some = i.some;

@@ -37,7 +37,8 @@ rounds r (suc j) s w l few =
     let n : ℕ = r.lines in
     let here : ℕ = wrapped n (s + j) in
     let below : here < n = omega (arith, l, few, wrapped-cases n (s + j)) in
-    let next : wrapped n (here + 1) ≡ wrapped n (s + suc j) = omega (arith, l, few, wrapped-cases n (s + j), wrapped-cases n (here + 1), wrapped-cases n (s + suc j)) in
+    let next : wrapped n (here + 1) ≡ wrapped n (s + suc j) =
+    omega (arith, l, few, wrapped-cases n (s + j), wrapped-cases n (here + 1), wrapped-cases n (s + suc j)) in
     ap (λ k. moved_times k (start_at r s)) (more_of j (n + 1))
     ∙ moved_times-add (n + 1) (j * (n + 1)) (start_at r s)
     ∙ ap (moved_times (n + 1)) (rounds r j s w l (omega (arith, few)))
@@ -64,7 +65,8 @@ comes-beside_gap r x y w l other within =
     let inside : p < n = omega (arith, w.gap, other, within, unstepped-cases r.gap y) in
     let below : s < n = omega (arith, l, inside, wrapped-cases n (p + (n - x))) in
     let few : j < n = omega (arith, w.start, below, wrapped-cases n (s + (n - r.start))) in
-    let turns : wrapped n (r.start + j) ≡ s = omega (arith, w.start, below, few, wrapped-cases n (s + (n - r.start)), wrapped-cases n (r.start + j)) in
+    let turns : wrapped n (r.start + j) ≡ s =
+    omega (arith, w.start, below, few, wrapped-cases n (s + (n - r.start)), wrapped-cases n (r.start + j)) in
     record {
       times = j;
       turn = s;

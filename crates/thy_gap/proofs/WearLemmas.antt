@@ -44,9 +44,11 @@ counts-plain n (Levels every since moves) count is plain own = absurd (true≢fa
 counts-plain n Unsaid count is plain own = absurd (true≢false (sym plain))
 
 own-least : (n : Device) → n.writes ≤ 2 ^ 64 - 1 → n.writes ≤ own_count n
-own-least n few = elim (moves_next n) as (λ t. n.writes ≤ (if t then next (next n.writes) else n.writes)) [ true ↦ omega (arith, few) | false ↦ omega arith ]
+own-least n few = elim (moves_next n)
+    as (λ t. n.writes ≤ (if t then next (next n.writes) else n.writes)) [ true ↦ omega (arith, few) | false ↦ omega arith ]
 
-pub counts-no_fewer : (n : Device) (w : Wear) (count : ℕ) → n.writes ≤ 2 ^ 64 - 1 → CountsBy w n.writes (own_count n) count → n.writes ≤ count
+pub counts-no_fewer : (n : Device) (w : Wear) (count : ℕ) → n.writes ≤ 2 ^ 64 - 1 → CountsBy w n.writes (own_count n) count
+    → n.writes ≤ count
 counts-no_fewer n Plain count few own = subst (λ k. n.writes ≤ k) (sym own) (own-least n few)
 counts-no_fewer n (Levels every since moves) count few own = subst (λ k. n.writes ≤ k) (sym own) (own-least n few)
 counts-no_fewer n Unsaid count few own = own
@@ -95,11 +97,13 @@ levels_after every since moves false false = refl
 
 abbrev said : (lands : Bool) (every since moves : ℕ) → Bool → Wear
 said lands every since moves t =
-    if t then Levels every (if lands && not (nat_lt since every) then 0 else since) (if lands && not (nat_lt since every) then next moves else moves) else Unsaid
+    if t then Levels every (if lands && not (nat_lt since every) then 0 else since)
+    (if lands && not (nat_lt since every) then next moves else moves) else Unsaid
 
 -- after a barrier
 pub wear_after : (w v : Wear) (lands : Bool) (every since moves : ℕ) → is_plain v ≡ is_plain w
-    → wear_over v every (if lands && not (nat_lt since every) then 0 else since) (if lands && not (nat_lt since every) then next moves else moves)
+    → wear_over v every (if lands && not (nat_lt since every) then 0 else since)
+    (if lands && not (nat_lt since every) then next moves else moves)
     ≡ (if is_worn (wear_over w every since moves) && lands then moved_on (wear_over w every since moves) else wear_over w every since moves)
 wear_after Plain v lands every since moves same =
     ap (said lands every since moves) same ∙ levels_after every since moves lands (not (nat_lt since every))

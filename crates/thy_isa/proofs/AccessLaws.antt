@@ -13,12 +13,14 @@ use Rattle.thy_isa.specs.Reservations.{is_reserved, front_of}
 use Rattle.thy_isa.specs.Step.{State, fetch_fault, aligned, if_two, within, fetched, effect_at}
 use Rattle.thy_isa.specs.Access.{IsWithin}
 
-if_within : (base size : ℕ) (b : Bool) (e : Effect) (c : Cause) → (b ≡ true → IsWithin base size e) → IsWithin base size (if b then e else Trap c)
+if_within : (base size : ℕ) (b : Bool) (e : Effect) (c : Cause) → (b ≡ true → IsWithin base size e)
+    → IsWithin base size (if b then e else Trap c)
 if_within base size true e c h = h refl
 if_within base size false e c h = tt
 
 aligned-within : (base size : ℕ) (width : Width) (at : ℕ) (misaligned access : Cause) (e : Effect)
-    → (is_inside base size at (size_of width) ≡ true → IsWithin base size e) → IsWithin base size (aligned base size width at misaligned access e)
+    → (is_inside base size at (size_of width) ≡ true → IsWithin base size e)
+    → IsWithin base size (aligned base size width at misaligned access e)
 aligned-within base size width at misaligned access e h =
     if_within base size (at % size_of width == 0) (if is_inside base size at (size_of width) then e else Trap access) misaligned
     (λ _. if_within base size (is_inside base size at (size_of width)) e access h)
@@ -37,7 +39,8 @@ unfolding within
 within-is base size o (Next pc) = tt
 within-is base size o (Set rd pc v) = tt
 within-is base size o (Read rd width extend pc at) =
-    if_within base size (is_inside base size at (size_of width)) (Read rd width extend pc at) LoadAccess (is_inside-true base size at (size_of width))
+    if_within base size (is_inside base size at (size_of width)) (Read rd width extend pc at) LoadAccess
+    (is_inside-true base size at (size_of width))
 within-is base size o (Write width pc at v) =
     if_within base size (is_inside base size at (size_of width)) (Write width pc at v) StoreAccess (is_inside-true base size at (size_of width))
 within-is base size o (Reserve rd width pc at) =

@@ -61,65 +61,68 @@ effect_in-within p cpu blocks =
 
 -- ---- spans of the blocks of memory
 
--- at most 64 bytes within program memory are a span of its blocks
-program_span : (p : Parameters) (blocks : List Block) (at len : ℕ) → length blocks ≡ memory_blocks p → len ≤ 64 → at + len ≤ program_size p
-    → IsSpanOf (length blocks) (span at len)
-program_span p blocks at len whole short l = record { short = short; inside = omega (arith, whole) }
+module _ (p : Parameters) (blocks : List Block) (at : ℕ) where
+  -- at most 64 bytes within program memory are a span of its blocks
+  program_span : (len : ℕ) → length blocks ≡ memory_blocks p → len ≤ 64 → at + len ≤ program_size p
+      → IsSpanOf (length blocks) (span at len)
+  program_span len whole short l = record { short = short; inside = omega (arith, whole) }
 
--- what is read of them is read of the bytes
-gathered-memory : (p : Parameters) (blocks : List Block) (at len : ℕ) → length blocks ≡ memory_blocks p → len ≤ 64 → at + len ≤ program_size p
-    → gathered blocks (span at len) ≡ take len (drop at (memory_bytes p blocks))
-gathered-memory p blocks at len whole short l =
-    gathered-flat blocks (span at len) (program_span p blocks at len whole short l)
-    ∙ sym (take-drop_take (flat blocks) at len (program_size p) l)
+  -- what is read of them is read of the bytes
+  gathered-memory : (len : ℕ) → length blocks ≡ memory_blocks p → len ≤ 64 → at + len ≤ program_size p
+      → gathered blocks (span at len) ≡ take len (drop at (memory_bytes p blocks))
+  gathered-memory len whole short l =
+      gathered-flat blocks (span at len) (program_span len whole short l)
+      ∙ sym (take-drop_take (flat blocks) at len (program_size p) l)
 
--- a number that is read of memory's blocks is the number in its bytes
-number-memory : (p : Parameters) (blocks : List Block) (at n : ℕ) → length blocks ≡ memory_blocks p → n ≤ 64 → at + n ≤ program_size p
-    → number_at n (gathered blocks (span at n)) 0 ≡ number_at n (memory_bytes p blocks) at
-number-memory p blocks at n whole short l =
-    let e : at + 0 ≡ at = omega arith in
-    ap (λ bs. number_at n bs 0) (gathered-memory p blocks at n whole short l)
-    ∙ number_at-take n n (drop at (memory_bytes p blocks)) 0 (omega arith)
-    ∙ number_at-drop n at (memory_bytes p blocks) 0
-    ∙ ap (number_at n (memory_bytes p blocks)) e
+  -- a number that is read of memory's blocks is the number in its bytes
+  number-memory : (n : ℕ) → length blocks ≡ memory_blocks p → n ≤ 64 → at + n ≤ program_size p
+      → number_at n (gathered blocks (span at n)) 0 ≡ number_at n (memory_bytes p blocks) at
+  number-memory n whole short l =
+      let e : at + 0 ≡ at = omega arith in
+      ap (λ bs. number_at n bs 0) (gathered-memory n whole short l)
+      ∙ number_at-take n n (drop at (memory_bytes p blocks)) 0 (omega arith)
+      ∙ number_at-drop n at (memory_bytes p blocks) 0
+      ∙ ap (number_at n (memory_bytes p blocks)) e
 
--- a piece over a span of program memory
-memory-scattered : (p : Parameters) (blocks : List Block) (at : ℕ) (piece : List ℕ) → length blocks ≡ memory_blocks p → length piece ≤ 64
-    → at + length piece ≤ program_size p
-    → memory_bytes p (scattered blocks (span at (length piece)) piece) ≡ written (memory_bytes p blocks) at piece
-memory-scattered p blocks at piece whole short l =
-    ap (take (program_size p)) (flat-scattered blocks (span at (length piece)) piece (program_span p blocks at (length piece) whole short l) refl)
-    ∙ take-written (flat blocks) at (program_size p) piece l (size_inside p blocks whole)
+  -- a piece over a span of program memory
+  memory-scattered : (piece : List ℕ) → length blocks ≡ memory_blocks p → length piece ≤ 64 → at + length piece ≤ program_size p
+      → memory_bytes p (scattered blocks (span at (length piece)) piece) ≡ written (memory_bytes p blocks) at piece
+  memory-scattered piece whole short l =
+      ap (take (program_size p)) (flat-scattered blocks (span at (length piece)) piece (program_span (length piece) whole short l) refl)
+      ∙ take-written (flat blocks) at (program_size p) piece l (size_inside p blocks whole)
 
--- a piece over a span of program memory leaves the console
-console-scattered : (p : Parameters) (blocks : List Block) (at : ℕ) (piece : List ℕ) (n : ℕ) → length blocks ≡ memory_blocks p → length piece ≤ 64
-    → at + length piece ≤ program_size p
-    → console_bytes p (scattered blocks (span at (length piece)) piece) n ≡ console_bytes p blocks n
-console-scattered p blocks at piece n whole short l =
-    ap (λ bs. take n (drop (program_size p) bs)) (flat-scattered blocks (span at (length piece)) piece (program_span p blocks at (length piece) whole short l) refl)
-    ∙ ap (take n) (drop-written (flat blocks) at (program_size p) piece l (size_inside p blocks whole))
+  -- a piece over a span of program memory leaves the console
+  console-scattered : (piece : List ℕ) (n : ℕ) → length blocks ≡ memory_blocks p → length piece ≤ 64 → at + length piece ≤ program_size p
+      → console_bytes p (scattered blocks (span at (length piece)) piece) n ≡ console_bytes p blocks n
+  console-scattered piece n whole short l =
+      ap (λ bs. take n (drop (program_size p) bs))
+      (flat-scattered blocks (span at (length piece)) piece (program_span (length piece) whole short l) refl)
+      ∙ ap (take n) (drop-written (flat blocks) at (program_size p) piece l (size_inside p blocks whole))
 
-console_span : (p : Parameters) (blocks : List Block) (n len : ℕ) → IsInRange p → length blocks ≡ memory_blocks p → len ≤ 64 → n + len ≤ console_room p
-    → IsSpanOf (length blocks) (span (program_size p + n) len)
-console_span p blocks n len r whole short l = record { short = short; inside = omega (arith, whole, console_below p r) }
+module _ (p : Parameters) (blocks : List Block) (n : ℕ) where
+  console_span : (len : ℕ) → IsInRange p → length blocks ≡ memory_blocks p → len ≤ 64 → n + len ≤ console_room p
+      → IsSpanOf (length blocks) (span (program_size p + n) len)
+  console_span len r whole short l = record { short = short; inside = omega (arith, whole, console_below p r) }
 
--- a piece after the first n bytes of the console leaves program memory
-memory-behind : (p : Parameters) (blocks : List Block) (n : ℕ) (piece : List ℕ) → IsInRange p → length blocks ≡ memory_blocks p → length piece ≤ 64
-    → n + length piece ≤ console_room p
-    → memory_bytes p (scattered blocks (span (program_size p + n) (length piece)) piece) ≡ memory_bytes p blocks
-memory-behind p blocks n piece r whole short l =
-    ap (take (program_size p)) (flat-scattered blocks (span (program_size p + n) (length piece)) piece (console_span p blocks n (length piece) r whole short l) refl)
-    ∙ take-written_behind (flat blocks) n (program_size p) piece (size_inside p blocks whole)
+  -- a piece after the first n bytes of the console leaves program memory
+  memory-behind : (piece : List ℕ) → IsInRange p → length blocks ≡ memory_blocks p → length piece ≤ 64 → n + length piece ≤ console_room p
+      → memory_bytes p (scattered blocks (span (program_size p + n) (length piece)) piece) ≡ memory_bytes p blocks
+  memory-behind piece r whole short l =
+      ap (take (program_size p))
+      (flat-scattered blocks (span (program_size p + n) (length piece)) piece (console_span (length piece) r whole short l) refl)
+      ∙ take-written_behind (flat blocks) n (program_size p) piece (size_inside p blocks whole)
 
--- a piece after the first n bytes of the console is added to these bytes
-console-behind : (p : Parameters) (blocks : List Block) (n : ℕ) (piece : List ℕ) → IsInRange p → length blocks ≡ memory_blocks p → length piece ≤ 64
-    → n + length piece ≤ console_room p
-    → console_bytes p (scattered blocks (span (program_size p + n) (length piece)) piece) (n + length piece) ≡ console_bytes p blocks n ++ piece
-console-behind p blocks n piece r whole short l =
-    let pages = drop (program_size p) (flat blocks) in
-    ap (λ bs. take (n + length piece) (drop (program_size p) bs)) (flat-scattered blocks (span (program_size p + n) (length piece)) piece (console_span p blocks n (length piece) r whole short l) refl)
-    ∙ ap (take (n + length piece)) (drop-written_behind (flat blocks) n (program_size p) piece (size_inside p blocks whole))
-    ∙ take-written_end pages n piece (omega (arith, length-drop (program_size p) (flat blocks), room_inside p blocks r whole))
+  -- a piece after the first n bytes of the console is added to these bytes
+  console-behind : (piece : List ℕ) → IsInRange p → length blocks ≡ memory_blocks p → length piece ≤ 64
+      → n + length piece ≤ console_room p
+      → console_bytes p (scattered blocks (span (program_size p + n) (length piece)) piece) (n + length piece)
+      ≡ console_bytes p blocks n ++ piece
+  console-behind piece r whole short l =
+      let pages = drop (program_size p) (flat blocks) in
+      ap (λ bs. take (n + length piece) (drop (program_size p) bs))
+      (flat-scattered blocks (span (program_size p + n) (length piece)) piece (console_span (length piece) r whole short l) refl)
+      ∙ ap (take (n + length piece)) (drop-written_behind (flat blocks) n (program_size p) piece (size_inside p blocks whole))
+      ∙ take-written_end pages n piece (omega (arith, length-drop (program_size p) (flat blocks), room_inside p blocks r whole))
 
 -- ---- one effect
 
@@ -178,12 +181,14 @@ module _ (p : Parameters) (input : List ℕ) (cpu : CpuState) (blocks : List Blo
 
   length-Give : (at len : ℕ) → IsFit calls (Give at len) → length (given at len) ≡ len
   length-Give at len f =
-      length-take-le len (drop (at - p.base) (memory_bytes p blocks)) (omega (arith, length-drop (at - p.base) (memory_bytes p blocks), length-memory_bytes p blocks whole, f.0.low, f.0.high))
+      length-take-le len (drop (at - p.base) (memory_bytes p blocks))
+      (omega (arith, length-drop (at - p.base) (memory_bytes p blocks), length-memory_bytes p blocks whole, f.0.low, f.0.high))
 
   call_blocks : Call → List Block
   call_blocks k = scattered blocks (call_moves calls k).to (call_bytes k)
 
-  Take-blocks : (at len : ℕ) → IsFit calls (Take at len) → call_blocks (Take at len) ≡ scattered blocks (span (at - p.base) (length (taken len))) (taken len)
+  Take-blocks : (at len : ℕ) → IsFit calls (Take at len)
+      → call_blocks (Take at len) ≡ scattered blocks (span (at - p.base) (length (taken len))) (taken len)
   unfolding call_blocks call_moves
   Take-blocks at len f =
       ap (scattered blocks (span (at - p.base) len)) (Take-bytes at len)
@@ -226,7 +231,8 @@ module _ (p : Parameters) (input : List ℕ) (cpu : CpuState) (blocks : List Blo
   call-console (Give at len) f =
       let l = length-Give at len f in
       ap (λ bs. console_bytes p bs (cpu.console_len + len)) (Give-blocks at len f)
-      ∙ ap (λ n. console_bytes p (scattered blocks (span (program_size p + cpu.console_len) (length (given at len))) (given at len)) (cpu.console_len + n)) (sym l)
+      ∙ ap (λ n. console_bytes p (scattered blocks (span (program_size p + cpu.console_len) (length (given at len))) (given at len))
+      (cpu.console_len + n)) (sym l)
       ∙ console-behind p blocks cpu.console_len (given at len) r whole (omega (arith, l, f.0.most)) (omega (arith, l, f.1))
 
   -- ---- what an effect makes of the bytes
@@ -260,14 +266,16 @@ module _ (p : Parameters) (input : List ℕ) (cpu : CpuState) (blocks : List Blo
       ap (λ bs. number_bytes (size_of width) v ++ bs) (gathered-none blocks (span 0 0) refl) ∙ append-nil (number_bytes (size_of width) v)
 
   Write-blocks : (pc at : ℕ) (width : Width) (v : ℕ)
-      → after (Write width pc at v) ≡ scattered blocks (span (at - p.base) (length (number_bytes (size_of width) v))) (number_bytes (size_of width) v)
+      → after (Write width pc at v) ≡ scattered blocks (span (at - p.base) (length (number_bytes (size_of width) v)))
+      (number_bytes (size_of width) v)
   unfolding moves_of
   Write-blocks pc at width v =
       ap (scattered blocks (span (at - p.base) (size_of width))) (Write-bytes pc at width v)
       ∙ ap (λ n. scattered blocks (span (at - p.base) n) (number_bytes (size_of width) v)) (sym (length-number_bytes width v))
 
   Conditional-blocks : (rd pc at : ℕ) (width : Width) (v : ℕ)
-      → after (Conditional rd width pc at v) ≡ scattered blocks (span (at - p.base) (length (number_bytes (size_of width) v))) (number_bytes (size_of width) v)
+      → after (Conditional rd width pc at v) ≡ scattered blocks (span (at - p.base) (length (number_bytes (size_of width) v)))
+      (number_bytes (size_of width) v)
   unfolding moves_of brings
   Conditional-blocks rd pc at width v = Write-blocks pc at width v
 
@@ -277,7 +285,8 @@ module _ (p : Parameters) (input : List ℕ) (cpu : CpuState) (blocks : List Blo
 
   Modify-blocks : (op : Amo) (rd pc at : ℕ) (width : Width) (v : ℕ) → IsWithin p.base (program_size p) (Modify op rd width pc at v)
       → after (Modify op rd width pc at v)
-      ≡ scattered blocks (span (at - p.base) (length (number_bytes (size_of width) (changed op width at v)))) (number_bytes (size_of width) (changed op width at v))
+      ≡ scattered blocks (span (at - p.base) (length (number_bytes (size_of width) (changed op width at v))))
+      (number_bytes (size_of width) (changed op width at v))
   unfolding moves_of brings
   Modify-blocks op rd pc at width v h =
       ap (λ n. scattered blocks (span (at - p.base) (size_of width)) (number_bytes (size_of width) (modified op width n v)))
@@ -296,7 +305,8 @@ module _ (p : Parameters) (input : List ℕ) (cpu : CpuState) (blocks : List Blo
   unfolding moves_of brings call_blocks
   Environment-memory = call-memory (call_of cpu.regs calls) (call_of-fit cpu.regs calls) ∙ ap (memory_served g now) (sym call_is)
 
-  Environment-console : console_bytes p (after Environment) (served cpu (call_of cpu.regs calls)).console_len ≡ console_served g now (call_at g now)
+  Environment-console : console_bytes p (after Environment) (served cpu (call_of cpu.regs calls)).console_len
+      ≡ console_served g now (call_at g now)
   unfolding moves_of brings call_blocks
   Environment-console = call-console (call_of cpu.regs calls) (call_of-fit cpu.regs calls) ∙ ap (console_served g now) (sym call_is)
 
@@ -308,21 +318,25 @@ module _ (p : Parameters) (input : List ℕ) (cpu : CpuState) (blocks : List Blo
   effect-memory (Write width pc at v) h =
       let l = length-number_bytes width v in
       ap (memory_bytes p) (Write-blocks pc at width v)
-      ∙ memory-scattered p blocks (at - p.base) (number_bytes (size_of width) v) whole (omega (arith, l, size_of-most width)) (omega (arith, l, h.0, h.1))
+      ∙ memory-scattered p blocks (at - p.base) (number_bytes (size_of width) v) whole (omega (arith, l, size_of-most width))
+      (omega (arith, l, h.0, h.1))
   effect-memory (Reserve rd width pc at) h = ap (memory_bytes p) (effect_same (Reserve rd width pc at) refl)
   effect-memory (Conditional rd width pc at v) h =
       let l = length-number_bytes width v in
       ap (memory_bytes p) (Conditional-blocks rd pc at width v)
-      ∙ memory-scattered p blocks (at - p.base) (number_bytes (size_of width) v) whole (omega (arith, l, size_of-most width)) (omega (arith, l, h.0, h.1))
+      ∙ memory-scattered p blocks (at - p.base) (number_bytes (size_of width) v) whole (omega (arith, l, size_of-most width))
+      (omega (arith, l, h.0, h.1))
   effect-memory (Fail rd pc) h = ap (memory_bytes p) (effect_same (Fail rd pc) refl)
   effect-memory (Modify op rd width pc at v) h =
       let l = length-number_bytes width (changed op width at v) in
       ap (memory_bytes p) (Modify-blocks op rd pc at width v h)
-      ∙ memory-scattered p blocks (at - p.base) (number_bytes (size_of width) (changed op width at v)) whole (omega (arith, l, size_of-most width)) (omega (arith, l, h.0, h.1))
+      ∙ memory-scattered p blocks (at - p.base) (number_bytes (size_of width) (changed op width at v)) whole
+      (omega (arith, l, size_of-most width)) (omega (arith, l, h.0, h.1))
   effect-memory Environment h = Environment-memory
   effect-memory (Trap cause) h = ap (memory_bytes p) (effect_same (Trap cause) refl)
 
-  effect-console : (e : Effect) (n : ℕ) → IsWithin p.base (program_size p) e → console_bytes p (after e) (finished cpu e n calls).console_len ≡ console_by g now e
+  effect-console : (e : Effect) (n : ℕ) → IsWithin p.base (program_size p) e
+      → console_bytes p (after e) (finished cpu e n calls).console_len ≡ console_by g now e
   unfolding console_by moves_of finished
   effect-console (Next pc) n h = ap (λ bs. console_bytes p bs cpu.console_len) (effect_same (Next pc) refl)
   effect-console (Set rd pc v) n h = ap (λ bs. console_bytes p bs cpu.console_len) (effect_same (Set rd pc v) refl)
@@ -330,28 +344,33 @@ module _ (p : Parameters) (input : List ℕ) (cpu : CpuState) (blocks : List Blo
   effect-console (Write width pc at v) n h =
       let l = length-number_bytes width v in
       ap (λ bs. console_bytes p bs cpu.console_len) (Write-blocks pc at width v)
-      ∙ console-scattered p blocks (at - p.base) (number_bytes (size_of width) v) cpu.console_len whole (omega (arith, l, size_of-most width)) (omega (arith, l, h.0, h.1))
+      ∙ console-scattered p blocks (at - p.base) (number_bytes (size_of width) v) cpu.console_len whole
+      (omega (arith, l, size_of-most width)) (omega (arith, l, h.0, h.1))
   effect-console (Reserve rd width pc at) n h = ap (λ bs. console_bytes p bs cpu.console_len) (effect_same (Reserve rd width pc at) refl)
   effect-console (Conditional rd width pc at v) n h =
       let l = length-number_bytes width v in
       ap (λ bs. console_bytes p bs cpu.console_len) (Conditional-blocks rd pc at width v)
-      ∙ console-scattered p blocks (at - p.base) (number_bytes (size_of width) v) cpu.console_len whole (omega (arith, l, size_of-most width)) (omega (arith, l, h.0, h.1))
+      ∙ console-scattered p blocks (at - p.base) (number_bytes (size_of width) v) cpu.console_len whole
+      (omega (arith, l, size_of-most width)) (omega (arith, l, h.0, h.1))
   effect-console (Fail rd pc) n h = ap (λ bs. console_bytes p bs cpu.console_len) (effect_same (Fail rd pc) refl)
   effect-console (Modify op rd width pc at v) n h =
       let l = length-number_bytes width (changed op width at v) in
       ap (λ bs. console_bytes p bs cpu.console_len) (Modify-blocks op rd pc at width v h)
-      ∙ console-scattered p blocks (at - p.base) (number_bytes (size_of width) (changed op width at v)) cpu.console_len whole (omega (arith, l, size_of-most width)) (omega (arith, l, h.0, h.1))
+      ∙ console-scattered p blocks (at - p.base) (number_bytes (size_of width) (changed op width at v)) cpu.console_len whole
+      (omega (arith, l, size_of-most width)) (omega (arith, l, h.0, h.1))
   effect-console Environment n h = Environment-console
   effect-console (Trap cause) n h = ap (λ bs. console_bytes p bs cpu.console_len) (effect_same (Trap cause) refl)
 
   -- an effect over blocks is the effect over bytes
   pub state_from-performed : (e : Effect) → IsWithin p.base (program_size p) e
-      → state_from p (cpu_after p input cpu e (bytes_in p input cpu blocks e)) (blocks_after p input cpu blocks e (bytes_in p input cpu blocks e))
+      → state_from p (cpu_after p input cpu e (bytes_in p input cpu blocks e))
+      (blocks_after p input cpu blocks e (bytes_in p input cpu blocks e))
       ≡ performed g (state_from p cpu blocks) e
   unfolding state_from cpu_after blocks_after bytes_in performed
   state_from-performed e h =
       let read = read_by p.base (memory_bytes p blocks) e in
-      ap (λ m. state_with (finished cpu e (number_in e (moved e)) calls) m (console_bytes p (after e) (finished cpu e (number_in e (moved e)) calls).console_len)) (effect-memory e h)
+      ap (λ m. state_with (finished cpu e (number_in e (moved e)) calls) m
+      (console_bytes p (after e) (finished cpu e (number_in e (moved e)) calls).console_len)) (effect-memory e h)
       ∙ ap (state_with (finished cpu e (number_in e (moved e)) calls) (memory_by g now e)) (effect-console e (number_in e (moved e)) h)
       ∙ ap (λ n. state_with (finished cpu e n calls) (memory_by g now e) (console_by g now e)) (effect-number e h)
       ∙ ap (λ k. state_with (finished cpu e read k) (memory_by g now e) (console_by g now e)) (sym calls_same)
@@ -368,7 +387,8 @@ module _ (p : Parameters) (input : List ℕ) (cpu : CpuState) (blocks : List Blo
       (λ none.
       let inside = fetch_inside p.base (program_size p) cpu.pc none in
       ap word (number-memory p blocks (cpu.pc - p.base) 4 whole (omega arith) (omega (arith, inside.0, inside.1))))
-      ∙ ap (λ n. fetched (fetch_fault p.base n cpu.pc) (within p.base n cpu.other (word_effect flatly cpu.pc cpu.regs))) (sym (length-memory_bytes p blocks whole))
+      ∙ ap (λ n. fetched (fetch_fault p.base n cpu.pc) (within p.base n cpu.other (word_effect flatly cpu.pc cpu.regs)))
+      (sym (length-memory_bytes p blocks whole))
 
   advanced_is : performed g (state_from p cpu blocks) (effect_at p.base (state_from p cpu blocks)) ≡ advanced g (state_from p cpu blocks)
   unfolding advanced

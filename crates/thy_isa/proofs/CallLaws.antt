@@ -24,7 +24,8 @@ le_true : (a b : ℕ) → nat_le a b ≡ true → a ≤ b
 le_true a b h = grind (arith, nat_tests)
 
 -- some of what is asked for is moved if some is left, and all of it is inside
-moved : (c : CallState) (at count left : ℕ) → 1 ≤ count → 1 ≤ left → is_inside c.base c.size at (few count left) ≡ true → IsMoved c at (few count left)
+moved : (c : CallState) (at count left : ℕ) → 1 ≤ count → 1 ≤ left → is_inside c.base c.size at (few count left) ≡ true
+    → IsMoved c at (few count left)
 moved c at count left some more inside =
     let bounds = is_inside-true c.base c.size at (few count left) inside in
     record { some = omega arith; most = omega arith; low = bounds.0; high = bounds.1 }

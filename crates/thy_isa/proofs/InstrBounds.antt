@@ -108,7 +108,8 @@ effect_of-numbers (LoadReserved width rd rs1) pc x h q = (low64_number (pc + 4),
 effect_of-numbers (StoreConditional width rd rs1 rs2) pc x h q = low64_number (pc + 4)
 effect_of-numbers (AtomicOp op width rd rs1 rs2) pc x h q = low64_number (pc + 4)
 
-effect_or_illegal-numbers : (o : Option Instr) (pc : ℕ) (x : List ℕ) → IfSome o HasNumbers → All IsNumber x → EffectNumbers (option_map_or (λ i. effect_of i pc x) o (Trap Illegal))
+effect_or_illegal-numbers : (o : Option Instr) (pc : ℕ) (x : List ℕ) → IfSome o HasNumbers → All IsNumber x
+    → EffectNumbers (option_map_or (λ i. effect_of i pc x) o (Trap Illegal))
 effect_or_illegal-numbers None pc x h q = tt
 effect_or_illegal-numbers (Some i) pc x h q = effect_of-numbers i pc x h q
 

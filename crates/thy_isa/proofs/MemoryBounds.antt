@@ -65,4 +65,5 @@ number_bytes-bytes n v = bytes_from 0 n v
 
 pub written-bytes : (bytes : List ℕ) (at : ℕ) (piece : List ℕ) → All IsByte bytes → All IsByte piece → All IsByte (written bytes at piece)
 written-bytes bytes at piece h p =
-    All-append IsByte (take at bytes) (piece ++ drop (at + length piece) bytes) (All-take IsByte at bytes h) (All-append IsByte piece (drop (at + length piece) bytes) p (All-drop IsByte (at + length piece) bytes h))
+    All-append IsByte (take at bytes) (piece ++ drop (at + length piece) bytes) (All-take IsByte at bytes h)
+    (All-append IsByte piece (drop (at + length piece) bytes) p (All-drop IsByte (at + length piece) bytes h))

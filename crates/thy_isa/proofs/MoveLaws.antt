@@ -55,7 +55,8 @@ module _ (p : Parameters) (cpu : CpuState) (n : ℕ) (r : IsInRange p) where
   }
 
   -- the spans of an effect within memory lie within the blocks of memory
-  pub moves_of-spans : (x : List ℕ) (e : Effect) → IsWithin p.base (program_size p) e → AreSpans (memory_blocks p) (moves_of x (calls_in p cpu n) e)
+  pub moves_of-spans : (x : List ℕ) (e : Effect) → IsWithin p.base (program_size p) e
+      → AreSpans (memory_blocks p) (moves_of x (calls_in p cpu n) e)
   unfolding moves_of
   moves_of-spans x (Next pc) h = none (memory_blocks p)
   moves_of-spans x (Set rd pc v) h = none (memory_blocks p)
@@ -96,7 +97,8 @@ module _ (input : List ℕ) (c : CallState) (same : c.input_len ≡ length input
   call_enough (Exit v) f = enough_none
   call_enough (Break at) f = enough_none
   call_enough (Take at len) f =
-      let l : length (take len (drop c.cursor input)) ≡ len = length-take-le len (drop c.cursor input) (omega (arith, length-drop c.cursor input, f.1)) in
+      let l : length (take len (drop c.cursor input)) ≡ len =
+      length-take-le len (drop c.cursor input) (omega (arith, length-drop c.cursor input, f.1)) in
       record { most = omega (arith, l, f.0.most); least = omega (arith, l) }
   call_enough (Give at len) f = record { most = omega (arith, f.0.most); least = omega arith }
 

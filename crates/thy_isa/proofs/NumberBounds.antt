@@ -72,7 +72,8 @@ sra_number z k h = of_z_number (int_shr z k) (omega (arith, mag_shr z (2 ^ k)))
 quotient_number : (a b : ℕ) → IsNumber a → IsNumber (alu_of Div a b)
 unfolding alu_of
 quotient_number a b h =
-    if_number (b == 0) _ _ (lit< tt) (of_z_number (int_div (to_z w64 a) (to_z w64 b)) (omega (arith, quot_mag (to_z w64 a) (to_z w64 b), to_z_mag64 a h)))
+    if_number (b == 0) _ _ (lit< tt)
+    (of_z_number (int_div (to_z w64 a) (to_z w64 b)) (omega (arith, quot_mag (to_z w64 a) (to_z w64 b), to_z_mag64 a h)))
 
 remainder_number : (a b : ℕ) → IsNumber a → IsNumber (alu_of Rem a b)
 unfolding alu_of
@@ -93,7 +94,8 @@ alu_of-number Sra a b p q = sra_number (to_z w64 a) (b % 64) (to_z_mag64 a p)
 alu_of-number Or a b p q = or_lt 64 a b p q
 alu_of-number And a b p q = omega (arith, and_le_l a b)
 alu_of-number Mul a b p q = low64_number _
-alu_of-number Mulh a b p q = high_number _ (of_z_wide (to_z w64 a *ℤ to_z w64 b) (product_mag (to_z w64 a) (to_z w64 b) (to_z_mag64 a p) (to_z_mag64 b q)))
+alu_of-number Mulh a b p q =
+    high_number _ (of_z_wide (to_z w64 a *ℤ to_z w64 b) (product_mag (to_z w64 a) (to_z w64 b) (to_z_mag64 a p) (to_z_mag64 b q)))
 alu_of-number Mulhsu a b p q = high_number _ (of_z_wide (to_z w64 a *ℤ pos b) (mixed_mag (to_z w64 a) b (to_z_mag64 a p) q))
 alu_of-number Mulhu a b p q = high_number (a * b) (mul-lt a b (2 ^ 64) (2 ^ 64) p q)
 alu_of-number Div a b p q = quotient_number a b p

@@ -101,7 +101,8 @@ rows_of-at_most_one w = at_most_one table w refl
 
 -- ---- and some row if it means an instruction
 
-counted : (b : Bool) (i : Instr) (o : Option Instr) (n : ℕ) → is_some o ≡ nat_le 1 n → is_some (if b then Some i else o) ≡ nat_le 1 (if b then suc n else n)
+counted : (b : Bool) (i : Instr) (o : Option Instr) (n : ℕ) → is_some o ≡ nat_le 1 n
+    → is_some (if b then Some i else o) ≡ nat_le 1 (if b then suc n else n)
 counted true i o n e = sym (le-leb 1 (suc n) (omega arith))
 counted false i o n e = e
 

@@ -78,7 +78,8 @@ with_pc c pc h p = record {
   other = h.other;
 }
 
-with_register : (c : CpuState) (pc rd v : ℕ) → IsCpu c → IsNumber pc → IsNumber v → IsCpu (record c { pc = pc; regs = regs_with c.regs rd v; count = c.count + 1 })
+with_register : (c : CpuState) (pc rd v : ℕ) → IsCpu c → IsNumber pc → IsNumber v
+    → IsCpu (record c { pc = pc; regs = regs_with c.regs rd v; count = c.count + 1 })
 with_register c pc rd v h p q = record {
   pc = p;
   registers = length-regs_with c.regs rd v ∙ h.registers;
@@ -105,7 +106,8 @@ with_status c s h p = record {
 }
 
 -- a step to another program counter keeps `IsCpu`, beside another hart too
-with_pc_beside : (c : CpuState) (pc : ℕ) (o : Option OtherHart) → IsCpu c → IsNumber pc → IsOtherOf o → IsCpu (record c { pc = pc; count = c.count + 1; other = o })
+with_pc_beside : (c : CpuState) (pc : ℕ) (o : Option OtherHart) → IsCpu c → IsNumber pc → IsOtherOf o
+    → IsCpu (record c { pc = pc; count = c.count + 1; other = o })
 with_pc_beside c pc o h p w = record {
   pc = p;
   registers = h.registers;
@@ -227,7 +229,8 @@ pub record AreCallNumbers (c : CpuState) (calls : CallState) : Type 0 where
 answered-keeps : (c : CpuState) (v : ℕ) → IsCpu c → IsNumber v → IsCpu (answered c v)
 answered-keeps c v h p = with_register c _ 10 v h (low64_number (c.pc + 4)) p
 
-served-keeps : (c : CpuState) (calls : CallState) (k : Call) → AreCallNumbers c calls → IsFit calls k → CallNumbers k → IsCpu c → IsCpu (served c k)
+served-keeps : (c : CpuState) (calls : CallState) (k : Call) → AreCallNumbers c calls → IsFit calls k → CallNumbers k → IsCpu c
+    → IsCpu (served c k)
 unfolding served
 served-keeps c calls (Answer v) a f p h = answered-keeps c v h p
 served-keeps c calls (Exit v) a f p h = with_status c (Exited v) h p
@@ -281,7 +284,8 @@ cause_below LoadAccess = lit< tt
 cause_below StoreMisaligned = lit< tt
 cause_below StoreAccess = lit< tt
 
-pub finished-keeps : (c : CpuState) (e : Effect) (n : ℕ) (k : CallState) → IsCpu c → AreCallNumbers c k → EffectNumbers e → IsNumber n → IsCpu (finished c e n k)
+pub finished-keeps : (c : CpuState) (e : Effect) (n : ℕ) (k : CallState) → IsCpu c → AreCallNumbers c k → EffectNumbers e → IsNumber n
+    → IsCpu (finished c e n k)
 unfolding finished
 finished-keeps c (Next pc) n k h a p q = with_pc c pc h p
 finished-keeps c (Set rd pc v) n k h a p q = with_register c pc rd v h p.0 p.1
@@ -362,85 +366,88 @@ read_by-number base memory (Modify op rd width pc at v) h = number_at-number wid
 read_by-number base memory Environment h = lit< tt
 read_by-number base memory (Trap c) h = lit< tt
 
-memory_served-bytes : (g : Setting) (s : State) (k : Call) → All IsByte g.input → All IsByte s.memory → All IsByte (memory_served g s k)
-unfolding memory_served
-memory_served-bytes g s (Answer v) i h = h
-memory_served-bytes g s (Exit v) i h = h
-memory_served-bytes g s (Break at) i h = h
-memory_served-bytes g s (Take at len) i h =
-    written-bytes s.memory (at - g.base) (take len (drop s.cursor g.input)) h (All-take IsByte len (drop s.cursor g.input) (All-drop IsByte s.cursor g.input i))
-memory_served-bytes g s (Give at len) i h = h
+module _ (g : Setting) (s : State) where
+  memory_served-bytes : (k : Call) → All IsByte g.input → All IsByte s.memory → All IsByte (memory_served g s k)
+  unfolding memory_served
+  memory_served-bytes (Answer v) i h = h
+  memory_served-bytes (Exit v) i h = h
+  memory_served-bytes (Break at) i h = h
+  memory_served-bytes (Take at len) i h =
+      written-bytes s.memory (at - g.base) (take len (drop s.cursor g.input)) h
+      (All-take IsByte len (drop s.cursor g.input) (All-drop IsByte s.cursor g.input i))
+  memory_served-bytes (Give at len) i h = h
 
-memory_by-bytes : (g : Setting) (s : State) (e : Effect) → All IsByte g.input → All IsByte s.memory → All IsByte (memory_by g s e)
-unfolding memory_by
-memory_by-bytes g s (Next pc) i h = h
-memory_by-bytes g s (Set rd pc v) i h = h
-memory_by-bytes g s (Read rd width extend pc at) i h = h
-memory_by-bytes g s (Write width pc at v) i h =
-    written-bytes s.memory (at - g.base) (number_bytes (size_of width) v) h (number_bytes-bytes (size_of width) v)
-memory_by-bytes g s (Reserve rd width pc at) i h = h
-memory_by-bytes g s (Conditional rd width pc at v) i h =
-    written-bytes s.memory (at - g.base) (number_bytes (size_of width) v) h (number_bytes-bytes (size_of width) v)
-memory_by-bytes g s (Fail rd pc) i h = h
-memory_by-bytes g s (Modify op rd width pc at v) i h =
-    let new = modified op width (number_at (size_of width) s.memory (at - g.base)) v in
-    written-bytes s.memory (at - g.base) (number_bytes (size_of width) new) h (number_bytes-bytes (size_of width) new)
-memory_by-bytes g s Environment i h = memory_served-bytes g s (call_at g s) i h
-memory_by-bytes g s (Trap c) i h = h
+  memory_by-bytes : (e : Effect) → All IsByte g.input → All IsByte s.memory → All IsByte (memory_by g s e)
+  unfolding memory_by
+  memory_by-bytes (Next pc) i h = h
+  memory_by-bytes (Set rd pc v) i h = h
+  memory_by-bytes (Read rd width extend pc at) i h = h
+  memory_by-bytes (Write width pc at v) i h =
+      written-bytes s.memory (at - g.base) (number_bytes (size_of width) v) h (number_bytes-bytes (size_of width) v)
+  memory_by-bytes (Reserve rd width pc at) i h = h
+  memory_by-bytes (Conditional rd width pc at v) i h =
+      written-bytes s.memory (at - g.base) (number_bytes (size_of width) v) h (number_bytes-bytes (size_of width) v)
+  memory_by-bytes (Fail rd pc) i h = h
+  memory_by-bytes (Modify op rd width pc at v) i h =
+      let new = modified op width (number_at (size_of width) s.memory (at - g.base)) v in
+      written-bytes s.memory (at - g.base) (number_bytes (size_of width) new) h (number_bytes-bytes (size_of width) new)
+  memory_by-bytes Environment i h = memory_served-bytes (call_at g s) i h
+  memory_by-bytes (Trap c) i h = h
 
--- what is taken is as long as the call says
-pub length-taken : (g : Setting) (s : State) (len : ℕ) → s.cursor + len ≤ length g.input → length (take len (drop s.cursor g.input)) ≡ len
-length-taken g s len h = length-take-le len (drop s.cursor g.input) (omega (arith, length-drop s.cursor g.input))
+  -- what is taken is as long as the call says
+  pub length-taken : (len : ℕ) → s.cursor + len ≤ length g.input → length (take len (drop s.cursor g.input)) ≡ len
+  length-taken len h = length-take-le len (drop s.cursor g.input) (omega (arith, length-drop s.cursor g.input))
 
-length-memory_served : (g : Setting) (s : State) (k : Call) → IsFit (call_state_of g s) k → length (memory_served g s k) ≡ length s.memory
-unfolding memory_served
-length-memory_served g s (Answer v) f = refl
-length-memory_served g s (Exit v) f = refl
-length-memory_served g s (Break at) f = refl
-length-memory_served g s (Take at len) f =
-    length-written s.memory (at - g.base) (take len (drop s.cursor g.input)) (omega (arith, length-taken g s len f.1, f.0.low, f.0.high))
-length-memory_served g s (Give at len) f = refl
+  length-memory_served : (k : Call) → IsFit (call_state_of g s) k → length (memory_served g s k) ≡ length s.memory
+  unfolding memory_served
+  length-memory_served (Answer v) f = refl
+  length-memory_served (Exit v) f = refl
+  length-memory_served (Break at) f = refl
+  length-memory_served (Take at len) f =
+      length-written s.memory (at - g.base) (take len (drop s.cursor g.input)) (omega (arith, length-taken len f.1, f.0.low, f.0.high))
+  length-memory_served (Give at len) f = refl
 
-pub length-memory_by : (g : Setting) (s : State) (e : Effect) → IsWithin g.base (length s.memory) e → length (memory_by g s e) ≡ length s.memory
-unfolding memory_by
-length-memory_by g s (Next pc) h = refl
-length-memory_by g s (Set rd pc v) h = refl
-length-memory_by g s (Read rd width extend pc at) h = refl
-length-memory_by g s (Write width pc at v) h =
-    length-written s.memory (at - g.base) (number_bytes (size_of width) v) (omega (arith, length-number_bytes width v, h.0, h.1))
-length-memory_by g s (Reserve rd width pc at) h = refl
-length-memory_by g s (Conditional rd width pc at v) h =
-    length-written s.memory (at - g.base) (number_bytes (size_of width) v) (omega (arith, length-number_bytes width v, h.0, h.1))
-length-memory_by g s (Fail rd pc) h = refl
-length-memory_by g s (Modify op rd width pc at v) h =
-    let new = modified op width (number_at (size_of width) s.memory (at - g.base)) v in
-    length-written s.memory (at - g.base) (number_bytes (size_of width) new) (omega (arith, length-number_bytes width new, h.0, h.1))
-length-memory_by g s Environment h = length-memory_served g s (call_at g s) (call_of-fit s.regs (call_state_of g s))
-length-memory_by g s (Trap c) h = refl
+  pub length-memory_by : (e : Effect) → IsWithin g.base (length s.memory) e → length (memory_by g s e) ≡ length s.memory
+  unfolding memory_by
+  length-memory_by (Next pc) h = refl
+  length-memory_by (Set rd pc v) h = refl
+  length-memory_by (Read rd width extend pc at) h = refl
+  length-memory_by (Write width pc at v) h =
+      length-written s.memory (at - g.base) (number_bytes (size_of width) v) (omega (arith, length-number_bytes width v, h.0, h.1))
+  length-memory_by (Reserve rd width pc at) h = refl
+  length-memory_by (Conditional rd width pc at v) h =
+      length-written s.memory (at - g.base) (number_bytes (size_of width) v) (omega (arith, length-number_bytes width v, h.0, h.1))
+  length-memory_by (Fail rd pc) h = refl
+  length-memory_by (Modify op rd width pc at v) h =
+      let new = modified op width (number_at (size_of width) s.memory (at - g.base)) v in
+      length-written s.memory (at - g.base) (number_bytes (size_of width) new) (omega (arith, length-number_bytes width new, h.0, h.1))
+  length-memory_by Environment h = length-memory_served (call_at g s) (call_of-fit s.regs (call_state_of g s))
+  length-memory_by (Trap c) h = refl
 
--- ---- the console
+  -- ---- the console
 
-console_served-bytes : (g : Setting) (s : State) (k : Call) → All IsByte s.memory → All IsByte s.console → All IsByte (console_served g s k)
-unfolding console_served
-console_served-bytes g s (Answer v) m h = h
-console_served-bytes g s (Exit v) m h = h
-console_served-bytes g s (Break at) m h = h
-console_served-bytes g s (Take at len) m h = h
-console_served-bytes g s (Give at len) m h =
-    All-append IsByte s.console (take len (drop (at - g.base) s.memory)) h (All-take IsByte len (drop (at - g.base) s.memory) (All-drop IsByte (at - g.base) s.memory m))
+  console_served-bytes : (k : Call) → All IsByte s.memory → All IsByte s.console → All IsByte (console_served g s k)
+  unfolding console_served
+  console_served-bytes (Answer v) m h = h
+  console_served-bytes (Exit v) m h = h
+  console_served-bytes (Break at) m h = h
+  console_served-bytes (Take at len) m h = h
+  console_served-bytes (Give at len) m h =
+      All-append IsByte s.console (take len (drop (at - g.base) s.memory)) h
+      (All-take IsByte len (drop (at - g.base) s.memory) (All-drop IsByte (at - g.base) s.memory m))
 
-console_by-bytes : (g : Setting) (s : State) (e : Effect) → All IsByte s.memory → All IsByte s.console → All IsByte (console_by g s e)
-unfolding console_by
-console_by-bytes g s (Next pc) m h = h
-console_by-bytes g s (Set rd pc v) m h = h
-console_by-bytes g s (Read rd width extend pc at) m h = h
-console_by-bytes g s (Write width pc at v) m h = h
-console_by-bytes g s (Reserve rd width pc at) m h = h
-console_by-bytes g s (Conditional rd width pc at v) m h = h
-console_by-bytes g s (Fail rd pc) m h = h
-console_by-bytes g s (Modify op rd width pc at v) m h = h
-console_by-bytes g s Environment m h = console_served-bytes g s (call_at g s) m h
-console_by-bytes g s (Trap c) m h = h
+  console_by-bytes : (e : Effect) → All IsByte s.memory → All IsByte s.console → All IsByte (console_by g s e)
+  unfolding console_by
+  console_by-bytes (Next pc) m h = h
+  console_by-bytes (Set rd pc v) m h = h
+  console_by-bytes (Read rd width extend pc at) m h = h
+  console_by-bytes (Write width pc at v) m h = h
+  console_by-bytes (Reserve rd width pc at) m h = h
+  console_by-bytes (Conditional rd width pc at v) m h = h
+  console_by-bytes (Fail rd pc) m h = h
+  console_by-bytes (Modify op rd width pc at v) m h = h
+  console_by-bytes Environment m h = console_served-bytes (call_at g s) m h
+  console_by-bytes (Trap c) m h = h
 
 IsGrown-same : (l : List ℕ) → IsGrown l l
 IsGrown-same l = record { more = []; grown = sym (append-nil l) }
@@ -473,10 +480,12 @@ console_by-grows g s Environment = console_served-grows g s (call_at g s)
 console_by-grows g s (Trap c) = IsGrown-same s.console
 
 -- what is given is as long as the call says
-pub length-given : (base at len : ℕ) (memory : List ℕ) → base ≤ at → at + len ≤ base + length memory → length (take len (drop (at - base) memory)) ≡ len
+pub length-given : (base at len : ℕ) (memory : List ℕ) → base ≤ at → at + len ≤ base + length memory
+    → length (take len (drop (at - base) memory)) ≡ len
 length-given base at len memory low high = length-take-le len (drop (at - base) memory) (omega (arith, length-drop (at - base) memory))
 
-console_served-room : (g : Setting) (s : State) (k : Call) → IsFit (call_state_of g s) k → length s.console ≤ g.room → length (console_served g s k) ≤ g.room
+console_served-room : (g : Setting) (s : State) (k : Call) → IsFit (call_state_of g s) k → length s.console ≤ g.room
+    → length (console_served g s k) ≤ g.room
 unfolding console_served
 console_served-room g s (Answer v) f h = h
 console_served-room g s (Exit v) f h = h
@@ -498,7 +507,8 @@ console_by-room g s (Modify op rd width pc at v) h = h
 console_by-room g s Environment h = console_served-room g s (call_at g s) (call_of-fit s.regs (call_state_of g s)) h
 console_by-room g s (Trap c) h = h
 
-served-room : (c : CpuState) (calls : CallState) (k : Call) (most : ℕ) → calls.room ≡ most - c.console_len → IsFit calls k → c.console_len ≤ most → (served c k).console_len ≤ most
+served-room : (c : CpuState) (calls : CallState) (k : Call) (most : ℕ) → calls.room ≡ most - c.console_len → IsFit calls k
+    → c.console_len ≤ most → (served c k).console_len ≤ most
 unfolding served
 served-room c calls (Answer v) most e f h = h
 served-room c calls (Exit v) most e f h = h
@@ -507,7 +517,8 @@ served-room c calls (Take at len) most e f h = h
 served-room c calls (Give at len) most e f h = omega (arith, e, f.1)
 
 -- the length of a console stays within a room, if a call depends on what is left of it
-pub finished-room : (c : CpuState) (e : Effect) (n : ℕ) (k : CallState) (most : ℕ) → k.room ≡ most - c.console_len → c.console_len ≤ most → (finished c e n k).console_len ≤ most
+pub finished-room : (c : CpuState) (e : Effect) (n : ℕ) (k : CallState) (most : ℕ) → k.room ≡ most - c.console_len → c.console_len ≤ most
+    → (finished c e n k).console_len ≤ most
 unfolding finished
 finished-room c (Next pc) n k most e h = h
 finished-room c (Set rd pc v) n k most e h = h
@@ -522,7 +533,8 @@ finished-room c (Trap cause) n k most e h = h
 
 -- ---- the cursor
 
-served-cursor : (c : CpuState) (calls : CallState) (k : Call) → calls.cursor ≡ c.cursor → IsFit calls k → c.cursor ≤ calls.input_len → (served c k).cursor ≤ calls.input_len
+served-cursor : (c : CpuState) (calls : CallState) (k : Call) → calls.cursor ≡ c.cursor → IsFit calls k → c.cursor ≤ calls.input_len
+    → (served c k).cursor ≤ calls.input_len
 unfolding served
 served-cursor c calls (Answer v) e f h = h
 served-cursor c calls (Exit v) e f h = h
@@ -530,7 +542,8 @@ served-cursor c calls (Break at) e f h = h
 served-cursor c calls (Take at len) e f h = omega (arith, e, f.1)
 served-cursor c calls (Give at len) e f h = h
 
-pub finished-cursor : (c : CpuState) (e : Effect) (n : ℕ) (k : CallState) → k.cursor ≡ c.cursor → c.cursor ≤ k.input_len → (finished c e n k).cursor ≤ k.input_len
+pub finished-cursor : (c : CpuState) (e : Effect) (n : ℕ) (k : CallState) → k.cursor ≡ c.cursor → c.cursor ≤ k.input_len
+    → (finished c e n k).cursor ≤ k.input_len
 unfolding finished
 finished-cursor c (Next pc) n k e h = h
 finished-cursor c (Set rd pc v) n k e h = h
@@ -565,7 +578,8 @@ advanced-storable g size s r h =
     let n = read_by g.base s.memory e in
     let calls : AreCallNumbers (cpu_of s) (call_state_of g s) = record { cursor = refl; input = r.size; brk = h.brk } in
     let c : IsCpu (finished (cpu_of s) e n (call_state_of g s)) =
-    finished-keeps (cpu_of s) e n (call_state_of g s) (cpu_from_storable size s h) calls (effect_at-numbers g.base s h.numbers) (read_by-number g.base s.memory e h.memory) in
+    finished-keeps (cpu_of s) e n (call_state_of g s) (cpu_from_storable size s h) calls (effect_at-numbers g.base s h.numbers)
+    (read_by-number g.base s.memory e h.memory) in
     record {
       pc = c.pc;
       registers = c.registers;
@@ -610,7 +624,8 @@ step-console g s = if_state (λ t. IsGrown s.console t.console) (is_running s.st
 pub steps-console : (g : Setting) (k : ℕ) (s : State) → IsGrown s.console (steps g k s).console
 unfolding steps
 steps-console g zero s = IsGrown-same s.console
-steps-console g (suc k) s = IsGrown-on s.console (steps g k s).console (step g (steps g k s)).console (steps-console g k s) (step-console g (steps g k s))
+steps-console g (suc k) s = IsGrown-on s.console (steps g k s).console (step g (steps g k s)).console (steps-console g k s)
+    (step-console g (steps g k s))
 
 advanced-room : (g : Setting) (s : State) → length s.console ≤ g.room → length (advanced g s).console ≤ g.room
 unfolding advanced performed

@@ -99,7 +99,8 @@ within-spares base size o (Modify op rd width pc at v) alone h =
 within-spares base size o Environment alone h = tt
 within-spares base size o (Trap cause) alone h = h
 
-fault-spares : (a b : Bool) (e : Effect) → Spares e → Spares (fetched (if a then (if b then None else Some FetchAccess) else Some FetchMisaligned) e)
+fault-spares : (a b : Bool) (e : Effect) → Spares e
+    → Spares (fetched (if a then (if b then None else Some FetchAccess) else Some FetchMisaligned) e)
 fault-spares true true e h = h
 fault-spares true false e h = ((λ h. cc), (λ h. cc))
 fault-spares false b e h = fetch-spares
@@ -125,7 +126,8 @@ served-spares c (Break at) h = h
 served-spares c (Take at len) h = h
 served-spares c (Give at len) h = h
 
-finished-spares : (c : CpuState) (e : Effect) (n : ℕ) (k : CallState) → IsNotMisaligned c.status → Spares e → IsNotMisaligned (finished c e n k).status
+finished-spares : (c : CpuState) (e : Effect) (n : ℕ) (k : CallState) → IsNotMisaligned c.status → Spares e
+    → IsNotMisaligned (finished c e n k).status
 unfolding finished
 finished-spares c (Next pc) n k h p = h
 finished-spares c (Set rd pc v) n k h p = h

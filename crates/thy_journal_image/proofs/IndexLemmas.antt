@@ -15,7 +15,8 @@ use Rattle.thy_journal_image.proofs.PartsLemmas.{length-memory_places, memory_pl
 
 -- with one entry more
 module _ (p : Parameters) (s : ℕ) (table : List (Option ℕ)) (i : ℕ) (t : IsTable p table) where
-  block_by : (o : Option ℕ) → entry_at table i ≡ o → with_block p s i o (memory_places p s (take i table)) ≡ memory_places p s (take (i + 1) table)
+  block_by : (o : Option ℕ) → entry_at table i ≡ o
+      → with_block p s i o (memory_places p s (take i table)) ≡ memory_places p s (take (i + 1) table)
   block_by None h =
       fill_by_all (place_of p s (take (i + 1) table)) (memory_places p s (take i table))
       (memory_blocks p) 0 (length-memory_places p s (take i table))
@@ -32,7 +33,8 @@ module _ (p : Parameters) (s : ℕ) (table : List (Option ℕ)) (i : ℕ) (t : I
       (λ b l. elim (cases_eq b n) as (λ _. slice_index_or (slice_set (memory_places p s (take i table)) n (journal_place p s i)) b 0 ≡ place_of p s (take (i + 1) table) b) [
         | inl e ↦
             ap (λ (x : ℕ). slice_index_or (slice_set (memory_places p s (take i table)) n (journal_place p s i)) x 0) e
-            ∙ get_or-set_same (memory_places p s (take i table)) n (journal_place p s i) 0 (omega (arith, small, length-memory_places p s (take i table)))
+            ∙ get_or-set_same (memory_places p s (take i table)) n (journal_place p s i) 0
+            (omega (arith, small, length-memory_places p s (take i table)))
             ∙ sym (ap (place_by p s b) (ap (entry_of (take (i + 1) table)) e ∙ entry_of-take_here table i n here (λ k other. t.once k i n other here)))
         | inr ne ↦
             get_or-set_other (memory_places p s (take i table)) n b (journal_place p s i) 0 ne

@@ -41,7 +41,8 @@ place_once p s table a b (Some i) (Some j) l m e f same =
     let entry : i ≡ j = omega (arith, same) in
     some_same a b (sym (entry_of-Some table a i e).is ∙ ap (entry_at table) entry ∙ (entry_of-Some table b j f).is)
 
-has_places : (p : Parameters) (commit : Block) (slot : List Block) → Fits (journal_layouts p) commit slot → HasPlaces (journal_layouts p) commit slot
+has_places : (p : Parameters) (commit : Block) (slot : List Block) → Fits (journal_layouts p) commit slot
+    → HasPlaces (journal_layouts p) commit slot
 has_places p commit slot fits =
     let s : ℕ = epoch_of commit % 2 in
     let table : List (Option ℕ) = table_in p slot in
@@ -59,11 +60,13 @@ has_places p commit slot fits =
 
 -- ---- all of it
 
-cpu_fits : (p : Parameters) (ceiling epoch : ℕ) (slot : List Block) → slot_fault p ceiling epoch slot ≡ None → cpu_fault p ceiling slot ≡ None
+cpu_fits : (p : Parameters) (ceiling epoch : ℕ) (slot : List Block) → slot_fault p ceiling epoch slot ≡ None
+    → cpu_fault p ceiling slot ≡ None
 unfolding slot_fault
 cpu_fits p ceiling epoch slot none = (slot_parts (table_fault p (table_in p slot)) p ceiling epoch slot none).2
 
-fits_higher : (p : Parameters) (low high epoch : ℕ) (slot : List Block) → low ≤ high → slot_fault p low epoch slot ≡ None → slot_fault p high epoch slot ≡ None
+fits_higher : (p : Parameters) (low high epoch : ℕ) (slot : List Block) → low ≤ high → slot_fault p low epoch slot ≡ None
+    → slot_fault p high epoch slot ≡ None
 unfolding slot_fault
 fits_higher p low high epoch slot most none = slot_higher (table_fault p (table_in p slot)) p low high epoch slot most none
 

@@ -28,20 +28,20 @@ use Rattle.thy_journal_image.proofs.SlotLemmas.{slot_reads_back}
 
 -- ---- the places of memory
 
-pub length-memory_places : (p : Parameters) (s : ℕ) (table : List (Option ℕ)) → (let xs : List ℕ = memory_places p s table in length xs) ≡ memory_blocks p
-length-memory_places p s table = length-map-range_with_len (place_of p s table) 0 (memory_blocks p)
+module _ (p : Parameters) (s : ℕ) (table : List (Option ℕ)) where
+  pub length-memory_places : (let xs : List ℕ = memory_places p s table in length xs) ≡ memory_blocks p
+  length-memory_places = length-map-range_with_len (place_of p s table) 0 (memory_blocks p)
 
-pub memory_place : (p : Parameters) (s : ℕ) (table : List (Option ℕ)) (k otherwise : ℕ) → k < memory_blocks p
-    → (let xs : List ℕ = memory_places p s table in get_or xs k otherwise) ≡ place_of p s table k
-memory_place p s table k otherwise l =
-    get_or-map-range_with_len (place_of p s table) 0 (memory_blocks p) k k otherwise l (omega arith)
+  pub memory_place : (k otherwise : ℕ) → k < memory_blocks p
+      → (let xs : List ℕ = memory_places p s table in get_or xs k otherwise) ≡ place_of p s table k
+  memory_place k otherwise l =
+      get_or-map-range_with_len (place_of p s table) 0 (memory_blocks p) k k otherwise l (omega arith)
 
--- each place of memory is the place of a block
-pub memory_place_of : (p : Parameters) (s : ℕ) (table : List (Option ℕ)) (x : ℕ) → Contains (memory_places p s table) x
-    → (b : ℕ) × (b < memory_blocks p) × (place_of p s table b ≡ x)
-memory_place_of p s table x (k, l, is) =
-    let inside : k < memory_blocks p = omega (arith, length-memory_places p s table) in
-    (k, inside, sym (memory_place p s table k x inside) ∙ is)
+  -- each place of memory is the place of a block
+  pub memory_place_of : (x : ℕ) → Contains (memory_places p s table) x → (b : ℕ) × (b < memory_blocks p) × (place_of p s table b ≡ x)
+  memory_place_of x (k, l, is) =
+      let inside : k < memory_blocks p = omega (arith, length-memory_places) in
+      (k, inside, sym (memory_place k x inside) ∙ is)
 
 -- the journals are after the slots, within the image
 pub journal_behind : (p : Parameters) (s i : ℕ) → s < 2 → i < p.btt
@@ -51,14 +51,16 @@ journal_behind p (suc zero) i l m = (omega arith, omega arith)
 journal_behind p (suc (suc s)) i l m = absurd (omega arith)
 
 -- the place of a block is after the slots, within the image
-pub place_by_behind : (p : Parameters) (s : ℕ) (table : List (Option ℕ)) (b : ℕ) (found : Option ℕ) → IsTable p table → s < 2 → b < memory_blocks p
+pub place_by_behind : (p : Parameters) (s : ℕ) (table : List (Option ℕ)) (b : ℕ) (found : Option ℕ) → IsTable p table → s < 2
+    → b < memory_blocks p
     → entry_of table b ≡ found → (first_home p ≤ place_by p s b found) × (place_by p s b found < image_blocks p)
 place_by_behind p s table b None h l m e = (omega arith, omega arith)
 place_by_behind p s table b (Some i) h l m e =
     let inside = Lists-inside table i b (entry_of-Some table b i e) in
     journal_behind p s i l (omega (arith, inside, h.long))
 
-pub memory_behind : (p : Parameters) (s : ℕ) (table : List (Option ℕ)) (x : ℕ) → IsTable p table → s < 2 → Contains (memory_places p s table) x
+pub memory_behind : (p : Parameters) (s : ℕ) (table : List (Option ℕ)) (x : ℕ) → IsTable p table → s < 2
+    → Contains (memory_places p s table) x
     → (first_home p ≤ x) × (x < image_blocks p)
 memory_behind p s table x h l inside =
     let of = memory_place_of p s table x inside in

@@ -35,7 +35,8 @@ IsTable-faultless p table long none =
       once = once 0 table parts.1;
     }
 
-pub faultless_table : (p : Parameters) (ceiling epoch : ℕ) (slot : List Block) → slot_fault p ceiling epoch slot ≡ None → IsTable p (table_in p slot)
+pub faultless_table : (p : Parameters) (ceiling epoch : ℕ) (slot : List Block) → slot_fault p ceiling epoch slot ≡ None
+    → IsTable p (table_in p slot)
 unfolding slot_fault
 faultless_table p ceiling epoch slot none =
     IsTable-faultless p (table_in p slot) (length-entries_in slot (8 * record_blocks p) p.btt)

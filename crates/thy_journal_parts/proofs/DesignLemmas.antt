@@ -126,14 +126,17 @@ keeps_applying epoch from to s g h = record { kept = h.kept; table = h.table; me
 
 -- ---- what is free
 
-spared : (s : State) (g : List Block) (epoch : ℕ) (table : List (Option ℕ)) (x : Target) → HoldsCheckpoint s.p g epoch table → IsTarget s.p x → IsFree epoch table x
+spared : (s : State) (g : List Block) (epoch : ℕ) (table : List (Option ℕ)) (x : Target) → HoldsCheckpoint s.p g epoch table
+    → IsTarget s.p x → IsFree epoch table x
     → target_place s.p x ≢ 0 → IsSpared journal_design s g (target_place s.p x)
 spared s g epoch table x meant there free low inside =
-    free_not_looked s.p g epoch table x meant there free (not_first (target_place s.p x) 0 (1 ∷ looked_by (journal_layouts s.p) g) (λ e. low (sym e)) inside)
+    free_not_looked s.p g epoch table x meant there free
+    (not_first (target_place s.p x) 0 (1 ∷ looked_by (journal_layouts s.p) g) (λ e. low (sym e)) inside)
 
 -- ---- the slot
 
-module _ (e : Progress) (s : State) (n : Device) (moment : IsMoment journal_design Made e.epoch s n) (can : CanRecord journal_design e s) where
+module _ (e : Progress) (s : State) (n : Device) (moment : IsMoment journal_design Made e.epoch s n)
+    (can : CanRecord journal_design e s) where
   abbrev slot : List Block
   slot = slot_list journal_design e s
 
@@ -152,11 +155,13 @@ module _ (e : Progress) (s : State) (n : Device) (moment : IsMoment journal_desi
   pub slot_fits : (journal_layouts e.p).slot_bad ceiling (commit_of e.epoch) slot ≡ None
   slot_fits = ap (λ (k : ℕ). slot_fault e.p ceiling k slot) epoch_is ∙ back.faultless
 
-  pub slot_makes : (g : List Block) → block_at g 1 ≡ commit_of e.epoch → slot_in (journal_layouts e.p) g ≡ slot → HoldsCheckpoint s.p g e.epoch (table_of s)
+  pub slot_makes : (g : List Block) → block_at g 1 ≡ commit_of e.epoch → slot_in (journal_layouts e.p) g ≡ slot
+      → HoldsCheckpoint s.p g e.epoch (table_of s)
   slot_makes g commit is = record {
     of_epoch = ap epoch_of commit ∙ epoch_is;
     table_is =
-        subst (λ (p : Parameters). table_in p (slot_in (journal_layouts p) g) ≡ table_of s) (sym can.same_p) (ap (table_in e.p) is ∙ back.table_back);
+        subst (λ (p : Parameters). table_in p (slot_in (journal_layouts p) g) ≡ table_of s) (sym can.same_p)
+        (ap (table_in e.p) is ∙ back.table_back);
     whole = IsTable-table_of s moment.sound;
   }
 
@@ -204,7 +209,8 @@ own_before e p x same (inr (k, l, is)) =
     let before = (slot_behind e.p (epoch % 2) k (half epoch) l).1 in
     subst (λ (q : Parameters). x < first_home q) (sym same) (omega (arith, before, is))
 
-own_carried : (e : Progress) (s : State) (n : Device) (x : ℕ) (block : Block) → IsMoment journal_design Made e.epoch s n → s.p ≡ e.p → IsOwn journal_design e x
+own_carried : (e : Progress) (s : State) (n : Device) (x : ℕ) (block : Block) → IsMoment journal_design Made e.epoch s n → s.p ≡ e.p
+    → IsOwn journal_design e x
     → Carries journal_design e.epoch Made s n Made s (written_to n x block)
 own_carried e s n x block moment same own =
     over_before e.epoch s n moment x block (own_before e s.p x same own)
@@ -281,7 +287,8 @@ module _ (epoch : ℕ) (s : State) (n : Device) where
       → IsKeptBy (Applying i) epoch s g → IsSpared journal_design s g (home_place s.p (block_listed i s))
   tail_spares i g moment found keeps =
       let lists = live_lists s i i moment.sound found in
-      spared s g keeps.kept keeps.table (HomeBlock (block_listed i s)) keeps.meant ((IsTable-table_of s moment.sound).blocks i (block_listed i s) lists)
+      spared s g keeps.kept keeps.table (HomeBlock (block_listed i s)) keeps.meant
+      ((IsTable-table_of s moment.sound).blocks i (block_listed i s) lists)
       (i, subst (λ (t : List (Option ℕ)). Lists t i (block_listed i s)) (sym keeps.applied) lists) (λ q. omega (arith, q))
 
   tail_past : (from k : ℕ) → IsMoment journal_design (Applying from) epoch s n
@@ -321,7 +328,8 @@ module _ (epoch : ℕ) (s : State) (n : Device) where
 
 -- ---- the seal, and devices
 
-seals_to : (before epoch : ℕ) (s : State) (n : Device) → IsMoment journal_design Resting before s n → SealsTo journal_design before epoch s s n
+seals_to : (before epoch : ℕ) (s : State) (n : Device) → IsMoment journal_design Resting before s n
+    → SealsTo journal_design before epoch s s n
 seals_to before epoch s n moment = record {
   moment =
       moment_of moment refl moment.stands

@@ -56,7 +56,8 @@ module _ (p : Parameters) (s : Plain) (range : IsInRange p) where
   table_first =
       let eights : 8 * (p.btt / 8) ≡ p.btt = omega (arith, btt_eights p range) in
       ap (λ (n : ℕ). table_of p n (first_slot_of filling_journal p s)) (sym eights)
-      ∙ table_back p (cpu_of s) (no_table p) 0 (p.btt / 8) ((IsTable-none p).long ∙ sym eights) (HaveWords-table p (no_table p) range (IsTable-none p))
+      ∙ table_back p (cpu_of s) (no_table p) 0 (p.btt / 8) ((IsTable-none p).long ∙ sym eights)
+      (HaveWords-table p (no_table p) range (IsTable-none p))
 
   -- every block of a start is at home
   abbrev pub place_first : ℕ → ℕ

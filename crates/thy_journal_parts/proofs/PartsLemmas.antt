@@ -60,7 +60,8 @@ new_fresh p dram range is = record {
 
 -- ---- a checkpoint was restored: its journal is to be applied
 
-module _ (s : State) (n : Device) (b : Booting) (same : s.p ≡ b.p) (sized : length n.image ≡ image_blocks b.p) (found : IsRestored filling_journal n b s) where
+module _ (s : State) (n : Device) (b : Booting) (same : s.p ≡ b.p) (sized : length n.image ≡ image_blocks b.p)
+    (found : IsRestored filling_journal n b s) where
   meant : HoldsCheckpoint s.p n.image (epoch_of b.commit) (table_of s)
   meant = record {
     of_epoch = ap epoch_of found.listed.head.commit_is.is;
@@ -88,7 +89,8 @@ module _ (s : State) (n : Device) (b : Booting) (same : s.p ≡ b.p) (sized : le
 
 -- ---- the program is loaded
 
-module _ (s : State) (n : Device) (g : List Block) (start : Plain) (fresh : IsFresh s) (sized : length n.image ≡ image_blocks s.p) (can : CanStart s.p start)
+module _ (s : State) (n : Device) (g : List Block) (start : Plain) (fresh : IsFresh s) (sized : length n.image ≡ image_blocks s.p)
+    (can : CanStart s.p start)
     (commit : block_at g 1 ≡ commit_of 0) (slot : slot_in (journal_layouts s.p) g ≡ first_slot_of filling_journal s.p start) where
   table_free : table_of s ≡ no_table s.p
   table_free =

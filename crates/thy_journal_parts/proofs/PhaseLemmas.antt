@@ -66,7 +66,8 @@ module _ (epoch : ℕ) (s : State) (n : Device) (sound : IsSoundState s) (sized 
   }
 
   -- after the write of the next live entry, the journal has one entry more
-  pub journaled_on : (i : ℕ) → next_live i s ≡ Some i → AreJournaled epoch s n i → AreJournaled epoch s (written_to n (at i) (buffer_of s i)) (i + 1)
+  pub journaled_on : (i : ℕ) → next_live i s ≡ Some i → AreJournaled epoch s n i
+      → AreJournaled epoch s (written_to n (at i) (buffer_of s i)) (i + 1)
   journaled_on i found h = record { each = each_one } where
     each_one : (j b : ℕ) → j < i + 1 → Lists (table_of s) j b → newest (written_to n (at i) (buffer_of s i)) (at j) ≡ buffer_of s j
     each_one j b l lists = elim (cases_lt j i) as (λ _. newest (written_to n (at i) (buffer_of s i)) (at j) ≡ buffer_of s j) [
@@ -75,7 +76,8 @@ module _ (epoch : ℕ) (s : State) (n : Device) (sound : IsSoundState s) (sized 
           newest-written_to_other n (at i) (buffer_of s i) (at j) (λ q. omega (arith, q, less)) (at_inside j inside) ∙ h.each j b less lists
       | inr more ↦
           let here : j ≡ i = omega (arith, l, more) in
-          ap (λ (k : ℕ). newest (written_to n (at i) (buffer_of s i)) (at k)) here ∙ newest-written_to n (at i) (buffer_of s i) ∙ ap (buffer_of s) (sym here)
+          ap (λ (k : ℕ). newest (written_to n (at i) (buffer_of s i)) (at k)) here ∙ newest-written_to n (at i) (buffer_of s i)
+          ∙ ap (buffer_of s) (sym here)
     ]
 
   pub journaled_past : (from k : ℕ) → next_live from s ≡ Some k → AreJournaled epoch s n from → AreJournaled epoch s n k
@@ -126,7 +128,8 @@ module _ (s : State) (n : Device) (sound : IsSoundState s) (sized : length n.ima
   abbrev at_home : ℕ → ℕ
   at_home i = home_place s.p (block_listed i s)
 
-  pub home_on : (i : ℕ) → next_live i s ≡ Some i → AreHome s n i → AreHome s (written_to n (home_place s.p (block_listed i s)) (buffer_of s i)) (i + 1)
+  pub home_on : (i : ℕ) → next_live i s ≡ Some i → AreHome s n i
+      → AreHome s (written_to n (home_place s.p (block_listed i s)) (buffer_of s i)) (i + 1)
   home_on i found h = record { each = each_one } where
     lists_here : Lists (table_of s) i (block_listed i s)
     lists_here = live_lists s i i sound found
@@ -138,13 +141,15 @@ module _ (s : State) (n : Device) (sound : IsSoundState s) (sized : length n.ima
         let moved : entry_at (table_of s) j ≡ entry_at (table_of s) i = ap (entry_at (table_of s)) here in
         cc
 
-    each_one : (j b : ℕ) → j < i + 1 → Lists (table_of s) j b → newest (written_to n (at_home i) (buffer_of s i)) (home_place s.p b) ≡ buffer_of s j
+    each_one : (j b : ℕ) → j < i + 1 → Lists (table_of s) j b
+        → newest (written_to n (at_home i) (buffer_of s i)) (home_place s.p b) ≡ buffer_of s j
     each_one j b l lists = elim (cases_lt j i) as (λ _. newest (written_to n (at_home i) (buffer_of s i)) (home_place s.p b) ≡ buffer_of s j) [
       | inl less ↦
           newest-written_to_other n (at_home i) (buffer_of s i) (home_place s.p b)
           (λ q.
           let same_block : b ≡ block_listed i s = omega (arith, q) in
-          let same_entry : j ≡ i = (IsTable-table_of s sound).once j i b lists (subst (λ (c : ℕ). Lists (table_of s) i c) (sym same_block) lists_here) in
+          let same_entry : j ≡ i = (IsTable-table_of s sound).once j i b lists
+          (subst (λ (c : ℕ). Lists (table_of s) i c) (sym same_block) lists_here) in
           omega (arith, same_entry, less))
           (home_inside j b lists)
           ∙ h.each j b less lists
@@ -162,7 +167,8 @@ module _ (s : State) (n : Device) (sound : IsSoundState s) (sized : length n.ima
   home_reads m from reads h = record { each = λ i b l lists. reads (home_place s.p b) (home_inside i b lists) ∙ h.each i b l lists }
 
   -- with none left, every home reads as its block was stored last
-  home_is_work : (from : ℕ) → next_live from s ≡ None → AreHome s n from → (b : ℕ) (o : Option ℕ) → entry_for s b ≡ o → home_of s n b ≡ work_by s n b o
+  home_is_work : (from : ℕ) → next_live from s ≡ None → AreHome s n from → (b : ℕ) (o : Option ℕ) → entry_for s b ≡ o
+      → home_of s n b ≡ work_by s n b o
   home_is_work from found h b None is = refl
   home_is_work from found h b (Some i) is =
       let l = entry_of-Some (table_of s) b i (entry_for-is s b sound ∙ is) in h.each i b (listed_below s from i b found l) l

@@ -93,7 +93,8 @@ after_none : (b : ℕ) (block : Block) (s : State) (i : ℕ) → entry_for s b �
 after_none b block s i e found =
     after_is b block s
     ∙ ap (λ (o : Option ℕ). put_into (unwrap_or (option_or o (free_index s.table)) 0) block (record s { table = with_listing o b s.table })) e
-    ∙ ap (λ (o : Option ℕ). put_into (unwrap_or o 0) block (record s { table = record s.table { entries = added_at o (listing_of b) s.table.entries } })) found
+    ∙ ap (λ (o : Option ℕ). put_into (unwrap_or o 0) block
+    (record s { table = record s.table { entries = added_at o (listing_of b) s.table.entries } })) found
 
 -- a store, with the entry that it takes and the table that lists the block there
 record IsStoredAt (b : ℕ) (block : Block) (s : State) : Type 0 where
@@ -117,7 +118,8 @@ stored_at b block s sound small room = by_entry (entry_for s b) refl where
 
 -- ---- what it holds
 
-module _ (b : ℕ) (block : Block) (s : State) (n : Device) (sound : IsSoundState s) (small : b < memory_blocks s.p) (i : ℕ) (u : Listing Listed)
+module _ (b : ℕ) (block : Block) (s : State) (n : Device) (sound : IsSoundState s) (small : b < memory_blocks s.p) (i : ℕ)
+    (u : Listing Listed)
     (l : IsListedAt s b i u) where
   abbrev t : State
   t = put_into i block (record s { table = u })
@@ -205,7 +207,8 @@ failed_stays : (s : State) (n m : Device) → HasFailed n m → IsFramed n m →
 failed_stays s n m failed framed =
     record { same_p = refl; room = refl; sound = λ h. h; nvm = leaves-failed n m failed framed }
 
-on_stays : (a : State) (l : Device) (b : State) (m : Device) (c : State) (n : Device) → StaysLog a l b m → StaysLog b m c n → StaysLog a l c n
+on_stays : (a : State) (l : Device) (b : State) (m : Device) (c : State) (n : Device) → StaysLog a l b m → StaysLog b m c n
+    → StaysLog a l c n
 on_stays a l b m c n first second = record {
   same_p = second.same_p ∙ first.same_p;
   room = second.room ∙ first.room;
@@ -222,7 +225,8 @@ rests_less phase table rests = tt
 abbrev homes_by : Device → Parameters → List Block
 homes_by n p = map (λ b. newest n (home_place p b)) (range_with_len 0 (memory_blocks p))
 
-module _ (epoch : ℕ) (s : State) (n : Device) (t : State) (m : Device) (moment : IsMoment journal_design Resting epoch s n) (stays : StaysLog s n t m) where
+module _ (epoch : ℕ) (s : State) (n : Device) (t : State) (m : Device) (moment : IsMoment journal_design Resting epoch s n)
+    (stays : StaysLog s n t m) where
   stays_idle : StaysAt journal_design Resting epoch s n t n
   stays_idle = record {
     moment = record {

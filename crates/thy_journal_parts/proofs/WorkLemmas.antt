@@ -16,7 +16,8 @@ use Rattle.thy_parts.proofs.MemoryLemmas.{map_below}
 -- ---- over another NVM
 
 -- a block in a buffer does not depend on the NVM
-work_same : (s : State) (m n : Device) (b : ℕ) (o : Option ℕ) → (o ≡ None → home_of s n b ≡ home_of s m b) → work_by s n b o ≡ work_by s m b o
+work_same : (s : State) (m n : Device) (b : ℕ) (o : Option ℕ) → (o ≡ None → home_of s n b ≡ home_of s m b)
+    → work_by s n b o ≡ work_by s m b o
 work_same s m n b None h = h refl
 work_same s m n b (Some i) h = refl
 

@@ -148,59 +148,56 @@ rest_again p blocks (suc (suc (suc (suc (suc zero))))) h l = value_again (record
 rest_again p blocks (suc (suc (suc (suc (suc (suc (suc (suc j)))))))) h l = absurd (omega arith)
 rest_again p blocks j h l = refl
 
-registers : (p : Parameters) (blocks : List Block) → length (cpu_of_record p blocks).regs ≡ 32
-unfolding cpu_of_record
-registers p blocks = omega (arith, length-record_words blocks 1 31)
+module _ (p : Parameters) (blocks : List Block) where
+  registers : length (cpu_of_record p blocks).regs ≡ 32
+  unfolding cpu_of_record
+  registers = omega (arith, length-record_words blocks 1 31)
 
--- words 1 to 31 of a record are written again as they were read
-reg_again : (p : Parameters) (blocks : List Block) (i : ℕ) → i < 31
-    → written p blocks (suc i) ≡ record_word blocks (suc i)
-unfolding cpu_of_record
-reg_again p blocks i l =
-    let e : 1 + i ≡ suc i = omega arith in
-    cpu_words-reg (cpu_of_record p blocks) (epoch_of_record blocks) (suc i) (registers p blocks) (omega arith) (omega arith)
-    ∙ record_words-at blocks 1 31 i l
-    ∙ ap (record_word blocks) e
+  -- words 1 to 31 of a record are written again as they were read
+  reg_again : (i : ℕ) → i < 31 → written p blocks (suc i) ≡ record_word blocks (suc i)
+  unfolding cpu_of_record
+  reg_again i l =
+      let e : 1 + i ≡ suc i = omega arith in
+      cpu_words-reg (cpu_of_record p blocks) (epoch_of_record blocks) (suc i) registers (omega arith) (omega arith)
+      ∙ record_words-at blocks 1 31 i l
+      ∙ ap (record_word blocks) e
 
-first_word : (p : Parameters) (blocks : List Block) → written p blocks 0 ≡ record_word blocks 0
-unfolding cpu_of_record
-first_word p blocks = refl
+  first_word : written p blocks 0 ≡ record_word blocks 0
+  unfolding cpu_of_record
+  first_word = refl
 
--- words 32 to 39 of a record are written again as they were read
-behind_again : (p : Parameters) (blocks : List Block) (i : ℕ) → FitsStatus blocks → 32 ≤ i → i < 40
-    → written p blocks i ≡ record_word blocks i
-behind_again p blocks i h least most =
-    let e : 32 + (i - 32) ≡ i = omega arith in
-    ap (written p blocks) (sym e)
-    ∙ cpu_words-rest (cpu_of_record p blocks) (epoch_of_record blocks) (i - 32) (registers p blocks)
-    ∙ rest_again p blocks (i - 32) h (omega arith)
-    ∙ ap (record_word blocks) e
+  -- words 32 to 39 of a record are written again as they were read
+  behind_again : (i : ℕ) → FitsStatus blocks → 32 ≤ i → i < 40 → written p blocks i ≡ record_word blocks i
+  behind_again i h least most =
+      let e : 32 + (i - 32) ≡ i = omega arith in
+      ap (written p blocks) (sym e)
+      ∙ cpu_words-rest (cpu_of_record p blocks) (epoch_of_record blocks) (i - 32) registers
+      ∙ rest_again p blocks (i - 32) h (omega arith)
+      ∙ ap (record_word blocks) e
 
-front_again : (p : Parameters) (blocks : List Block) (i : ℕ) → FitsStatus blocks → i < 40
-    → written p blocks i ≡ record_word blocks i
-front_again p blocks zero h l = first_word p blocks
-front_again p blocks (suc i) h l =
-    elim (cases_lt i 31) as (λ _. written p blocks (suc i) ≡ record_word blocks (suc i)) [
-      | inl low ↦ reg_again p blocks i low
-      | inr high ↦ behind_again p blocks (suc i) h (omega arith) l
-    ]
+  front_again : (i : ℕ) → FitsStatus blocks → i < 40 → written p blocks i ≡ record_word blocks i
+  front_again zero h l = first_word
+  front_again (suc i) h l =
+      elim (cases_lt i 31) as (λ _. written p blocks (suc i) ≡ record_word blocks (suc i)) [
+        | inl low ↦ reg_again i low
+        | inr high ↦ behind_again (suc i) h (omega arith) l
+      ]
 
--- ---- both
+  -- ---- both
 
-other_is : (p : Parameters) (blocks : List Block) → p.harts ≡ 2 → (cpu_of_record p blocks).other ≡ Some (other_of_record blocks)
-unfolding cpu_of_record
-other_is p blocks two = taken (p.harts == 2) (Some (other_of_record blocks)) None (eq-eqb p.harts 2 two)
+  other_is : p.harts ≡ 2 → (cpu_of_record p blocks).other ≡ Some (other_of_record blocks)
+  unfolding cpu_of_record
+  other_is two = taken (p.harts == 2) (Some (other_of_record blocks)) None (eq-eqb p.harts 2 two)
 
--- words 40 to 79 of a record are written again as they were read
-back_again : (p : Parameters) (blocks : List Block) (i : ℕ) → FitsSecond blocks → p.harts ≡ 2 → 40 ≤ i → i < 80
-    → written p blocks i ≡ record_word blocks i
-back_again p blocks i h two least most =
-    let e : 40 + (i - 40) ≡ i = omega arith in
-    ap (written p blocks) (sym e)
-    ∙ cpu_words-second (cpu_of_record p blocks) (epoch_of_record blocks) (i - 40) (registers p blocks)
-    ∙ ap (λ (o : Option OtherHart). slice_index (second_words o) (i - 40)) (other_is p blocks two)
-    ∙ second_again blocks (i - 40) h (omega arith)
-    ∙ ap (record_word blocks) e
+  -- words 40 to 79 of a record are written again as they were read
+  back_again : (i : ℕ) → FitsSecond blocks → p.harts ≡ 2 → 40 ≤ i → i < 80 → written p blocks i ≡ record_word blocks i
+  back_again i h two least most =
+      let e : 40 + (i - 40) ≡ i = omega arith in
+      ap (written p blocks) (sym e)
+      ∙ cpu_words-second (cpu_of_record p blocks) (epoch_of_record blocks) (i - 40) registers
+      ∙ ap (λ (o : Option OtherHart). slice_index (second_words o) (i - 40)) (other_is two)
+      ∙ second_again blocks (i - 40) h (omega arith)
+      ∙ ap (record_word blocks) e
 
 second_asks : (fits : Bool) → (if fits then None else Some Second) ≡ None → fits ≡ true
 second_asks true h = refl

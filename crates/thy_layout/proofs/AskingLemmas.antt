@@ -39,10 +39,12 @@ pub commit_asks : (named below rest : Bool) → (if (named && below) && rest the
 commit_asks true true true h = (refl, refl, refl)
 commit_asks named below rest h = cc
 
-commit_gives : (named below rest : Bool) → named ≡ true → below ≡ true → rest ≡ true → (if (named && below) && rest then None else Some Commit) ≡ None
+commit_gives : (named below rest : Bool) → named ≡ true → below ≡ true → rest ≡ true
+    → (if (named && below) && rest then None else Some Commit) ≡ None
 commit_gives named below rest a b c = λ i. if (a i && b i) && c i then None else Some Commit
 
-pub commit_fault-higher : (header b : Block) (low high : ℕ) → low ≤ high → commit_fault header b low ≡ None → commit_fault header b high ≡ None
+pub commit_fault-higher : (header b : Block) (low high : ℕ) → low ≤ high → commit_fault header b low ≡ None
+    → commit_fault header b high ≡ None
 unfolding commit_fault
 commit_fault-higher header b low high most h =
     let asks = commit_asks (is_named header b) (nat_lt (epoch_of b) low) (has_zero_rest b) h in
@@ -58,16 +60,19 @@ status_gives : (status below room : Bool) → status ≡ true → below ≡ true
     → (if status && below then (if room then None else Some ConsoleLength) else Some Status) ≡ None
 status_gives status below room a b c = λ i. if a i && b i then (if c i then None else Some ConsoleLength) else Some Status
 
-pub status_fault-higher : (p : Parameters) (slot : List Block) (low high : ℕ) → low ≤ high → status_fault p low slot ≡ None → status_fault p high slot ≡ None
-status_fault-higher p slot low high most h =
-    let asks = status_asks (is_status (record_word slot 36) (record_word slot 37)) (nat_lt (record_word slot 32) low) (nat_le (record_word slot 34) (console_room p)) h in
-    status_gives (is_status (record_word slot 36) (record_word slot 37)) (nat_lt (record_word slot 32) high) (nat_le (record_word slot 34) (console_room p))
-    asks.0 (below_higher (record_word slot 32) low high most asks.1) asks.2
+module _ (p : Parameters) (slot : List Block) (low high : ℕ) (most : low ≤ high) where
+  pub status_fault-higher : status_fault p low slot ≡ None → status_fault p high slot ≡ None
+  status_fault-higher h =
+      let asks = status_asks (is_status (record_word slot 36) (record_word slot 37)) (nat_lt (record_word slot 32) low)
+      (nat_le (record_word slot 34) (console_room p)) h in
+      status_gives (is_status (record_word slot 36) (record_word slot 37)) (nat_lt (record_word slot 32) high)
+      (nat_le (record_word slot 34) (console_room p))
+      asks.0 (below_higher (record_word slot 32) low high most asks.1) asks.2
 
-pub cpu_fault-higher : (p : Parameters) (slot : List Block) (low high : ℕ) → low ≤ high → cpu_fault p low slot ≡ None → cpu_fault p high slot ≡ None
-cpu_fault-higher p slot low high most h =
-    let both = neither (status_fault p low slot) (second_fault p slot) h in
-    both_none _ _ (status_fault-higher p slot low high most both.0) both.1
+  pub cpu_fault-higher : cpu_fault p low slot ≡ None → cpu_fault p high slot ≡ None
+  cpu_fault-higher h =
+      let both = neither (status_fault p low slot) (second_fault p slot) h in
+      both_none _ _ (status_fault-higher both.0) both.1
 
 -- a slot whose word of the epoch is right has no such fault
 pub of_epoch : (epoch : ℕ) (slot : List Block) (w : ℕ) → w ≡ record_word slot 38 → w ≡ epoch → epoch_fault epoch slot ≡ None

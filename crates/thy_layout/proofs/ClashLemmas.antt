@@ -21,7 +21,8 @@ clash_none rule table i past before = sym (before ∙ at_drop_all (first_clash r
 pub length-table_in : (bytes : List ℕ) → length (table_in bytes) ≡ length bytes / 8
 length-table_in bytes = length-map-range_with_len (λ i. entry_from (number_at 8 bytes (8 * i))) 0 (length bytes / 8)
 
-pub entry_at-table_in : (bytes : List ℕ) (i : ℕ) → i < length bytes / 8 → entry_at (table_in bytes) i ≡ entry_from (number_at 8 bytes (8 * i))
+pub entry_at-table_in : (bytes : List ℕ) (i : ℕ) → i < length bytes / 8
+    → entry_at (table_in bytes) i ≡ entry_from (number_at 8 bytes (8 * i))
 entry_at-table_in bytes i l = get_or-map-range_with_len (λ i. entry_from (number_at 8 bytes (8 * i))) 0 (length bytes / 8) i i None l (omega arith)
 
 -- the first k entries of a table are the entries of its first bytes

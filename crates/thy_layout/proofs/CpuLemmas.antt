@@ -17,24 +17,23 @@ use Rattle.thy_layout.specs.Cpu.{status_tag, status_value, reserved_words, secon
 
 -- ---- the words of each hart
 
--- the words of a hart: pc, x1 to x31, and what comes after them
-abbrev hart_words : ℕ → List ℕ → List ℕ → List ℕ
-hart_words pc named rest = pc ∷ (named ++ rest)
+module _ (pc : ℕ) (named rest : List ℕ) where
+  -- the words of a hart: pc, x1 to x31, and what comes after them
+  abbrev hart_words : List ℕ
+  hart_words = pc ∷ (named ++ rest)
 
-length-hart_words : (pc : ℕ) (named rest : List ℕ) → length named ≡ 31 → length (hart_words pc named rest) ≡ 32 + length rest
-length-hart_words pc named rest h = omega (arith, length-append named rest)
+  length-hart_words : length named ≡ 31 → length hart_words ≡ 32 + length rest
+  length-hart_words h = omega (arith, length-append named rest)
 
--- words 1 to 31 are the registers
-hart_words-reg : (pc : ℕ) (named rest : List ℕ) (r : ℕ) → length named ≡ 31 → r < 31
-    → slice_index (hart_words pc named rest) (suc r) ≡ slice_index named r
-hart_words-reg pc named rest r h l = get_or_append_left named rest 0 r (omega arith)
+  -- words 1 to 31 are the registers
+  hart_words-reg : (r : ℕ) → length named ≡ 31 → r < 31 → slice_index hart_words (suc r) ≡ slice_index named r
+  hart_words-reg r h l = get_or_append_left named rest 0 r (omega arith)
 
--- the rest of a hart's words comes after its registers
-hart_words-rest : (pc : ℕ) (named rest : List ℕ) (i : ℕ) → length named ≡ 31
-    → slice_index (hart_words pc named rest) (32 + i) ≡ slice_index rest i
-hart_words-rest pc named rest i h =
-    let e : 32 + i ≡ suc (length named + i) = omega arith in
-    ap (slice_index (hart_words pc named rest)) e ∙ get_or-append-add named rest i 0
+  -- the rest of a hart's words comes after its registers
+  hart_words-rest : (i : ℕ) → length named ≡ 31 → slice_index hart_words (32 + i) ≡ slice_index rest i
+  hart_words-rest i h =
+      let e : 32 + i ≡ suc (length named + i) = omega arith in
+      ap (slice_index hart_words) e ∙ get_or-append-add named rest i 0
 
 -- ---- the other hart's words
 
@@ -89,40 +88,38 @@ rest_words c epoch =
 long_rest : (c : CpuState) → length c.regs ≡ 32 → length (drop 1 c.regs) ≡ 31
 long_rest c h = omega (arith, length-drop 1 c.regs)
 
-pub length-cpu_words : (c : CpuState) (epoch : ℕ) → length c.regs ≡ 32 → length (cpu_words c epoch) ≡ 80
-length-cpu_words c epoch h =
-    let long = length-hart_words c.pc (drop 1 c.regs) (rest_words c epoch) (long_rest c h) in omega (arith, long, length-second_words c.other)
+module _ (c : CpuState) (epoch : ℕ) where
+  pub length-cpu_words : length c.regs ≡ 32 → length (cpu_words c epoch) ≡ 80
+  length-cpu_words h =
+      let long = length-hart_words c.pc (drop 1 c.regs) (rest_words c epoch) (long_rest c h) in omega (arith, long, length-second_words c.other)
 
--- words 1 to 31 are the registers
-pub cpu_words-reg : (c : CpuState) (epoch r : ℕ) → length c.regs ≡ 32 → zero < r → r < 32
-    → slice_index (cpu_words c epoch) r ≡ slice_index c.regs r
-cpu_words-reg c epoch zero h some l = absurd (omega arith)
-cpu_words-reg c epoch (suc r) h some l =
-    let e : 1 + r ≡ suc r = omega arith in
-    hart_words-reg c.pc (drop 1 c.regs) (rest_words c epoch) r (long_rest c h) (omega arith)
-    ∙ get_or-drop 1 c.regs r 0 ∙ ap (slice_index c.regs) e
+  -- words 1 to 31 are the registers
+  pub cpu_words-reg : (r : ℕ) → length c.regs ≡ 32 → zero < r → r < 32 → slice_index (cpu_words c epoch) r ≡ slice_index c.regs r
+  cpu_words-reg zero h some l = absurd (omega arith)
+  cpu_words-reg (suc r) h some l =
+      let e : 1 + r ≡ suc r = omega arith in
+      hart_words-reg c.pc (drop 1 c.regs) (rest_words c epoch) r (long_rest c h) (omega arith)
+      ∙ get_or-drop 1 c.regs r 0 ∙ ap (slice_index c.regs) e
 
--- the rest of a record's words comes after the registers
-pub cpu_words-rest : (c : CpuState) (epoch i : ℕ) → length c.regs ≡ 32
-    → slice_index (cpu_words c epoch) (32 + i) ≡ slice_index (rest_words c epoch) i
-cpu_words-rest c epoch i h = hart_words-rest c.pc (drop 1 c.regs) (rest_words c epoch) i (long_rest c h)
+  -- the rest of a record's words comes after the registers
+  pub cpu_words-rest : (i : ℕ) → length c.regs ≡ 32 → slice_index (cpu_words c epoch) (32 + i) ≡ slice_index (rest_words c epoch) i
+  cpu_words-rest i h = hart_words-rest c.pc (drop 1 c.regs) (rest_words c epoch) i (long_rest c h)
 
--- word i of a record is word j of its rest, if i is 32 + j
-pub rest_at : (c : CpuState) (epoch i j w : ℕ) → length c.regs ≡ 32 → i ≡ 32 + j → w ≡ slice_index (rest_words c epoch) j
-    → w ≡ slice_index (cpu_words c epoch) i
-rest_at c epoch i j w h at is = is ∙ sym (ap (slice_index (cpu_words c epoch)) at ∙ cpu_words-rest c epoch j h)
+  -- word i of a record is word j of its rest, if i is 32 + j
+  pub rest_at : (i j w : ℕ) → length c.regs ≡ 32 → i ≡ 32 + j → w ≡ slice_index (rest_words c epoch) j
+      → w ≡ slice_index (cpu_words c epoch) i
+  rest_at i j w h at is = is ∙ sym (ap (slice_index (cpu_words c epoch)) at ∙ cpu_words-rest j h)
 
--- the eight words of a record between the front hart's registers and the other hart's words
-abbrev first_rest : CpuState → ℕ → List ℕ
-first_rest c epoch = c.count ∷ c.cursor ∷ c.console_len ∷ c.brk ∷ status_tag c.status ∷ status_value c.status ∷ epoch ∷ c.floor ∷ []
+  -- the eight words of a record between the front hart's registers and the other hart's words
+  abbrev first_rest : List ℕ
+  first_rest = c.count ∷ c.cursor ∷ c.console_len ∷ c.brk ∷ status_tag c.status ∷ status_value c.status ∷ epoch ∷ c.floor ∷ []
 
-pub cpu_words-second : (c : CpuState) (epoch j : ℕ) → length c.regs ≡ 32
-    → slice_index (cpu_words c epoch) (40 + j) ≡ slice_index (second_words c.other) j
-cpu_words-second c epoch j h =
-    let e : 40 + j ≡ 32 + (8 + j) = omega arith in
-    ap (slice_index (cpu_words c epoch)) e
-    ∙ cpu_words-rest c epoch (8 + j) h
-    ∙ get_or-append-add (first_rest c epoch) (second_words c.other) j 0
+  pub cpu_words-second : (j : ℕ) → length c.regs ≡ 32 → slice_index (cpu_words c epoch) (40 + j) ≡ slice_index (second_words c.other) j
+  cpu_words-second j h =
+      let e : 40 + j ≡ 32 + (8 + j) = omega arith in
+      ap (slice_index (cpu_words c epoch)) e
+      ∙ cpu_words-rest (8 + j) h
+      ∙ get_or-append-add first_rest (second_words c.other) j 0
 
 -- a word of a record from word 40 on is a word of the other hart
 pub second_at : (c : CpuState) (epoch i w : ℕ) → length c.regs ≡ 32 → 40 ≤ i → w ≡ slice_index (second_words c.other) (i - 40)
@@ -169,14 +166,16 @@ same_block_words c epoch k ws h l eight each =
 
 -- ---- words of a record in order
 
-pub record_words-more : (blocks : List Block) (i n : ℕ) → record_words blocks i (n + 1) ≡ record_words blocks i n ++ record_word blocks (i + n) ∷ []
+pub record_words-more : (blocks : List Block) (i n : ℕ)
+    → record_words blocks i (n + 1) ≡ record_words blocks i n ++ record_word blocks (i + n) ∷ []
 unfolding record_words
 record_words-more blocks i zero = ap (λ x. record_word blocks x ∷ []) (sym (add-zero i))
 record_words-more blocks i (suc n) =
     let e : i + 1 + n ≡ i + suc n = omega arith in
     let more : suc n + 1 ≡ suc (n + 1) = omega arith in
     ap (record_words blocks i) more
-    ∙ ap (λ ws. record_word blocks i ∷ ws) (record_words-more blocks (i + 1) n ∙ ap (λ x. record_words blocks (i + 1) n ++ record_word blocks x ∷ []) e)
+    ∙ ap (λ ws. record_word blocks i ∷ ws)
+    (record_words-more blocks (i + 1) n ∙ ap (λ x. record_words blocks (i + 1) n ++ record_word blocks x ∷ []) e)
 
 pub length-record_words : (blocks : List Block) (i n : ℕ) → length (record_words blocks i n) ≡ n
 unfolding record_words

@@ -20,41 +20,39 @@ pub mapped_none : (f : ℕ → BadImage) (o : Option ℕ) → option_map f o ≡
 mapped_none f None h = refl
 mapped_none f (Some x) h = cc
 
--- if no entry has a fault, none breaks the rule
-pub first_clash-None : (rule : ℕ → ℕ → Option BadImage) (k : ℕ) (es : List (Option ℕ)) → first_clash rule k es ≡ None
-    → (i n : ℕ) → Lists es i n → rule (k + i) n ≡ None
-first_clash-None rule k [] h i n l = let is = l.is in cc
-first_clash-None rule k (e ∷ es) h zero n l =
-    let first : entry_fault rule k e ≡ None = (neither (entry_fault rule k e) (first_clash rule (k + 1) es) h).0 in
-    ap (λ x. rule x n) (add-zero k) ∙ sym (ap (entry_fault rule k) l.is) ∙ first
-first_clash-None rule k (e ∷ es) h (suc i) n l =
-    let rest : first_clash rule (k + 1) es ≡ None = (neither (entry_fault rule k e) (first_clash rule (k + 1) es) h).1 in
-    let next : k + suc i ≡ k + 1 + i = omega arith in
-    ap (λ x. rule x n) next ∙ first_clash-None rule (k + 1) es rest i n (record { is = l.is })
+module _ (rule : ℕ → ℕ → Option BadImage) where
+  -- if no entry has a fault, none breaks the rule
+  pub first_clash-None : (k : ℕ) (es : List (Option ℕ)) → first_clash rule k es ≡ None → (i n : ℕ) → Lists es i n → rule (k + i) n ≡ None
+  first_clash-None k [] h i n l = let is = l.is in cc
+  first_clash-None k (e ∷ es) h zero n l =
+      let first : entry_fault rule k e ≡ None = (neither (entry_fault rule k e) (first_clash rule (k + 1) es) h).0 in
+      ap (λ x. rule x n) (add-zero k) ∙ sym (ap (entry_fault rule k) l.is) ∙ first
+  first_clash-None k (e ∷ es) h (suc i) n l =
+      let rest : first_clash rule (k + 1) es ≡ None = (neither (entry_fault rule k e) (first_clash rule (k + 1) es) h).1 in
+      let next : k + suc i ≡ k + 1 + i = omega arith in
+      ap (λ x. rule x n) next ∙ first_clash-None (k + 1) es rest i n (record { is = l.is })
 
-entry_fault-None : (rule : ℕ → ℕ → Option BadImage) (k : ℕ) (e : Option ℕ) → ((n : ℕ) → e ≡ Some n → rule k n ≡ None) → entry_fault rule k e ≡ None
-entry_fault-None rule k None h = refl
-entry_fault-None rule k (Some n) h = h n refl
+  entry_fault-None : (k : ℕ) (e : Option ℕ) → ((n : ℕ) → e ≡ Some n → rule k n ≡ None) → entry_fault rule k e ≡ None
+  entry_fault-None k None h = refl
+  entry_fault-None k (Some n) h = h n refl
 
--- if no entry breaks the rule, none has a fault
-pub first_clash-of_rule : (rule : ℕ → ℕ → Option BadImage) (k : ℕ) (es : List (Option ℕ))
-    → ((i n : ℕ) → Lists es i n → rule (k + i) n ≡ None) → first_clash rule k es ≡ None
-first_clash-of_rule rule k [] h = refl
-first_clash-of_rule rule k (e ∷ es) h =
-    both_none (entry_fault rule k e) (first_clash rule (k + 1) es)
-    (entry_fault-None rule k e (λ n is. ap (λ x. rule x n) (sym (add-zero k)) ∙ h 0 n (record { is = is })))
-    (first_clash-of_rule rule (k + 1) es (λ i n l.
-    let next : k + 1 + i ≡ k + suc i = omega arith in
-    ap (λ x. rule x n) next ∙ h (suc i) n (record { is = l.is })))
+  -- if no entry breaks the rule, none has a fault
+  pub first_clash-of_rule : (k : ℕ) (es : List (Option ℕ)) → ((i n : ℕ) → Lists es i n → rule (k + i) n ≡ None)
+      → first_clash rule k es ≡ None
+  first_clash-of_rule k [] h = refl
+  first_clash-of_rule k (e ∷ es) h =
+      both_none (entry_fault rule k e) (first_clash rule (k + 1) es)
+      (entry_fault-None k e (λ n is. ap (λ x. rule x n) (sym (add-zero k)) ∙ h 0 n (record { is = is })))
+      (first_clash-of_rule (k + 1) es (λ i n l.
+      let next : k + 1 + i ≡ k + suc i = omega arith in
+      ap (λ x. rule x n) next ∙ h (suc i) n (record { is = l.is })))
 
--- if no entry of a whole table has a fault, none breaks the rule
-pub unbroken : (rule : ℕ → ℕ → Option BadImage) (es : List (Option ℕ)) → first_clash rule 0 es ≡ None
-    → (i n : ℕ) → Lists es i n → rule i n ≡ None
-unbroken rule es h i n l = ap (λ x. rule x n) (sym (zero-add i)) ∙ first_clash-None rule 0 es h i n l
+  -- if no entry of a whole table has a fault, none breaks the rule
+  pub unbroken : (es : List (Option ℕ)) → first_clash rule 0 es ≡ None → (i n : ℕ) → Lists es i n → rule i n ≡ None
+  unbroken es h i n l = ap (λ x. rule x n) (sym (zero-add i)) ∙ first_clash-None 0 es h i n l
 
-pub none_breaks : (rule : ℕ → ℕ → Option BadImage) (es : List (Option ℕ)) → ((i n : ℕ) → Lists es i n → rule i n ≡ None)
-    → first_clash rule 0 es ≡ None
-none_breaks rule es h = first_clash-of_rule rule 0 es (λ i n l. ap (λ x. rule x n) (zero-add i) ∙ h i n l)
+  pub none_breaks : (es : List (Option ℕ)) → ((i n : ℕ) → Lists es i n → rule i n ≡ None) → first_clash rule 0 es ≡ None
+  none_breaks es h = first_clash-of_rule 0 es (λ i n l. ap (λ x. rule x n) (zero-add i) ∙ h i n l)
 
 pub index_asks : (before limit i n : ℕ) → index_rule before limit i n ≡ None → n < limit
 index_asks before limit i n h =
@@ -65,12 +63,13 @@ index_asks before limit i n h =
 pub index_holds : (before limit i n : ℕ) → n < limit → index_rule before limit i n ≡ None
 index_holds before limit i n l = ap (λ b. if b then None else Some (TableIndex (before + i))) (lt-ltb n limit l)
 
-pub twice_asks : (before : ℕ) (table : List (Option ℕ)) (i k n : ℕ) → twice_rule before table k n ≡ None → i < k → Lists table i n → ⊥
-twice_asks before table i k n h l here = entry_of-None (take k table) n i (mapped_none _ (entry_of (take k table) n) h) (Lists-take table k i n l here)
+module _ (before : ℕ) (table : List (Option ℕ)) where
+  pub twice_asks : (i k n : ℕ) → twice_rule before table k n ≡ None → i < k → Lists table i n → ⊥
+  twice_asks i k n h l here = entry_of-None (take k table) n i (mapped_none _ (entry_of (take k table) n) h) (Lists-take table k i n l here)
 
-twice_holds : (before : ℕ) (table : List (Option ℕ)) (k n : ℕ) → ((i : ℕ) → i < k → Lists table i n → ⊥) → twice_rule before table k n ≡ None
-twice_holds before table k n none =
-    ap (option_map _) (entry_of-absent (take k table) n (λ i l. let of = Lists-of_take table k i n l in none i of.0 of.1))
+  twice_holds : (k n : ℕ) → ((i : ℕ) → i < k → Lists table i n → ⊥) → twice_rule before table k n ≡ None
+  twice_holds k n none =
+      ap (option_map _) (entry_of-absent (take k table) n (λ i l. let of = Lists-of_take table k i n l in none i of.0 of.1))
 
 apart_once : (table : List (Option ℕ)) → ((i k n : ℕ) → i < k → Lists table i n → Lists table k n → ⊥)
     → (i k n : ℕ) → Lists table i n → Lists table k n → i ≡ k
@@ -82,13 +81,12 @@ apart_once table none i k n a b = elim (cases_lt i k) as (λ _. i ≡ k) [
   ]
 ]
 
--- no number is listed twice, if no entry clashes with an earlier one
-pub once : (before : ℕ) (table : List (Option ℕ)) → first_clash (twice_rule before table) 0 table ≡ None
-    → (i k n : ℕ) → Lists table i n → Lists table k n → i ≡ k
-once before table h = apart_once table (λ i k n l a b. twice_asks before table i k n (unbroken (twice_rule before table) table h k n b) l a)
+module _ (before : ℕ) (table : List (Option ℕ)) where
+  -- no number is listed twice, if no entry clashes with an earlier one
+  pub once : first_clash (twice_rule before table) 0 table ≡ None → (i k n : ℕ) → Lists table i n → Lists table k n → i ≡ k
+  once h = apart_once table (λ i k n l a b. twice_asks before table i k n (unbroken (twice_rule before table) table h k n b) l a)
 
--- no entry clashes with an earlier one, if no number is listed twice
-pub no_twins : (before : ℕ) (table : List (Option ℕ)) → ((i k n : ℕ) → Lists table i n → Lists table k n → i ≡ k)
-    → first_clash (twice_rule before table) 0 table ≡ None
-no_twins before table one = none_breaks (twice_rule before table) table
-    (λ k n b. twice_holds before table k n (λ i l a. let same = one i k n a b in omega arith))
+  -- no entry clashes with an earlier one, if no number is listed twice
+  pub no_twins : ((i k n : ℕ) → Lists table i n → Lists table k n → i ≡ k) → first_clash (twice_rule before table) 0 table ≡ None
+  no_twins one = none_breaks (twice_rule before table) table
+      (λ k n b. twice_holds before table k n (λ i l a. let same = one i k n a b in omega arith))

@@ -31,43 +31,49 @@ pub none_at : {X : Type 0} (t : X → Bool) (k : ℕ) (xs : List X) (i : ℕ) (d
     → position_from t k xs ≡ None → i < length xs → t (get_or xs i d) ≡ false
 none_at t k [] i d h l = absurd (omega arith)
 none_at t k (x ∷ xs) zero d h l =
-    let cases : (b : Bool) → cond b (Some k) (position_from t (k + 1) xs) ≡ None → b ≡ false = λ b. elim b as (λ b. cond b (Some k) (position_from t (k + 1) xs) ≡ None → b ≡ false) [ true ↦ λ e. cc | false ↦ λ e. refl ] in
+    let cases : (b : Bool) → cond b (Some k) (position_from t (k + 1) xs) ≡ None → b ≡ false =
+    λ b. elim b as (λ b. cond b (Some k) (position_from t (k + 1) xs) ≡ None → b ≡ false) [ true ↦ λ e. cc | false ↦ λ e. refl ] in
     cases (t x) h
 none_at t k (x ∷ xs) (suc i) d h l =
-    let cases : (b : Bool) → cond b (Some k) (position_from t (k + 1) xs) ≡ None → position_from t (k + 1) xs ≡ None = λ b. elim b as (λ b. cond b (Some k) (position_from t (k + 1) xs) ≡ None → position_from t (k + 1) xs ≡ None) [ true ↦ λ e. cc | false ↦ λ e. e ] in
+    let cases : (b : Bool) → cond b (Some k) (position_from t (k + 1) xs) ≡ None → position_from t (k + 1) xs ≡ None =
+    λ b. elim b as (λ b. cond b (Some k) (position_from t (k + 1) xs) ≡ None → position_from t (k + 1) xs ≡ None) [
+      | true ↦ λ e. cc
+      | false ↦ λ e. e
+    ] in
     none_at t (k + 1) xs i d (cases (t x) h) (omega arith)
 
--- if none is found, no entry lists the number
-pub entry_of-None : (table : List (Option ℕ)) (n i : ℕ) → entry_of table n ≡ None → Lists table i n → ⊥
-entry_of-None table n i h l =
-    let none : is_entry_of n (entry_at table i) ≡ false
-    = none_at (is_entry_of n) 0 table i None (sym (position_from-zero (is_entry_of n) table) ∙ h) (Lists-inside table i n l) in
-    let some : is_entry_of n (entry_at table i) ≡ true = test_of_listed n (entry_at table i) l.is in
-    cc
+module _ (table : List (Option ℕ)) (n : ℕ) where
+  -- if none is found, no entry lists the number
+  pub entry_of-None : (i : ℕ) → entry_of table n ≡ None → Lists table i n → ⊥
+  entry_of-None i h l =
+      let none : is_entry_of n (entry_at table i) ≡ false
+      = none_at (is_entry_of n) 0 table i None (sym (position_from-zero (is_entry_of n) table) ∙ h) (Lists-inside table i n l) in
+      let some : is_entry_of n (entry_at table i) ≡ true = test_of_listed n (entry_at table i) l.is in
+      cc
 
-absent_is : (table : List (Option ℕ)) (n : ℕ) (found : Option ℕ) → entry_of table n ≡ found → ((i : ℕ) → Lists table i n → ⊥) → found ≡ None
-absent_is table n None h none = refl
-absent_is table n (Some i) h none = absurd (none i (entry_of-Some table n i h))
+  absent_is : (found : Option ℕ) → entry_of table n ≡ found → ((i : ℕ) → Lists table i n → ⊥) → found ≡ None
+  absent_is None h none = refl
+  absent_is (Some i) h none = absurd (none i (entry_of-Some table n i h))
 
--- if no entry lists the number, none is found
-pub entry_of-absent : (table : List (Option ℕ)) (n : ℕ) → ((i : ℕ) → Lists table i n → ⊥) → entry_of table n ≡ None
-entry_of-absent table n none = absent_is table n (entry_of table n) refl none
+  -- if no entry lists the number, none is found
+  pub entry_of-absent : ((i : ℕ) → Lists table i n → ⊥) → entry_of table n ≡ None
+  entry_of-absent none = absent_is (entry_of table n) refl none
 
-listed_is : (table : List (Option ℕ)) (n i : ℕ) (found : Option ℕ) → entry_of table n ≡ found → Lists table i n
-    → ((k : ℕ) → Lists table k n → k ≡ i) → found ≡ Some i
-listed_is table n i None h l only = absurd (entry_of-None table n i h l)
-listed_is table n i (Some k) h l only = ap Some (only k (entry_of-Some table n k h))
+  listed_is : (i : ℕ) (found : Option ℕ) → entry_of table n ≡ found → Lists table i n → ((k : ℕ) → Lists table k n → k ≡ i)
+      → found ≡ Some i
+  listed_is i None h l only = absurd (entry_of-None i h l)
+  listed_is i (Some k) h l only = ap Some (only k (entry_of-Some table n k h))
 
--- the only entry that lists a number is found
-pub entry_of-listed : (table : List (Option ℕ)) (n i : ℕ) → Lists table i n → ((k : ℕ) → Lists table k n → k ≡ i) → entry_of table n ≡ Some i
-entry_of-listed table n i l only = listed_is table n i (entry_of table n) refl l only
+  -- the only entry that lists a number is found
+  pub entry_of-listed : (i : ℕ) → Lists table i n → ((k : ℕ) → Lists table k n → k ≡ i) → entry_of table n ≡ Some i
+  entry_of-listed i l only = listed_is i (entry_of table n) refl l only
 
--- no entry before the one that is found lists the number
-pub entry_of-before : (table : List (Option ℕ)) (n i k : ℕ) → entry_of table n ≡ Some i → k < i → Lists table k n → ⊥
-entry_of-before table n i k h l here =
-    let other : is_entry_of n (entry_at table k) ≡ false = (position-Some (is_entry_of n) table i None h).2 k l in
-    let this : is_entry_of n (entry_at table k) ≡ true = test_of_listed n (entry_at table k) here.is in
-    cc
+  -- no entry before the one that is found lists the number
+  pub entry_of-before : (i k : ℕ) → entry_of table n ≡ Some i → k < i → Lists table k n → ⊥
+  entry_of-before i k h l here =
+      let other : is_entry_of n (entry_at table k) ≡ false = (position-Some (is_entry_of n) table i None h).2 k l in
+      let this : is_entry_of n (entry_at table k) ≡ true = test_of_listed n (entry_at table k) here.is in
+      cc
 
 first_is : (table : List (Option ℕ)) (n i : ℕ) (found : Option ℕ) → entry_of table n ≡ found
     → ((k : ℕ) → k < i → Lists table k n → ⊥) → Lists table i n → found ≡ Some i
@@ -80,26 +86,27 @@ first_is table n i (Some k) h none l = elim (cases_lt k i) as (λ _. (let o : Op
   ]
 ]
 
--- the first k entries list what the table's do
-pub Lists-take : (table : List (Option ℕ)) (k i n : ℕ) → i < k → Lists table i n → Lists (take k table) i n
-Lists-take table k i n l h = record { is = get_or-take k table i None l ∙ h.is }
+module _ (table : List (Option ℕ)) where
+  -- the first k entries list what the table's do
+  pub Lists-take : (k i n : ℕ) → i < k → Lists table i n → Lists (take k table) i n
+  Lists-take k i n l h = record { is = get_or-take k table i None l ∙ h.is }
 
-pub Lists-of_take : (table : List (Option ℕ)) (k i n : ℕ) → Lists (take k table) i n → (i < k) × Lists table i n
-Lists-of_take table k i n h =
-    let inside = Lists-inside (take k table) i n h in
-    let l : i < k = omega (arith, inside, length-take k table) in
-    (l, record { is = sym (get_or-take k table i None l) ∙ h.is })
+  pub Lists-of_take : (k i n : ℕ) → Lists (take k table) i n → (i < k) × Lists table i n
+  Lists-of_take k i n h =
+      let inside = Lists-inside (take k table) i n h in
+      let l : i < k = omega (arith, inside, length-take k table) in
+      (l, record { is = sym (get_or-take k table i None l) ∙ h.is })
 
-pub entry_of-found : (table : List (Option ℕ)) (n i : ℕ) → ((k : ℕ) → k < i → Lists table k n → ⊥) → Lists table i n → Some i ≡ entry_of table n
-entry_of-found table n i none l = sym (first_is table n i (entry_of table n) refl none l)
+  pub entry_of-found : (n i : ℕ) → ((k : ℕ) → k < i → Lists table k n → ⊥) → Lists table i n → Some i ≡ entry_of table n
+  entry_of-found n i none l = sym (first_is table n i (entry_of table n) refl none l)
 
-pub entry_of-none : (table : List (Option ℕ)) (n i : ℕ) → length table ≤ i → ((k : ℕ) → k < i → Lists table k n → ⊥) → None ≡ entry_of table n
-entry_of-none table n i past none =
-    sym (entry_of-absent table n (λ k l. let inside = Lists-inside table k n l in none k (omega arith) l))
+  pub entry_of-none : (n i : ℕ) → length table ≤ i → ((k : ℕ) → k < i → Lists table k n → ⊥) → None ≡ entry_of table n
+  entry_of-none n i past none =
+      sym (entry_of-absent table n (λ k l. let inside = Lists-inside table k n l in none k (omega arith) l))
 
--- what is found among the first k entries is before entry k
-pub entry_of-in_take : (table : List (Option ℕ)) (k n i : ℕ) → entry_of (take k table) n ≡ Some i → i < k
-entry_of-in_take table k n i h = (Lists-of_take table k i n (entry_of-Some (take k table) n i h)).0
+  -- what is found among the first k entries is before entry k
+  pub entry_of-in_take : (k n i : ℕ) → entry_of (take k table) n ≡ Some i → i < k
+  entry_of-in_take k n i h = (Lists-of_take k i n (entry_of-Some (take k table) n i h)).0
 
 -- a table of empty entries lists nothing
 pub lists_none : (n i k : ℕ) → Lists (replicate n None) i k → ⊥
@@ -119,7 +126,8 @@ entry_of-take_here table i n l only =
     entry_of-listed (take (i + 1) table) n i (Lists-take table (i + 1) i n (omega arith) l) (λ k h. only k (Lists-of_take table (i + 1) k n h).1)
 
 -- an entry that does not list the number leaves what is found
-pub entry_of-take_other : (table : List (Option ℕ)) (i n : ℕ) → (Lists table i n → ⊥) → entry_of (take (i + 1) table) n ≡ entry_of (take i table) n
+pub entry_of-take_other : (table : List (Option ℕ)) (i n : ℕ) → (Lists table i n → ⊥)
+    → entry_of (take (i + 1) table) n ≡ entry_of (take i table) n
 entry_of-take_other table i n not = by_found (entry_of (take i table) n) refl where
   by_found : (o : Option ℕ) → entry_of (take i table) n ≡ o → entry_of (take (i + 1) table) n ≡ entry_of (take i table) n
   by_found None h =

@@ -67,7 +67,8 @@ pub record First (rule : ℕ → ℕ → Option BadImage) (table : List (Option 
   pub breaks : rule entry number ≡ Some bad
   pub least : (j m : ℕ) → j < entry → Lists table j m → rule j m ≡ None
 
-pub first : (rule : ℕ → ℕ → Option BadImage) (table : List (Option ℕ)) (bad : BadImage) → first_clash rule 0 table ≡ Some bad → First rule table bad
+pub first : (rule : ℕ → ℕ → Option BadImage) (table : List (Option ℕ)) (bad : BadImage) → first_clash rule 0 table ≡ Some bad
+    → First rule table bad
 first rule table bad h =
     let from = first_from rule 0 table bad h in
     record {
@@ -78,7 +79,8 @@ first rule table bad h =
       least = λ j m l at. ap (λ x. rule x m) (sym (zero-add j)) ∙ from.least j m l at;
     }
 
-pub index_breaks : (before limit i n : ℕ) (bad : BadImage) → index_rule before limit i n ≡ Some bad → (limit ≤ n) × (TableIndex (before + i) ≡ bad)
+pub index_breaks : (before limit i n : ℕ) (bad : BadImage) → index_rule before limit i n ≡ Some bad
+    → (limit ≤ n) × (TableIndex (before + i) ≡ bad)
 index_breaks before limit i n bad h = elim (cases_lt n limit) as (λ _. (limit ≤ n) × (TableIndex (before + i) ≡ bad)) [
   | inl below ↦ let none = index_holds before limit i n below in cc
   | inr above ↦

@@ -28,7 +28,8 @@ pub block_at-blocks_of : (bytes : List ℕ) (k : ℕ) → k < length bytes / 64 
 block_at-blocks_of bytes k l = get_or-map-range_with_len (block_in bytes) 0 (length bytes / 64) k k zero_block l (omega arith)
 
 -- word i of their blocks
-pub record_word-blocks_of : (bytes : List ℕ) (i : ℕ) → i / 8 < length bytes / 64 → record_word (blocks_of bytes) i ≡ number_at 8 bytes (8 * i)
+pub record_word-blocks_of : (bytes : List ℕ) (i : ℕ) → i / 8 < length bytes / 64
+    → record_word (blocks_of bytes) i ≡ number_at 8 bytes (8 * i)
 unfolding record_word word_of
 record_word-blocks_of bytes i l =
     let at : 64 * (i / 8) + 8 * (i % 8) ≡ 8 * i = omega arith in
@@ -44,7 +45,8 @@ table_in-part bytes first n inside =
     let part = take (8 * n) (drop (8 * first) bytes) in
     let long : length (take (8 * n) (drop (8 * first) bytes)) ≡ 8 * n
     = length-take-le (8 * n) (drop (8 * first) bytes) (omega (arith, length-drop (8 * first) bytes)) in
-    let left : length (table_in (take (8 * n) (drop (8 * first) bytes))) ≡ n = omega (arith, length-table_in (take (8 * n) (drop (8 * first) bytes)), long) in
+    let left : length (table_in (take (8 * n) (drop (8 * first) bytes))) ≡ n =
+    omega (arith, length-table_in (take (8 * n) (drop (8 * first) bytes)), long) in
     let right = length-entries_in (blocks_of bytes) first n in
     ext_get_or None (table_in (take (8 * n) (drop (8 * first) bytes))) (entries_in (blocks_of bytes) first n) (left ∙ sym right)
     (λ i below.
@@ -75,10 +77,12 @@ pub blocks_of-part : (bytes : List ℕ) (x n : ℕ) → x + n ≤ length bytes /
 blocks_of-part bytes x n inside =
     let part : length (take (64 * n) (drop (64 * x) bytes)) ≡ 64 * n
     = length-take-le (64 * n) (drop (64 * x) bytes) (omega (arith, length-drop (64 * x) bytes)) in
-    let left : length (blocks_of (take (64 * n) (drop (64 * x) bytes))) ≡ n = omega (arith, length-blocks_of (take (64 * n) (drop (64 * x) bytes)), part) in
+    let left : length (blocks_of (take (64 * n) (drop (64 * x) bytes))) ≡ n =
+    omega (arith, length-blocks_of (take (64 * n) (drop (64 * x) bytes)), part) in
     let right : length (map (block_at (blocks_of bytes)) (range_with_len x n)) ≡ n
     = length-map (range_with_len x n) (block_at (blocks_of bytes)) ∙ length-range_with_len x n in
-    ext_get_or zero_block (blocks_of (take (64 * n) (drop (64 * x) bytes))) (map (block_at (blocks_of bytes)) (range_with_len x n)) (left ∙ sym right)
+    ext_get_or zero_block (blocks_of (take (64 * n) (drop (64 * x) bytes))) (map (block_at (blocks_of bytes)) (range_with_len x n))
+    (left ∙ sym right)
     (λ k below.
     let l : k < n = omega (arith, left) in
     block_at-blocks_of (take (64 * n) (drop (64 * x) bytes)) k (omega (arith, part))

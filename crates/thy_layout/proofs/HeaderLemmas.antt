@@ -14,36 +14,36 @@ use Rattle.thy_block.proofs.WordLemmas.{word_of-block_of}
 use Rattle.thy_layout.proofs.AskingLemmas.{commit_asks}
 use Rattle.thy_layout.proofs.ReadBackLemmas.{taken, three}
 
-header_word : (scheme : ℕ) (p : Parameters) (i w : ℕ) → i < 8 → slice_index (header_words scheme p) i ≡ w → w < 2 ^ 64
-    → word_of (header_of scheme p) i ≡ w
-header_word scheme p i w l is fits = word_of-block_of (header_words scheme p) i l (subst (λ x. x < 2 ^ 64) (sym is) fits) ∙ is
+module _ (scheme : ℕ) (p : Parameters) where
+  header_word : (i w : ℕ) → i < 8 → slice_index (header_words scheme p) i ≡ w → w < 2 ^ 64 → word_of (header_of scheme p) i ≡ w
+  header_word i w l is fits = word_of-block_of (header_words scheme p) i l (subst (λ x. x < 2 ^ 64) (sym is) fits) ∙ is
 
-last_fits : (scheme : ℕ) (p : Parameters) → scheme < 256 → IsInRange p → last_word scheme p < 2 ^ 64
-last_fits scheme p few r = omega (arith, few, harts_most p r)
+  last_fits : scheme < 256 → IsInRange p → last_word scheme p < 2 ^ 64
+  last_fits few r = omega (arith, few, harts_most p r)
 
-is_of_geometry-header_of : (scheme : ℕ) (p : Parameters) → scheme < 256 → IsInRange p → is_of_geometry scheme (header_of scheme p) p ≡ true
-is_of_geometry-header_of scheme p few r =
-    and_from _ _
-    (three _ _ _
-    (eq-eqb _ _ (header_word scheme p 2 p.base (omega arith) refl (omega arith)))
-    (eq-eqb _ _ (header_word scheme p 3 p.pages (omega arith) refl (omega arith)))
-    (eq-eqb _ _ (header_word scheme p 4 p.console (omega arith) refl (omega arith))))
-    (three _ _ _
-    (eq-eqb _ _ (header_word scheme p 5 p.btt (omega arith) refl (omega arith)))
-    (eq-eqb _ _ (header_word scheme p 6 p.ptt (omega arith) refl (omega arith)))
-    (eq-eqb _ _ (header_word scheme p 7 (last_word scheme p) (omega arith) refl (last_fits scheme p few r))))
+  is_of_geometry-header_of : scheme < 256 → IsInRange p → is_of_geometry scheme (header_of scheme p) p ≡ true
+  is_of_geometry-header_of few r =
+      and_from _ _
+      (three _ _ _
+      (eq-eqb _ _ (header_word 2 p.base (omega arith) refl (omega arith)))
+      (eq-eqb _ _ (header_word 3 p.pages (omega arith) refl (omega arith)))
+      (eq-eqb _ _ (header_word 4 p.console (omega arith) refl (omega arith))))
+      (three _ _ _
+      (eq-eqb _ _ (header_word 5 p.btt (omega arith) refl (omega arith)))
+      (eq-eqb _ _ (header_word 6 p.ptt (omega arith) refl (omega arith)))
+      (eq-eqb _ _ (header_word 7 (last_word scheme p) (omega arith) refl (last_fits few r))))
 
-is_of_version-header_of : (scheme : ℕ) (p : Parameters) → is_of_version scheme p (header_of scheme p) ≡ true
-is_of_version-header_of scheme p =
-    ap (λ w. w == 2 || (w == 1 && knows_version_one scheme p)) (header_word scheme p 1 2 (omega arith) refl (omega arith))
+  is_of_version-header_of : is_of_version scheme p (header_of scheme p) ≡ true
+  is_of_version-header_of =
+      ap (λ w. w == 2 || (w == 1 && knows_version_one scheme p)) (header_word 1 2 (omega arith) refl (omega arith))
 
--- a header that was written for a geometry has no fault in an image of its length
-pub header_fault-header_of : (scheme : ℕ) (p : Parameters) → scheme < 256 → IsInRange p → header_fault scheme (header_of scheme p) p true ≡ None
-unfolding header_fault
-header_fault-header_of scheme p few r =
-    taken _ _ _ (eq-eqb _ _ (header_word scheme p 0 header_magic (omega arith) refl (omega arith)))
-    ∙ taken _ _ _ (is_of_version-header_of scheme p)
-    ∙ taken _ _ _ (and_from _ _ (is_of_geometry-header_of scheme p few r) refl)
+  -- a header that was written for a geometry has no fault in an image of its length
+  pub header_fault-header_of : scheme < 256 → IsInRange p → header_fault scheme (header_of scheme p) p true ≡ None
+  unfolding header_fault
+  header_fault-header_of few r =
+      taken _ _ _ (eq-eqb _ _ (header_word 0 header_magic (omega arith) refl (omega arith)))
+      ∙ taken _ _ _ is_of_version-header_of
+      ∙ taken _ _ _ (and_from _ _ (is_of_geometry-header_of few r) refl)
 
 -- a header without a fault asks for a file of its length
 last_asks : (a b c long : Bool)
@@ -107,7 +107,8 @@ the_other true one known not h = refl
 the_other false true known not h = cc
 the_other false false known not h = cc
 
-named_by : (known : Bool) (scheme : ℕ) (p : Parameters) (header commit : Block) (long : Bool) (ceiling : ℕ) → knows_version_one scheme p ≡ known
+named_by : (known : Bool) (scheme : ℕ) (p : Parameters) (header commit : Block) (long : Bool) (ceiling : ℕ)
+    → knows_version_one scheme p ≡ known
     → header_fault scheme header p long ≡ None → commit_fault header commit ceiling ≡ None → version_of scheme p commit ≡ VersionTwo
     → word_of commit 0 ≡ commit_magic VersionTwo
 unfolding commit_fault

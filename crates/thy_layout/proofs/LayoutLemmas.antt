@@ -65,11 +65,13 @@ module _ (l : Layout) (h g : List Block) where
 
 -- what the parts mean, part by part
 meaning_same : (l : Layout) (ceiling : ℕ) (sized : Bool) (a header b commit : Block) (s slot m memory : List Block)
-    → a ≡ header → b ≡ commit → s ≡ slot → m ≡ memory → meaning_of l ceiling sized a b s m ≡ meaning_of l ceiling sized header commit slot memory
+    → a ≡ header → b ≡ commit → s ≡ slot → m ≡ memory
+    → meaning_of l ceiling sized a b s m ≡ meaning_of l ceiling sized header commit slot memory
 meaning_same l ceiling sized a header b commit s slot m memory e f g h = λ i. meaning_of l ceiling sized (e i) (f i) (g i) (h i)
 
 -- without a checkpoint the other parts do not matter
-meaning_nothing : (l : Layout) (ceiling : ℕ) (sized : Bool) (header commit : Block) (slot memory : List Block) → is_zero commit ≡ true → meaning_of l ceiling sized header commit slot memory ≡ Nothing
+meaning_nothing : (l : Layout) (ceiling : ℕ) (sized : Bool) (header commit : Block) (slot memory : List Block) → is_zero commit ≡ true
+    → meaning_of l ceiling sized header commit slot memory ≡ Nothing
 meaning_nothing l ceiling sized header commit slot memory z =
     ap (λ t. if t then Nothing else refused_or_at (fault_of l ceiling sized header commit slot) (epoch_of commit) (state_by l slot memory)) z
 
@@ -85,27 +87,31 @@ looked_parts l h z = ap (λ t. if t then 1 ∷ [] else parts_of l h) z
 agree_parts : (l : Layout) (h g : List Block) → is_zero (block_at h 1) ≡ false → Agree l h g (looked_by l h) → Agree l h g (parts_of l h)
 agree_parts l h g z each = subst (Agree l h g) (looked_parts l h z) each
 
-alike_means : (l : Layout) (ceiling : ℕ) (sized : Bool) (h g : List Block) (zero : Bool) → is_zero (block_at h 1) ≡ zero → block_at g 1 ≡ block_at h 1
-    → Agree l h g (looked_by l h) → decode_sized l ceiling sized g ≡ decode_sized l ceiling sized h
-alike_means l ceiling sized h g true z commit each =
-    meaning_nothing l ceiling sized (block_at g 0) (block_at g 1) (slot_in l g) (memory_in l g) (ap is_zero commit ∙ z)
-    ∙ sym (meaning_nothing l ceiling sized (block_at h 0) (block_at h 1) (slot_in l h) (memory_in l h) z)
-alike_means l ceiling sized h g false z commit each =
-    let same = agree_parts l h g z each in
-    meaning_same l ceiling sized (block_at g 0) (block_at h 0) (block_at g 1) (block_at h 1) (slot_in l g) (slot_in l h) (memory_in l g) (memory_in l h)
-    (header_same l h g same) commit (slot_same l h g commit same) (memory_same l h g commit same)
+module _ (l : Layout) (ceiling : ℕ) where
+  alike_means : (sized : Bool) (h g : List Block) (zero : Bool) → is_zero (block_at h 1) ≡ zero → block_at g 1 ≡ block_at h 1
+      → Agree l h g (looked_by l h) → decode_sized l ceiling sized g ≡ decode_sized l ceiling sized h
+  alike_means sized h g true z commit each =
+      meaning_nothing l ceiling sized (block_at g 0) (block_at g 1) (slot_in l g) (memory_in l g) (ap is_zero commit ∙ z)
+      ∙ sym (meaning_nothing l ceiling sized (block_at h 0) (block_at h 1) (slot_in l h) (memory_in l h) z)
+  alike_means sized h g false z commit each =
+      let same = agree_parts l h g z each in
+      meaning_same l ceiling sized (block_at g 0) (block_at h 0) (block_at g 1) (block_at h 1) (slot_in l g) (slot_in l h)
+      (memory_in l g) (memory_in l h)
+      (header_same l h g same) commit (slot_same l h g commit same) (memory_same l h g commit same)
 
--- blocks that agree at the places looked at mean the same, if both or neither have the layout's number of blocks
-pub decode_sized-alike : (l : Layout) (ceiling : ℕ) (sized : Bool) (h g : List Block) → block_at g 1 ≡ block_at h 1
-    → ((x : ℕ) → Contains (looked_by l h) x → block_at g x ≡ block_at h x) → decode_sized l ceiling sized g ≡ decode_sized l ceiling sized h
-decode_sized-alike l ceiling sized h g commit each = alike_means l ceiling sized h g (is_zero (block_at h 1)) refl commit each
+  -- blocks that agree at the places looked at mean the same, if both or neither have the layout's number of blocks
+  pub decode_sized-alike : (sized : Bool) (h g : List Block) → block_at g 1 ≡ block_at h 1
+      → ((x : ℕ) → Contains (looked_by l h) x → block_at g x ≡ block_at h x)
+      → decode_sized l ceiling sized g ≡ decode_sized l ceiling sized h
+  decode_sized-alike sized h g commit each = alike_means sized h g (is_zero (block_at h 1)) refl commit each
 
-pub decode_by-copy : (l : Layout) (ceiling : ℕ) (h g : List Block) → IsCopy (looked_by l) h g → decode_by l ceiling g ≡ decode_by l ceiling h
-unfolding decode_by
-decode_by-copy l ceiling h g c =
-    ap (λ b. decode_sized l ceiling b g) (sized_same l h g c.as_long c.commit) ∙ decode_sized-alike l ceiling (is_sized l h) h g c.commit c.each
+  pub decode_by-copy : (h g : List Block) → IsCopy (looked_by l) h g → decode_by l ceiling g ≡ decode_by l ceiling h
+  unfolding decode_by
+  decode_by-copy h g c =
+      ap (λ b. decode_sized l ceiling b g) (sized_same l h g c.as_long c.commit) ∙ decode_sized-alike (is_sized l h) h g c.commit c.each
 
-copies_look : (l : Layout) (h g : List Block) (zero : Bool) → is_zero (block_at h 1) ≡ zero → IsCopy (looked_by l) h g → looked_by l g ≡ looked_by l h
+copies_look : (l : Layout) (h g : List Block) (zero : Bool) → is_zero (block_at h 1) ≡ zero → IsCopy (looked_by l) h g
+    → looked_by l g ≡ looked_by l h
 copies_look l h g true z c = looked_nothing l g (ap is_zero c.commit ∙ z) ∙ sym (looked_nothing l h z)
 copies_look l h g false z c =
     looked_parts l g (ap is_zero c.commit ∙ z)
@@ -118,7 +124,8 @@ looked_by-copy l h g c = copies_look l h g (is_zero (block_at h 1)) refl c
 -- ---- from whole parts to the meaning, and back
 
 -- without a fault no part has one
-pub parts_faultless : (l : Layout) (ceiling : ℕ) (sized : Bool) (header commit : Block) (slot : List Block) → fault_of l ceiling sized header commit slot ≡ None
+pub parts_faultless : (l : Layout) (ceiling : ℕ) (sized : Bool) (header commit : Block) (slot : List Block)
+    → fault_of l ceiling sized header commit slot ≡ None
     → (header_bad l header sized ≡ None) × (commit_bad ceiling header commit ≡ None) × (l.slot_bad ceiling commit slot ≡ None)
 parts_faultless l ceiling sized header commit slot h =
     let first = neither (header_bad l header sized) (option_or (commit_bad ceiling header commit) (l.slot_bad ceiling commit slot)) h in
@@ -133,7 +140,8 @@ whole_means : (zero : Bool) (fault : Option BadImage) (e epoch : ℕ) (s state :
     → zero ≡ false → fault ≡ None → e ≡ epoch → s ≡ state → (if zero then Nothing else refused_or_at fault e s) ≡ At epoch state
 whole_means zero fault e epoch s state a b c d = λ i. if a i then Nothing else refused_or_at (b i) (c i) (d i)
 
-pub decode_by-whole : (l : Layout) (ceiling : ℕ) (g : List Block) (epoch : ℕ) (state : State) → IsWhole l ceiling g epoch state → decode_by l ceiling g ≡ At epoch state
+pub decode_by-whole : (l : Layout) (ceiling : ℕ) (g : List Block) (epoch : ℕ) (state : State) → IsWhole l ceiling g epoch state
+    → decode_by l ceiling g ≡ At epoch state
 unfolding decode_by
 decode_by-whole l ceiling g epoch state w =
     whole_means (is_zero (block_at g 1)) (fault_in l ceiling g) (epoch_of (block_at g 1)) epoch
@@ -146,7 +154,8 @@ nothing_back false None epoch state h = cc
 nothing_back false (Some bad) epoch state h = cc
 
 -- a file that decodes is not too short
-pub not_short : (short : Bool) (d : Decoded) (epoch : ℕ) (state : State) → (if short then Refused Empty else d) ≡ At epoch state → d ≡ At epoch state
+pub not_short : (short : Bool) (d : Decoded) (epoch : ℕ) (state : State) → (if short then Refused Empty else d) ≡ At epoch state
+    → d ≡ At epoch state
 not_short true d epoch state h = cc
 not_short false d epoch state h = h
 
@@ -157,27 +166,28 @@ pub at_back : (zero : Bool) (fault : Option BadImage) (epoch found : ℕ) (state
 at_back false None epoch found state other h = (refl, refl, cc, cc)
 at_back zero fault epoch found state other h = cc
 
-pub decode_by-nothing_back : (l : Layout) (ceiling : ℕ) (g : List Block) → decode_by l ceiling g ≡ Nothing → is_zero (block_at g 1) ≡ true
-unfolding decode_by
-decode_by-nothing_back l ceiling g h =
-    nothing_back (is_zero (block_at g 1)) (fault_in l ceiling g) (epoch_of (block_at g 1))
-    (state_by l (slot_in l g) (memory_in l g)) h
+module _ (l : Layout) (ceiling : ℕ) (g : List Block) where
+  pub decode_by-nothing_back : decode_by l ceiling g ≡ Nothing → is_zero (block_at g 1) ≡ true
+  unfolding decode_by
+  decode_by-nothing_back h =
+      nothing_back (is_zero (block_at g 1)) (fault_in l ceiling g) (epoch_of (block_at g 1))
+      (state_by l (slot_in l g) (memory_in l g)) h
 
-pub decode_by-whole_back : (l : Layout) (ceiling : ℕ) (g : List Block) (epoch : ℕ) (state : State) → decode_by l ceiling g ≡ At epoch state → IsWhole l ceiling g epoch state
-unfolding decode_by
-decode_by-whole_back l ceiling g epoch state h =
-    let found = at_back (is_zero (block_at g 1)) (fault_in l ceiling g) (epoch_of (block_at g 1)) epoch
-    (state_by l (slot_in l g) (memory_in l g)) state h in
-    record { committed = found.0; faultless = found.1; of_epoch = found.2; state_is = found.3 }
+  pub decode_by-whole_back : (epoch : ℕ) (state : State) → decode_by l ceiling g ≡ At epoch state → IsWhole l ceiling g epoch state
+  unfolding decode_by
+  decode_by-whole_back epoch state h =
+      let found = at_back (is_zero (block_at g 1)) (fault_in l ceiling g) (epoch_of (block_at g 1)) epoch
+      (state_by l (slot_in l g) (memory_in l g)) state h in
+      record { committed = found.0; faultless = found.1; of_epoch = found.2; state_is = found.3 }
 
--- header, commit block and slot of an image have no fault
-abbrev pub HasNoFault : Layout → ℕ → List Block → Type 0
-HasNoFault l ceiling g =
-    (header_bad l (block_at g 0) (is_sized l g) ≡ None) × (commit_bad ceiling (block_at g 0) (block_at g 1) ≡ None)
-    × (l.slot_bad ceiling (block_at g 1) (slot_in l g) ≡ None)
+  -- header, commit block and slot of an image have no fault
+  abbrev pub HasNoFault : Type 0
+  HasNoFault =
+      (header_bad l (block_at g 0) (is_sized l g) ≡ None) × (commit_bad ceiling (block_at g 0) (block_at g 1) ≡ None)
+      × (l.slot_bad ceiling (block_at g 1) (slot_in l g) ≡ None)
 
-pub whole_parts : (l : Layout) (ceiling : ℕ) (g : List Block) (epoch : ℕ) (state : State) → IsWhole l ceiling g epoch state → HasNoFault l ceiling g
-whole_parts l ceiling g epoch state w = parts_faultless l ceiling (is_sized l g) (block_at g 0) (block_at g 1) (slot_in l g) w.faultless
+  pub whole_parts : (epoch : ℕ) (state : State) → IsWhole l ceiling g epoch state → HasNoFault
+  whole_parts epoch state w = parts_faultless l ceiling (is_sized l g) (block_at g 0) (block_at g 1) (slot_in l g) w.faultless
 
-pub decoded_parts : (l : Layout) (ceiling : ℕ) (g : List Block) (epoch : ℕ) (state : State) → decode_by l ceiling g ≡ At epoch state → HasNoFault l ceiling g
-decoded_parts l ceiling g epoch state h = whole_parts l ceiling g epoch state (decode_by-whole_back l ceiling g epoch state h)
+  pub decoded_parts : (epoch : ℕ) (state : State) → decode_by l ceiling g ≡ At epoch state → HasNoFault
+  decoded_parts epoch state h = whole_parts epoch state (decode_by-whole_back epoch state h)

@@ -64,7 +64,8 @@ decode-filled_up l ceiling k epoch state image h all =
     = length-append image (replicate k zero_block) ∙ ap (λ n. length image + n) (length-replicate k zero_block) ∙ all in
     let new : is_sized l (image ++ replicate k zero_block) ≡ true = sized_if_long l (image ++ replicate k zero_block) size in
     ap (λ b. decode_sized l ceiling b (image ++ replicate k zero_block)) new
-    ∙ decode_sized-alike l ceiling true image (image ++ replicate k zero_block) (block_at-filled_up image k 1) (λ x inside. block_at-filled_up image k x)
+    ∙ decode_sized-alike l ceiling true image (image ++ replicate k zero_block) (block_at-filled_up image k 1)
+    (λ x inside. block_at-filled_up image k x)
     ∙ sym (ap (λ b. decode_sized l ceiling b image) old)
     ∙ h
 

@@ -48,7 +48,8 @@ epoch_of-commit_of epoch l = commit_word epoch 1 epoch (omega arith) refl l
 -- a commit block that is written names version 2
 pub version_of-commit_of : (scheme : ℕ) (p : Parameters) (epoch : ℕ) → version_of scheme p (commit_of epoch) ≡ VersionTwo
 version_of-commit_of scheme p epoch =
-    let name : word_of (commit_of epoch) 0 ≡ commit_magic VersionTwo = commit_word epoch 0 (commit_magic VersionTwo) (omega arith) refl (omega arith) in
+    let name : word_of (commit_of epoch) 0 ≡ commit_magic VersionTwo =
+    commit_word epoch 0 (commit_magic VersionTwo) (omega arith) refl (omega arith) in
     ap (λ w. if w == commit_magic VersionOne && knows_version_one scheme p then VersionOne else VersionTwo) name
 
 is_named-commit_of : (header : Block) (epoch : ℕ) → is_named header (commit_of epoch) ≡ true
@@ -59,7 +60,8 @@ is_named-commit_of header epoch =
 has_zero_rest-commit_of : (epoch : ℕ) → epoch < 2 ^ 64 → has_zero_rest (commit_of epoch) ≡ true
 unfolding has_zero_rest
 has_zero_rest-commit_of epoch l =
-    let name : word_of (commit_of epoch) 0 ≡ commit_magic VersionTwo = commit_word epoch 0 (commit_magic VersionTwo) (omega arith) refl (omega arith) in
+    let name : word_of (commit_of epoch) 0 ≡ commit_magic VersionTwo =
+    commit_word epoch 0 (commit_magic VersionTwo) (omega arith) refl (omega arith) in
     ap (λ (n : ℕ). bytes_eq (commit_of epoch).0 (named_block n (epoch_of (commit_of epoch))).0) name
     ∙ ap (λ (e : ℕ). bytes_eq (commit_of epoch).0 (named_block (commit_magic VersionTwo) e).0) (epoch_of-commit_of epoch l)
     ∙ (bytes_eq-Decides (commit_of epoch).0 (commit_of epoch).0).1 refl
@@ -195,7 +197,8 @@ FitsRecord-recordable p ceiling c epoch range r room most l = record {
 
 -- word i of a record reads back
 word_back : (p : Parameters) (c : CpuState) (epoch : ℕ) (blocks : List Block) (i : ℕ)
-    → FitsRecord p c epoch → BeginsWithRecord p c epoch blocks → i < 8 * record_blocks p → record_word blocks i ≡ slice_index (cpu_words c epoch) i
+    → FitsRecord p c epoch → BeginsWithRecord p c epoch blocks → i < 8 * record_blocks p
+    → record_word blocks i ≡ slice_index (cpu_words c epoch) i
 unfolding record_word cpu_block_of
 word_back p c epoch blocks i fits of small =
     let most = few_harts p c.other fits.other in
@@ -247,35 +250,35 @@ second_back p c epoch blocks j fits of two small =
 abbrev HasSecond : List Block → Option OtherHart → Type 0
 HasSecond blocks o = (j : ℕ) → j < 40 → record_word blocks (40 + j) ≡ slice_index (second_words o) j
 
-other_reg_back : (o : OtherHart) (blocks : List Block) (i : ℕ) → HasSecond blocks (Some o) → slice_index o.regs 0 ≡ 0 → i < 32
-    → slice_index (0 ∷ record_words blocks 41 31) i ≡ slice_index o.regs i
-other_reg_back o blocks zero has zeroed small = sym zeroed
-other_reg_back o blocks (suc i) has zeroed small =
-    let e : 41 + i ≡ 40 + suc i = omega arith in
-    record_words-at blocks 41 31 i (omega arith)
-    ∙ ap (record_word blocks) e
-    ∙ has (suc i) (omega arith)
-    ∙ second_words-reg o (suc i) (omega arith) small
-    ∙ reg_at-some o.regs (suc i) (omega arith)
+module _ (o : OtherHart) (blocks : List Block) where
+  other_reg_back : (i : ℕ) → HasSecond blocks (Some o) → slice_index o.regs 0 ≡ 0 → i < 32
+      → slice_index (0 ∷ record_words blocks 41 31) i ≡ slice_index o.regs i
+  other_reg_back zero has zeroed small = sym zeroed
+  other_reg_back (suc i) has zeroed small =
+      let e : 41 + i ≡ 40 + suc i = omega arith in
+      record_words-at blocks 41 31 i (omega arith)
+      ∙ ap (record_word blocks) e
+      ∙ has (suc i) (omega arith)
+      ∙ second_words-reg o (suc i) (omega arith) small
+      ∙ reg_at-some o.regs (suc i) (omega arith)
 
-other_regs_back : (o : OtherHart) (blocks : List Block) → HasSecond blocks (Some o) → length o.regs ≡ 32 → slice_index o.regs 0 ≡ 0
-    → 0 ∷ record_words blocks 41 31 ≡ o.regs
-other_regs_back o blocks has h zeroed =
-    let long = length-record_words blocks 41 31 in
-    ext_get_or 0 (0 ∷ record_words blocks 41 31) o.regs (omega (arith, long, h))
-    (λ i below. other_reg_back o blocks i has zeroed (omega (arith, long)))
+  other_regs_back : HasSecond blocks (Some o) → length o.regs ≡ 32 → slice_index o.regs 0 ≡ 0 → 0 ∷ record_words blocks 41 31 ≡ o.regs
+  other_regs_back has h zeroed =
+      let long = length-record_words blocks 41 31 in
+      ext_get_or 0 (0 ∷ record_words blocks 41 31) o.regs (omega (arith, long, h))
+      (λ i below. other_reg_back i has zeroed (omega (arith, long)))
 
--- a word after the other hart's registers reads back
-reserved_back : (o : OtherHart) (blocks : List Block) (j : ℕ) → HasSecond blocks (Some o) → j < 8
-    → record_word blocks (72 + j) ≡ slice_index (reserved_words o) j
-reserved_back o blocks j has small =
-    let e : 72 + j ≡ 40 + (32 + j) = omega arith in
-    ap (record_word blocks) e ∙ has (32 + j) (omega arith) ∙ second_words-reserved o j
+  -- a word after the other hart's registers reads back
+  reserved_back : (j : ℕ) → HasSecond blocks (Some o) → j < 8 → record_word blocks (72 + j) ≡ slice_index (reserved_words o) j
+  reserved_back j has small =
+      let e : 72 + j ≡ 40 + (32 + j) = omega arith in
+      ap (record_word blocks) e ∙ has (32 + j) (omega arith) ∙ second_words-reserved o j
 
 abbrev other_with : ℕ → List ℕ → Reservation → Reservation → OtherHart
 other_with pc regs front back = record { pc = pc; regs = regs; front = front; back = back }
 
-pub same_other : (pc pc' : ℕ) (regs regs' : List ℕ) (front front' back back' : Reservation) → pc ≡ pc' → regs ≡ regs' → front ≡ front' → back ≡ back'
+pub same_other : (pc pc' : ℕ) (regs regs' : List ℕ) (front front' back back' : Reservation) → pc ≡ pc' → regs ≡ regs' → front ≡ front'
+    → back ≡ back'
     → other_with pc regs front back ≡ other_with pc' regs' front' back'
 same_other pc pc' regs regs' front front' back back' a b c d = λ i. other_with (a i) (b i) (c i) (d i)
 
@@ -304,8 +307,10 @@ abbrev pub cpu_with : ℕ → List ℕ → ℕ → ℕ → ℕ → ℕ → ℕ �
 cpu_with pc regs console cursor brk floor count status other =
     record { pc = pc; regs = regs; console_len = console; cursor = cursor; brk = brk; floor = floor; count = count; status = status; other = other }
 
-pub same_cpu : (pc pc' : ℕ) (regs regs' : List ℕ) (console console' cursor cursor' brk brk' floor floor' count count' : ℕ) (status status' : Status) (other other' : Option OtherHart)
-    → pc ≡ pc' → regs ≡ regs' → console ≡ console' → cursor ≡ cursor' → brk ≡ brk' → floor ≡ floor' → count ≡ count' → status ≡ status' → other ≡ other'
+pub same_cpu : (pc pc' : ℕ) (regs regs' : List ℕ) (console console' cursor cursor' brk brk' floor floor' count count' : ℕ)
+    (status status' : Status) (other other' : Option OtherHart)
+    → pc ≡ pc' → regs ≡ regs' → console ≡ console' → cursor ≡ cursor' → brk ≡ brk' → floor ≡ floor' → count ≡ count' → status ≡ status'
+    → other ≡ other'
     → cpu_with pc regs console cursor brk floor count status other ≡ cpu_with pc' regs' console' cursor' brk' floor' count' status' other'
 same_cpu pc pc' regs regs' console console' cursor cursor' brk brk' floor floor' count count' status status' other other' a b c d e f g h i =
     λ x. cpu_with (a x) (b x) (c x) (d x) (e x) (f x) (g x) (h x) (i x)

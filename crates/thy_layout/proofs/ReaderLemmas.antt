@@ -60,10 +60,12 @@ gathered_more bytes places first k count old new number are inside l is before a
     ∙ ap block_bytes (sym (get_or-drop first (map (block_at (blocks_of bytes)) places) k zero_block
     ∙ get_or-map (block_at (blocks_of bytes)) places (first + k) 0 zero_block (omega arith)
     ∙ block_at-blocks_of bytes (slice_index_or places (first + k) 0) there)))
-    ∙ sym (flat_more (drop first (map (block_at (blocks_of bytes)) places)) k zero_block (omega (arith, length-drop first (map (block_at (blocks_of bytes)) places), all)))
+    ∙ sym (flat_more (drop first (map (block_at (blocks_of bytes)) places)) k zero_block
+    (omega (arith, length-drop first (map (block_at (blocks_of bytes)) places), all)))
 
 -- program memory, and the console, as they were gathered
-pub memory_gathered : (p : Parameters) (blocks : List Block) (n : ℕ) → length blocks ≡ memory_blocks p → IsInRange p → n ≡ 64 * (p.pages - p.console)
+pub memory_gathered : (p : Parameters) (blocks : List Block) (n : ℕ) → length blocks ≡ memory_blocks p → IsInRange p
+    → n ≡ 64 * (p.pages - p.console)
     → flat (take n (drop 0 blocks)) ≡ memory_bytes p blocks
 memory_gathered p blocks n all r is =
     let size : 64 * n ≡ program_size p = omega arith in
@@ -145,11 +147,13 @@ module _ (l : Layout) (ceiling : ℕ) (bytes : List ℕ) where
   pub file_header : (bad : BadImage) → Some bad ≡ header_bad l (block_at g 0) (is_long_file l bytes) → Some bad ≡ file_fault l ceiling bytes
   file_header bad h = ap (λ x. option_or x (option_or (commit_bad ceiling (block_at g 0) commit) slot_fault)) h
 
-  pub file_commit : (bad : BadImage) → None ≡ header_bad l (block_at g 0) (is_long_file l bytes) → Some bad ≡ commit_bad ceiling (block_at g 0) commit
+  pub file_commit : (bad : BadImage) → None ≡ header_bad l (block_at g 0) (is_long_file l bytes)
+      → Some bad ≡ commit_bad ceiling (block_at g 0) commit
       → Some bad ≡ file_fault l ceiling bytes
   file_commit bad h k = λ i. option_or (h i) (option_or (k i) slot_fault)
 
-  pub file_slot : (found : Option BadImage) → None ≡ header_bad l (block_at g 0) (is_long_file l bytes) → None ≡ commit_bad ceiling (block_at g 0) commit
+  pub file_slot : (found : Option BadImage) → None ≡ header_bad l (block_at g 0) (is_long_file l bytes)
+      → None ≡ commit_bad ceiling (block_at g 0) commit
       → found ≡ slot_fault → found ≡ file_fault l ceiling bytes
   file_slot found h k m = λ i. option_or (h i) (option_or (k i) (m i))
 
@@ -208,7 +212,8 @@ pub record IsWholeFile (l : Layout) (ceiling : ℕ) (bytes : List ℕ) (epoch : 
   pub sized : is_long_file l bytes ≡ true
   pub whole : IsWhole l ceiling (blocks_of bytes) epoch state
 
-pub IsWholeFile-decoded : (l : Layout) (ceiling : ℕ) (bytes : List ℕ) (epoch : ℕ) (state : State) → decode_file l ceiling bytes ≡ At epoch state
+pub IsWholeFile-decoded : (l : Layout) (ceiling : ℕ) (bytes : List ℕ) (epoch : ℕ) (state : State)
+    → decode_file l ceiling bytes ≡ At epoch state
     → IsWholeFile l ceiling bytes epoch state
 unfolding decode_by
 IsWholeFile-decoded l ceiling bytes epoch state h =
@@ -283,7 +288,8 @@ AreInside-memory l commit slot bytes has long = record {
 }
 
 -- with the processor of the slot they make the state
-pub state_read : (l : Layout) (p : Parameters) (g : List Block) (commit : Block) (slot : List Block) (cpu : CpuState) (places : List ℕ) (s : State)
+pub state_read : (l : Layout) (p : Parameters) (g : List Block) (commit : Block) (slot : List Block) (cpu : CpuState)
+    (places : List ℕ) (s : State)
     → l.p ≡ p → commit ≡ block_at g 1 → slot ≡ slot_in l g → cpu ≡ cpu_of_record p slot → places ≡ memory_places l commit slot
     → s ≡ state_from p cpu (map (block_at g) places) → state_by l (slot_in l g) (memory_in l g) ≡ s
 state_read l p g commit slot cpu places s of named at cpu_is is made =

@@ -15,44 +15,47 @@ use Rattle.thy_layout.proofs.SparesLemmas.{Spares-settled}
 
 -- ---- what a cut leaves
 
--- what stands, and has its commit block, is copied
-IsCopy-stands : (looked : Looking) (n : Device) (h g : List Block) → Stands looked n h → Crash n g → block_at g 1 ≡ block_at h 1 → IsCopy looked h g
-IsCopy-stands looked n h g s c commit = record {
-  as_long = c.same_length ∙ s.as_long;
-  commit = commit;
-  each = λ x inside. elim (cases_eq x 1) as (λ _. block_at g x ≡ block_at h x) [
-    | inl e ↦ ap (block_at g) e ∙ commit ∙ sym (ap (block_at h) e)
-    | inr other ↦ block_at-fixed n g x (block_at h x) (s.each x inside other) c
-  ];
-}
+module _ (looked : Looking) (n : Device) where
+  -- what stands, and has its commit block, is copied
+  IsCopy-stands : (h g : List Block) → Stands looked n h → Crash n g → block_at g 1 ≡ block_at h 1 → IsCopy looked h g
+  IsCopy-stands h g s c commit = record {
+    as_long = c.same_length ∙ s.as_long;
+    commit = commit;
+    each = λ x inside. elim (cases_eq x 1) as (λ _. block_at g x ≡ block_at h x) [
+      | inl e ↦ ap (block_at g) e ∙ commit ∙ sym (ap (block_at h) e)
+      | inr other ↦ block_at-fixed n g x (block_at h x) (s.each x inside other) c
+    ];
+  }
 
-IsCopy-kept : (looked : Looking) (n : Device) (h g : List Block) → IsKept looked n h → Crash n g → IsCopy looked h g
-IsCopy-kept looked n h g k c = IsCopy-stands looked n h g k.stands c (block_at-fixed n g 1 (block_at h 1) k.commit c)
+  IsCopy-kept : (h g : List Block) → IsKept looked n h → Crash n g → IsCopy looked h g
+  IsCopy-kept h g k c = IsCopy-stands h g k.stands c (block_at-fixed n g 1 (block_at h 1) k.commit c)
 
-pub left_of_saved : (looked : Looking) (n : Device) (s : Saved) (g : List Block) → IsSaved looked n s → Crash n g → IsCrashOfSaved looked s g
-left_of_saved looked n (Kept before) g h c = IsCopy-kept looked n before g h c
-left_of_saved looked n (Ready before next) g h c = IsCopy-kept looked n before g h.kept c
-left_of_saved looked n (InDoubt before next) g h c = elim (h.commit.either (block_at g 1) (c.each 1)) as (λ _. IsCopy looked before g ⊎ IsCopy looked next g) [
-  | inl old ↦ inl (IsCopy-stands looked n before g h.stands c old)
-  | inr new ↦ inr (IsCopy-stands looked n next g h.next_stands c new)
-]
+  pub left_of_saved : (s : Saved) (g : List Block) → IsSaved looked n s → Crash n g → IsCrashOfSaved looked s g
+  left_of_saved (Kept before) g h c = IsCopy-kept before g h c
+  left_of_saved (Ready before next) g h c = IsCopy-kept before g h.kept c
+  left_of_saved (InDoubt before next) g h c =
+      elim (h.commit.either (block_at g 1) (c.each 1)) as (λ _. IsCopy looked before g ⊎ IsCopy looked next g) [
+        | inl old ↦ inl (IsCopy-stands before g h.stands c old)
+        | inr new ↦ inr (IsCopy-stands next g h.next_stands c new)
+      ]
 
-pub IsKept-empty : (looked : Looking) (n : Device) → n.queue ≡ [] → IsKept looked n n.image
-IsKept-empty looked n empty = record {
-  stands = record { as_long = refl; each = λ x inside other. IsFixed-empty n x empty };
-  commit = IsFixed-empty n 1 empty;
-}
+  pub IsKept-empty : n.queue ≡ [] → IsKept looked n n.image
+  IsKept-empty empty = record {
+    stands = record { as_long = refl; each = λ x inside other. IsFixed-empty n x empty };
+    commit = IsFixed-empty n 1 empty;
+  }
 
 pub IsKept-cut : (looked : Looking) (pick : ℕ) (old new : Device) → IsCut pick old new → IsKept looked new new.image
 IsKept-cut looked pick old new c = IsKept-empty looked new (ap (λ n. n.queue) c.device)
 
 -- ---- what keeps it
 
-IsFixed-spared : (places : List ℕ) (old new : Device) (x : ℕ) (b : Block) → Spares places old new → Contains places x → IsFixed old x b → IsFixed new x b
-IsFixed-spared places old new x b s inside f = record { only = λ c h. f.only c (s.no_more x inside c h) }
+module _ (places : List ℕ) (old new : Device) (x : ℕ) where
+  IsFixed-spared : (b : Block) → Spares places old new → Contains places x → IsFixed old x b → IsFixed new x b
+  IsFixed-spared b s inside f = record { only = λ c h. f.only c (s.no_more x inside c h) }
 
-IsEither-spared : (places : List ℕ) (old new : Device) (x : ℕ) (a b : Block) → Spares places old new → Contains places x → IsEither old x a b → IsEither new x a b
-IsEither-spared places old new x a b s inside f = record { either = λ c h. f.either c (s.no_more x inside c h) }
+  IsEither-spared : (a b : Block) → Spares places old new → Contains places x → IsEither old x a b → IsEither new x a b
+  IsEither-spared a b s inside f = record { either = λ c h. f.either c (s.no_more x inside c h) }
 
 Stands-spared : (looked : Looking) (places : List ℕ) (old new : Device) (h : List Block)
     → Spares places old new → ((x : ℕ) → Contains (looked h) x → Contains places x) → Stands looked old h → Stands looked new h
@@ -75,19 +78,22 @@ among_second : (places more : List ℕ) (x : ℕ) → Contains more x → Contai
 among_second places more x inside = among_rest (places ++ more) x (Contains-append_right places more x inside)
 
 IsKept-spared : (looked : Looking) (places : List ℕ) (old new : Device) (h : List Block)
-    → Spares places old new → Contains places 1 → ((x : ℕ) → Contains (looked h) x → Contains places x) → IsKept looked old h → IsKept looked new h
+    → Spares places old new → Contains places 1 → ((x : ℕ) → Contains (looked h) x → Contains places x) → IsKept looked old h
+    → IsKept looked new h
 IsKept-spared looked places old new h s here among k = record {
   stands = Stands-spared looked places old new h s among k.stands;
   commit = IsFixed-spared places old new 1 (block_at h 1) s here k.commit;
 }
 
-pub IsSaved-spared : (looked : Looking) (s : Saved) (old new : Device) → IsSaved looked old s → Spares (guarded looked s) old new → IsSaved looked new s
+pub IsSaved-spared : (looked : Looking) (s : Saved) (old new : Device) → IsSaved looked old s → Spares (guarded looked s) old new
+    → IsSaved looked new s
 IsSaved-spared looked (Kept before) old new h spares =
     IsKept-spared looked (1 ∷ looked before) old new before spares (commit_first (looked before)) (among_rest (looked before)) h
 IsSaved-spared looked (Ready before next) old new h spares =
     let places : List ℕ = 1 ∷ (looked before ++ looked next) in
     record {
-      kept = IsKept-spared looked places old new before spares (commit_first (looked before ++ looked next)) (among_first (looked before) (looked next)) h.kept;
+      kept = IsKept-spared looked places old new before spares (commit_first (looked before ++ looked next))
+          (among_first (looked before) (looked next)) h.kept;
       next_stands = Stands-spared looked places old new next spares (among_second (looked before) (looked next)) h.next_stands;
     }
 IsSaved-spared looked (InDoubt before next) old new h spares =

@@ -13,11 +13,12 @@ use Rattle.thy_layout.proofs.ReadBackLemmas.{taken, rest_back, epoch_back, secon
 use Rattle.thy_layout.proofs.AskingLemmas.{status_asks}
 use Rattle.thy_layout.proofs.EntryFaultLemmas.{neither, both_none}
 
-pub length-entries_in : (slot : List Block) (first n : ℕ) → length (entries_in slot first n) ≡ n
-length-entries_in slot first n = length-map-range_with_len (λ i. entry_from (record_word slot (first + i))) 0 n
+module _ (slot : List Block) (first n : ℕ) where
+  pub length-entries_in : length (entries_in slot first n) ≡ n
+  length-entries_in = length-map-range_with_len (λ i. entry_from (record_word slot (first + i))) 0 n
 
-pub entry_at-entries_in : (slot : List Block) (first n i : ℕ) → i < n → entry_at (entries_in slot first n) i ≡ entry_from (record_word slot (first + i))
-entry_at-entries_in slot first n i l = get_or-map-range_with_len (λ i. entry_from (record_word slot (first + i))) 0 n i i None l (omega arith)
+  pub entry_at-entries_in : (i : ℕ) → i < n → entry_at (entries_in slot first n) i ≡ entry_from (record_word slot (first + i))
+  entry_at-entries_in i l = get_or-map-range_with_len (λ i. entry_from (record_word slot (first + i))) 0 n i i None l (omega arith)
 
 pub epoch_fault-back : (p : Parameters) (cpu : CpuState) (epoch : ℕ) (slot : List Block)
     → FitsRecord p cpu epoch → BeginsWithRecord p cpu epoch slot → epoch_fault epoch slot ≡ None

@@ -21,18 +21,19 @@ Spares-part places part old new among s = record {
   no_more = λ x inside b h. s.no_more x (among x inside) b h;
 }
 
--- what makes nothing more possible spares every place
-pub Spares-no_more : (places : List ℕ) (old new : Device) → HoldsNoMore old new → length new.image ≡ length old.image → Spares places old new
-Spares-no_more places old new no_more same = record { as_long = same; no_more = λ x inside b h. no_more x b h }
+module _ (places : List ℕ) (old : Device) where
+  -- what makes nothing more possible spares every place
+  pub Spares-no_more : (new : Device) → HoldsNoMore old new → length new.image ≡ length old.image → Spares places old new
+  Spares-no_more new no_more same = record { as_long = same; no_more = λ x inside b h. no_more x b h }
 
-pub Spares-drained : (places : List ℕ) (old new : Device) → new ≡ drained old → Spares places old new
-Spares-drained places old new e =
-    subst (λ (n : Device). Spares places old n) (sym e) (Spares-no_more places old (drained old) (no_more-drained old) (length-drained old))
+  pub Spares-drained : (new : Device) → new ≡ drained old → Spares places old new
+  Spares-drained new e =
+      subst (λ (n : Device). Spares places old n) (sym e) (Spares-no_more (drained old) (no_more-drained old) (length-drained old))
 
-pub Spares-settled : (places : List ℕ) (old new : Device) → Settles old new → Spares places old new
-Spares-settled places old new e =
-    subst (λ (n : Device). Spares places old n) (sym e)
-    (Spares-no_more places old (settled new.writes old) (no_more-settled new.writes old) (length-settled new.writes old))
+  pub Spares-settled : (new : Device) → Settles old new → Spares places old new
+  Spares-settled new e =
+      subst (λ (n : Device). Spares places old n) (sym e)
+      (Spares-no_more (settled new.writes old) (no_more-settled new.writes old) (length-settled new.writes old))
 
 -- what makes no more possible than one queued write spares every place but that write's
 pub Spares-queued : (places : List ℕ) (at : ℕ) (block : Block) (old new : Device)

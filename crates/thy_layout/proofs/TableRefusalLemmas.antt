@@ -99,10 +99,12 @@ module _ (wrong : ℕ → Type 0) (table : List (Option ℕ)) (index : Option Ba
       elim (says_cases bad s) as (λ _. ⊥) [
         | inl (i, e, a) ↦ none parts.0 i a.here
         | inr (i, k, e, a) ↦
-            twice_asks 0 table i k a.here.number (unbroken (twice_rule 0 table) table parts.1 k a.here.number a.here.second) a.here.before a.here.first
+            twice_asks 0 table i k a.here.number
+            (unbroken (twice_rule 0 table) table parts.1 k a.here.number a.here.second) a.here.before a.here.first
       ]
 
-  found_is : (bad : BadImage) (found : Option BadImage) → option_or index (twice_fault table) ≡ found → Says wrong table bad → found ≡ Some bad
+  found_is : (bad : BadImage) (found : Option BadImage) → option_or index (twice_fault table) ≡ found → Says wrong table bad
+      → found ≡ Some bad
   found_is bad None h s = absurd (some_fault bad s h)
   found_is bad (Some other) h s = ap Some (one_refusal other bad (found_says other h) s)
 

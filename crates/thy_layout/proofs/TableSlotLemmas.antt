@@ -27,19 +27,22 @@ use Rattle.thy_layout.proofs.SlotLemmas.{length-entries_in, entry_at-entries_in,
 
 -- ---- its faults, as the code looks for them
 
-pub slot_epoch : (table : Option BadImage) (p : Parameters) (ceiling epoch : ℕ) (slot : List Block) (w : ℕ) → w ≡ record_word slot 38 → (w ≡ epoch → ⊥)
+pub slot_epoch : (table : Option BadImage) (p : Parameters) (ceiling epoch : ℕ) (slot : List Block) (w : ℕ) → w ≡ record_word slot 38
+    → (w ≡ epoch → ⊥)
     → Some Commit ≡ slot_fault_by table p ceiling epoch slot
 slot_epoch table p ceiling epoch slot w is other =
     sym (ap (λ b. option_or (if b then None else Some Commit) (option_or table (cpu_fault p ceiling slot)))
     (ap (λ x. x == epoch) (sym is) ∙ ne_eqb w epoch other))
 
-pub slot_rest : (table found : Option BadImage) (p : Parameters) (ceiling epoch : ℕ) (slot : List Block) (w : ℕ) → w ≡ record_word slot 38 → w ≡ epoch
+pub slot_rest : (table found : Option BadImage) (p : Parameters) (ceiling epoch : ℕ) (slot : List Block) (w : ℕ) → w ≡ record_word slot 38
+    → w ≡ epoch
     → found ≡ option_or table (cpu_fault p ceiling slot) → found ≡ slot_fault_by table p ceiling epoch slot
 slot_rest table found p ceiling epoch slot w is same h =
     h ∙ sym (ap (λ x. option_or x (option_or table (cpu_fault p ceiling slot))) (of_epoch epoch slot w is same))
 
 -- without a fault no part has one
-pub slot_parts : (table : Option BadImage) (p : Parameters) (ceiling epoch : ℕ) (slot : List Block) → slot_fault_by table p ceiling epoch slot ≡ None
+pub slot_parts : (table : Option BadImage) (p : Parameters) (ceiling epoch : ℕ) (slot : List Block)
+    → slot_fault_by table p ceiling epoch slot ≡ None
     → (epoch_fault epoch slot ≡ None) × (table ≡ None) × (cpu_fault p ceiling slot ≡ None)
 slot_parts table p ceiling epoch slot none =
     let rest = neither (epoch_fault epoch slot) (option_or table (cpu_fault p ceiling slot)) none in
@@ -73,7 +76,8 @@ table_word table n m long words l =
     (subst (λ x. x < 2 ^ 64) (sym here) (entry_word-fits table m words))
     ∙ here
 
-module _ (p : Parameters) (cpu : CpuState) (table : List (Option ℕ)) (epoch n : ℕ) (long : length table ≡ 8 * n) (words : HaveWords table) where
+module _ (p : Parameters) (cpu : CpuState) (table : List (Option ℕ)) (epoch n : ℕ) (long : length table ≡ 8 * n)
+    (words : HaveWords table) where
   abbrev slot : List Block
   slot = map (slot_block_of p cpu table epoch) (range_with_len 0 (record_blocks p + n))
 
@@ -114,7 +118,8 @@ module _ (p : Parameters) (cpu : CpuState) (table : List (Option ℕ)) (epoch n 
       let l : i < 8 * n = omega (arith, same) in
       entry_at-entries_in slot (8 * record_blocks p) (8 * n) i l ∙ entry_back i l)
 
-  module _ (ceiling : ℕ) (range : IsInRange p) (recordable : IsRecordable p ceiling cpu) (most : ceiling ≤ 2 ^ 64) (small : epoch < 2 ^ 64) where
+  module _ (ceiling : ℕ) (range : IsInRange p) (recordable : IsRecordable p ceiling cpu) (most : ceiling ≤ 2 ^ 64)
+      (small : epoch < 2 ^ 64) where
     fits : FitsRecord p cpu epoch
     fits = let room : console_room p < 2 ^ 64 = omega arith in FitsRecord-recordable p ceiling cpu epoch range recordable room most small
 

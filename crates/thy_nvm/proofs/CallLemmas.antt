@@ -31,14 +31,20 @@ HasFailed-left done late None (Err e) old m new same no_more counts fails leaves
 HasFailed-left done late (Some f) (Ok x) old m new same no_more counts fails leaves = absurd (cc)
 HasFailed-left done late (Some Undone) (Err e) old m new same no_more counts fails leaves =
     subst (λ (n : Device). HasFailed n new.device) same
-    (subst (λ (i : InMemory). HasFailed m.device i.device) (sym leaves) (record { down = refl; no_more = λ x b h. h; counts = record { writes = refl; wear = refl } }))
+    (subst (λ (i : InMemory). HasFailed m.device i.device) (sym leaves)
+    (record { down = refl; no_more = λ x b h. h; counts = record { writes = refl; wear = refl } }))
 HasFailed-left done late (Some Late) (Err e) old m new same no_more counts fails leaves =
     subst (λ (n : Device). HasFailed n new.device) same
-    (subst (λ (i : InMemory). HasFailed m.device i.device) (sym leaves) (record { down = refl; no_more = no_more m.device; counts = record { writes = (counts m.device).writes; wear = (counts m.device).wear } }))
+    (subst (λ (i : InMemory). HasFailed m.device i.device) (sym leaves) (record {
+      down = refl;
+      no_more = no_more m.device;
+      counts = record { writes = (counts m.device).writes; wear = (counts m.device).wear };
+    }))
 
 -- a write that fails leaves nothing new possible except its own block, if one that fails late makes nothing else
 -- possible
-pub HasFailedToWrite-left : {T : Type 0} (at : ℕ) (block : Block) (done : InMemory → InMemory) (late : Device → Device) (fault : Option Fault)
+pub HasFailedToWrite-left : {T : Type 0} (at : ℕ) (block : Block) (done : InMemory → InMemory) (late : Device → Device)
+    (fault : Option Fault)
     (result : Result T NvmError) (old : Device) (m new : InMemory)
     → m.device ≡ old → ((n : Device) → HoldsNoMore (with_queued at block n) (late n)) → ((n : Device) → CountsNothing n (late n))
     → is_err result ≡ is_some fault → new ≡ left_after fault done late m
@@ -48,10 +54,15 @@ HasFailedToWrite-left at block done late None (Err e) old m new same no_more cou
 HasFailedToWrite-left at block done late (Some f) (Ok x) old m new same no_more counts fails leaves = absurd (cc)
 HasFailedToWrite-left at block done late (Some Undone) (Err e) old m new same no_more counts fails leaves =
     subst (λ (n : Device). HasFailedToWrite at block n new.device) same
-    (subst (λ (i : InMemory). HasFailedToWrite at block m.device i.device) (sym leaves) (record { down = refl; no_more = no_more-with_queued m.device at block; counts = record { writes = refl; wear = refl } }))
+    (subst (λ (i : InMemory). HasFailedToWrite at block m.device i.device) (sym leaves)
+    (record { down = refl; no_more = no_more-with_queued m.device at block; counts = record { writes = refl; wear = refl } }))
 HasFailedToWrite-left at block done late (Some Late) (Err e) old m new same no_more counts fails leaves =
     subst (λ (n : Device). HasFailedToWrite at block n new.device) same
-    (subst (λ (i : InMemory). HasFailedToWrite at block m.device i.device) (sym leaves) (record { down = refl; no_more = no_more m.device; counts = record { writes = (counts m.device).writes; wear = (counts m.device).wear } }))
+    (subst (λ (i : InMemory). HasFailedToWrite at block m.device i.device) (sym leaves) (record {
+      down = refl;
+      no_more = no_more m.device;
+      counts = record { writes = (counts m.device).writes; wear = (counts m.device).wear };
+    }))
 
 -- a barrier of a plain device makes no write of its own
 pub plain_count : (n : Device) → n.wear ≡ Plain → CountsBy n.wear n.writes (own_count n) n.writes
@@ -59,7 +70,8 @@ plain_count n plain =
     subst (λ (w : Wear). CountsBy w n.writes (own_count n) n.writes) (sym plain)
     (sym (ap (λ (w : Wear). if is_worn w && n.whole then next (next n.writes) else n.writes) plain))
 
-pub IsSettled-left : {T : Type 0} (late : Device → Device) (fault : Option Fault) (result : Result T NvmError) (old : Device) (m new : InMemory)
+pub IsSettled-left : {T : Type 0} (late : Device → Device) (fault : Option Fault) (result : Result T NvmError)
+    (old : Device) (m new : InMemory)
     → m.device ≡ old → m.device.wear ≡ Plain → is_err result ≡ is_some fault → new ≡ left_after fault (on_device at_rest) late m
     → OnOk result (IsSettled old new.device)
 IsSettled-left late None (Ok x) old m new same plain fails leaves =

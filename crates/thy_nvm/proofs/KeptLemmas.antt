@@ -14,7 +14,8 @@ pub images_of-push : (size count : ℕ) (blocks image : List Block) → length b
     → images_of size (suc count) (blocks ++ image) ≡ images_of size count blocks ++ image ∷ []
 images_of-push size zero blocks image l s =
     let none : blocks ≡ [] = nil_from_length blocks (omega arith) in
-    subst (λ (bs : List Block). images_of size (suc zero) (bs ++ image) ≡ [] ++ image ∷ []) (sym none) (ap (λ i. i ∷ []) (take_all size image (omega arith)))
+    subst (λ (bs : List Block). images_of size (suc zero) (bs ++ image) ≡ [] ++ image ∷ []) (sym none)
+    (ap (λ i. i ∷ []) (take_all size image (omega arith)))
 images_of-push size (suc count) blocks image l s =
     let whole : length blocks ≡ size + count * size = grind arith in
     let fits : size ≤ length blocks = omega arith in

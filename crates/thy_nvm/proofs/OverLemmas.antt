@@ -61,7 +61,8 @@ merged-torn (false ∷ ms) (x ∷ xs) ys seed from queue same none =
     (merged-torn ms xs (drop 1 ys) (torn_seed seed (queued_for queue from)) (from + 1) queue (omega arith) rest)
 
 -- the draws of a pick leave of the written blocks what they leave of all
-merged-draws : (whole : Bool) (seed : ℕ) (ms : List Bool) (xs ys : List Block) (queue : List Write) → length xs ≡ length ms → AreMarked ms queue
+merged-draws : (whole : Bool) (seed : ℕ) (ms : List Bool) (xs ys : List Block) (queue : List Write) → length xs ≡ length ms
+    → AreMarked ms queue
     → merged ms (left_by_draws whole seed xs queue) ys ≡ left_by_draws whole seed (merged ms xs ys) queue
 merged-draws true seed ms xs ys queue same marked =
     merged-drawn ms xs ys seed 0 queue same (λ x u.
@@ -73,7 +74,8 @@ merged-draws false seed ms xs ys queue same marked =
     ap (queued_for queue) e ∙ queued_for-unmarked ms queue x marked u)
 
 -- a pick over the merged image is the merged image of the pick
-pub merged-picked : (whole : Bool) (pick : ℕ) (ms : List Bool) (xs ys : List Block) (queue : List Write) → length xs ≡ length ms → AreMarked ms queue
+pub merged-picked : (whole : Bool) (pick : ℕ) (ms : List Bool) (xs ys : List Block) (queue : List Write) → length xs ≡ length ms
+    → AreMarked ms queue
     → merged ms (picked whole pick xs queue) ys ≡ picked whole pick (merged ms xs ys) queue
 merged-picked whole pick ms xs ys queue same marked =
     elim (pick == 0)
@@ -91,7 +93,8 @@ merged-picked whole pick ms xs ys queue same marked =
 -- ---- blocks that are taken up
 
 -- a block is copied from below
-pub merged-taken : (ms : List Bool) (xs ys : List Block) (at : ℕ) (d : Block) → length xs ≡ length ms → length ys ≡ length ms → at < length ms
+pub merged-taken : (ms : List Bool) (xs ys : List Block) (at : ℕ) (d : Block) → length xs ≡ length ms → length ys ≡ length ms
+    → at < length ms
     → is_marked ms at ≡ false → merged (slice_set ms at true) (slice_set xs at (slice_index_or ys at d)) ys ≡ merged ms xs ys
 merged-taken ms xs ys at d same as_many l unmarked =
     let inside : at < length ys = omega arith in
@@ -117,7 +120,8 @@ same_held a b image queue room =
     ∙ ap (λ q. record { image = b.image; queue = q; room = a.room }) queue
     ∙ ap (λ r. record { image = b.image; queue = b.queue; room = r }) room
 
-pub over-left : (whole : Bool) (pick : ℕ) (held : Held) (ms : List Bool) (below : List Block) → length held.image ≡ length ms → AreMarked ms held.queue
+pub over-left : (whole : Bool) (pick : ℕ) (held : Held) (ms : List Bool) (below : List Block) → length held.image ≡ length ms
+    → AreMarked ms held.queue
     → over_below (left_by whole pick held) ms below ≡ left_by whole pick (over_below held ms below)
 over-left whole pick held ms below same marked =
     ap (λ i. record { image = i; queue = []; room = held.room }) (merged-picked whole pick ms held.image below held.queue same marked)
@@ -180,7 +184,8 @@ pub over-settled : (held : Held) (ms : List Bool) (below : List Block) → lengt
 over-settled held ms below same marked =
     ap (λ i. record { image = i; queue = []; room = held.room }) (merged-applied ms held.image below held.queue same marked)
 
-pub over-written : (held : Held) (ms : List Bool) (below : List Block) (at : ℕ) (block : Block) → length held.image ≡ length ms → AreMarked ms held.queue
+pub over-written : (held : Held) (ms : List Bool) (below : List Block) (at : ℕ) (block : Block) → length held.image ≡ length ms
+    → AreMarked ms held.queue
     → over_below (as_device (λ n. written_to n at block) held) ms below ≡ as_device (λ n. written_to n at block) (over_below held ms below)
 over-written held ms below at block same marked =
     let k : ℕ = surplus (device_of held) in
@@ -203,7 +208,8 @@ newest-marked held ms below at l marked =
     ap (λ b. newest_over b held.queue at) (sym here)
 
 -- a read of a place without a write over it
-pub newest-unmarked : (held : Held) (ms : List Bool) (below : List Block) (at : ℕ) → at < length ms → AreMarked ms held.queue → is_marked ms at ≡ false
+pub newest-unmarked : (held : Held) (ms : List Bool) (below : List Block) (at : ℕ) → at < length ms → AreMarked ms held.queue
+    → is_marked ms at ≡ false
     → block_at below at ≡ newest (device_of (over_below held ms below)) at
 newest-unmarked held ms below at l queued unmarked =
     let here : block_at (merged ms held.image below) at ≡ block_at below at

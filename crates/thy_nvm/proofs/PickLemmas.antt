@@ -47,7 +47,8 @@ pub Contains-drawn : (seed from : ℕ) (blocks : List Block) (queue : List Write
 Contains-drawn seed from [] queue x = Contains-append_left (zero_block ∷ []) (queued_for queue (from + x)) zero_block (Contains-push [] zero_block)
 Contains-drawn seed from (b ∷ bs) queue zero =
     let at : from ≡ from + zero = omega arith in
-    subst (λ (y : ℕ). Contains (b ∷ queued_for queue y) (drawn_block seed b (queued_for queue from))) at (Contains-drawn_block seed b (queued_for queue from))
+    subst (λ (y : ℕ). Contains (b ∷ queued_for queue y) (drawn_block seed b (queued_for queue from))) at
+    (Contains-drawn_block seed b (queued_for queue from))
 Contains-drawn seed from (b ∷ bs) queue (suc x) =
     let at : from + 1 + x ≡ from + suc x = omega arith in
     let rest : List Block = drawn (drawn_seed seed (queued_for queue from)) (from + 1) bs queue in
@@ -60,12 +61,14 @@ Crash-drawn seed n =
     Crash-of_blocks n (drawn seed 0 n.image n.queue) (length-drawn seed 0 n.image n.queue)
     (λ x.
     let at : 0 + x ≡ x = omega arith in
-    subst (λ (y : ℕ). Contains (block_at n.image x ∷ queued_for n.queue y) (block_at (drawn seed 0 n.image n.queue) x)) at (Contains-drawn seed 0 n.image n.queue x))
+    subst (λ (y : ℕ). Contains (block_at n.image x ∷ queued_for n.queue y) (block_at (drawn seed 0 n.image n.queue) x)) at
+    (Contains-drawn seed 0 n.image n.queue x))
 
 -- ---- one word of a block over the same word of another
 
 -- of the words of bytes with eight others written at word k that is these
-word_here : (xs piece : List ℕ) (k : ℕ) → length xs ≡ 64 → length piece ≡ 8 → k < 8 → take 8 (drop (8 * k) (written xs (8 * k) piece)) ≡ piece
+word_here : (xs piece : List ℕ) (k : ℕ) → length xs ≡ 64 → length piece ≡ 8 → k < 8
+    → take 8 (drop (8 * k) (written xs (8 * k) piece)) ≡ piece
 word_here xs piece k long eight l =
     let rest : List ℕ = drop (8 * k + length piece) xs in
     ap (take 8) (drop_at (take (8 * k) xs) (piece ++ rest) (8 * k) (length-take-le (8 * k) xs (omega (arith, long, l))))
@@ -156,7 +159,8 @@ drawn-none seed from (b ∷ bs) queue none =
 pub drawn-step : (image : List Block) (queue : List Write) (from x draws : ℕ) → from ≤ x → x < length image
     → ((y : ℕ) → from ≤ y → y < x → queued_for queue y ≡ [])
     → take (x + 1) (slice_set image x (drawn_block draws (block_at image x) (queued_for queue x)))
-    ++ drawn (drawn_seed draws (queued_for queue x)) (x + 1) (drop (x + 1) (slice_set image x (drawn_block draws (block_at image x) (queued_for queue x)))) queue
+    ++ drawn (drawn_seed draws (queued_for queue x)) (x + 1)
+    (drop (x + 1) (slice_set image x (drawn_block draws (block_at image x) (queued_for queue x)))) queue
     ≡ take from image ++ drawn draws from (drop from image) queue
 drawn-step image queue from x draws low inside none =
     let k : ℕ = x - from in
@@ -183,7 +187,8 @@ drawn-step image queue from x draws low inside none =
 
 -- the draws of a place that may be torn, after one more word
 pub torn_on-more : (k seed : ℕ) (block : Block) (queued : List Block) (torn : Block) → k < 8
-    → torn_on (8 - k) k seed block queued torn ≡ torn_on (8 - (k + 1)) (k + 1) (lcg_next seed) block queued (with_word k (drawn_block seed block queued) torn)
+    → torn_on (8 - k) k seed block queued torn ≡ torn_on (8 - (k + 1)) (k + 1) (lcg_next seed) block queued
+    (with_word k (drawn_block seed block queued) torn)
 unfolding torn_on
 torn_on-more k seed block queued torn l =
     let left : 8 - k ≡ suc (8 - (k + 1)) = omega (arith, l) in
@@ -203,7 +208,8 @@ pub after_draws-none : (seed : ℕ) → after_draws 0 seed ≡ seed
 unfolding after_draws
 after_draws-none seed = refl
 
-pub torn_block-some : (seed : ℕ) (block : Block) (queued : List Block) → 0 < length queued → torn_block seed block queued ≡ torn_on 8 0 seed block queued block
+pub torn_block-some : (seed : ℕ) (block : Block) (queued : List Block) → 0 < length queued
+    → torn_block seed block queued ≡ torn_on 8 0 seed block queued block
 torn_block-some seed block [] some = absurd (omega arith)
 torn_block-some seed block (b ∷ bs) some = refl
 

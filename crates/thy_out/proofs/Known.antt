@@ -31,14 +31,16 @@ pub Grew-keeps : (a b c : Option (List ℕ)) (some : List ℕ) → Grew a b some
 Grew-keeps a b c some grew h = λ had e. Keeps-shown b c (had ++ some) (grew had e) h
 
 -- the first bytes of a piece came, then the first of the rest
-pub Grew-take : (a b c : Option (List ℕ)) (piece : List ℕ) (done more sum : ℕ) → sum ≡ done + more → Grew a b (take done piece) → Appends b c (take more (take (length piece - done) (drop done piece))) → Grew a c (take sum piece)
+pub Grew-take : (a b c : Option (List ℕ)) (piece : List ℕ) (done more sum : ℕ) → sum ≡ done + more → Grew a b (take done piece)
+    → Appends b c (take more (take (length piece - done) (drop done piece))) → Grew a c (take sum piece)
 Grew-take a b c piece done more sum e grew h =
     let all : take sum piece ≡ take done piece ++ take more (drop done piece) = ap (λ n. take n piece) e ∙ take-add done more piece in
     let come : Appends b c (take more (drop done piece)) = subst (λ (bytes : List ℕ). Appends b c (take more bytes)) (take_rest piece done) h in
     subst (λ (bytes : List ℕ). Grew a c bytes) (sym all) (Grew-appends a b c (take done piece) (take more (drop done piece)) grew come)
 
 -- more bytes were read than the limit
-pub Consumes-long : (old new : Option (List ℕ)) (bytes : List ℕ) (limit : ℕ) → Consumes old new bytes → limit < length bytes → IfSome old (λ there. Fetched (Some there) limit (Err TooLong))
+pub Consumes-long : (old new : Option (List ℕ)) (bytes : List ℕ) (limit : ℕ) → Consumes old new bytes → limit < length bytes
+    → IfSome old (λ there. Fetched (Some there) limit (Err TooLong))
 Consumes-long None new bytes limit read long = tt
 Consumes-long (Some there) None bytes limit read long = absurd read
 Consumes-long (Some there) (Some left) bytes limit read long =
@@ -65,7 +67,8 @@ pub LosesAtMost-append : (n : ℕ) (a b c : Option (List ℕ)) (some more : List
 LosesAtMost-append n a b c some more one two few =
     record { bytes = some ++ more; read = Consumes-append a b c some more one two; few = omega (arith, length-append some more) }
 
-pub LosesAtMost-keeps : (n : ℕ) (a b c : Option (List ℕ)) (some : List ℕ) → Consumes a b some → Keeps b c → length some ≤ n → LosesAtMost n a c
+pub LosesAtMost-keeps : (n : ℕ) (a b c : Option (List ℕ)) (some : List ℕ) → Consumes a b some → Keeps b c → length some ≤ n
+    → LosesAtMost n a c
 LosesAtMost-keeps n a b c some one two few = record { bytes = some; read = Consumes-keeps a b c some one two; few = few }
 
 -- bytes that are the same stay

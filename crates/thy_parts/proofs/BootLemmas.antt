@@ -77,7 +77,8 @@ module _ {C : Type 0} (D : DesignOf C) (w : AreParts D) where
   }
 
   safe-seen : (o : Origin) (s : Composed C) (n : Device) → Boots D o s n
-      → Safe (reading F.layouts) o (view_at (reading F.layouts) o s.boot.stage n).done (doubt_of (view_at (reading F.layouts) o s.boot.stage n)) n
+      → Safe (reading F.layouts) o (view_at (reading F.layouts) o s.boot.stage n).done
+      (doubt_of (view_at (reading F.layouts) o s.boot.stage n)) n
   safe-seen o s n boots =
       subst (λ (v : View). Safe (reading F.layouts) o v.done (doubt_of v) n) (sym (view-is o s n boots))
       (sound_is_safe F w.design.fills o boots.images n s.boot s.control boots.sound)
@@ -134,7 +135,8 @@ module _ {C : Type 0} (D : DesignOf C) (w : AreParts D) where
 
   -- ---- power comes on
 
-  module _ (o : Origin) (s : Composed C) (n : Device) (origin : IsOrigin o) (powered : IsPowered D o.geometry s) (found : IsFound (scheme_of D) o n) where
+  module _ (o : Origin) (s : Composed C) (n : Device) (origin : IsOrigin o) (powered : IsPowered D o.geometry s)
+      (found : IsFound (scheme_of D) o n) where
     own : (kept : Option Mark) × HasKept o (layout_for D.filling o) n.image kept
     own = own_has_mark F (reading F.layouts) o n is_read found.sized found.own
 
@@ -162,7 +164,8 @@ module _ {C : Type 0} (D : DesignOf C) (w : AreParts D) where
       images = first;
       sound =
           subst (λ (b : Booting). IsSoundBoot D.filling o first n b s.control) (sym powered.boot)
-          (new_is_sound F w.design.fills o first n s.control (subst D.filling.fresh (sym powered.control) new_fresh) control_p refl found.sized found.settled own.1);
+          (new_is_sound F w.design.fills o first n s.control
+          (subst D.filling.fresh (sym powered.control) new_fresh) control_p refl found.sized found.settled own.1);
       going = subst (λ (b : Booting). IsGoing b.stage) (sym powered.boot) tt;
       boot = subst (λ (b : Booting). IsBoot D.filling b) (sym powered.boot) (new-is_boot D.filling o.geometry);
       unused = record {

@@ -86,13 +86,16 @@ pub record IsUnsealed {C : Type 0} (D : DesignOf C) (o : Origin) (s : Composed C
   pub sealed_storeless : s.sealed_storeless ≡ false
 
 module _ {C : Type 0} (D : DesignOf C) (o : Origin) (m : Mark) (before : List Block) (n : Device) (b : Booting) (s : Composed C) (c : C)
-    (unsealed : IsUnsealed D o s c) (keeps : Keeps o (layout_by D o) n (Kept before) (Some m) None) (stated : block_at before 1 ≡ commit_of m.epoch)
-    (header : header_bad (layout_by D o) (newest n 0) true ≡ None) (cpu : CpuState) (state : state_from o.geometry cpu (D.filling.loads c n) ≡ at o m.count) where
+    (unsealed : IsUnsealed D o s c) (keeps : Keeps o (layout_by D o) n (Kept before) (Some m) None)
+    (stated : block_at before 1 ≡ commit_of m.epoch)
+    (header : header_bad (layout_by D o) (newest n 0) true ≡ None) (cpu : CpuState)
+    (state : state_from o.geometry cpu (D.filling.loads c n) ≡ at o m.count) where
   abbrev At : EngineStage → Composed C
   At q = record s { control = c; engine = record s.engine { stage = q }; boot = b }
 
   ends_at : (q : EngineStage) → EndsBoot D (phase_of q) c n before → is_sealing q ≡ false → is_confirming q ≡ false
-      → saved_at q (images_of before m) ≡ Kept before → ((r : Round) → q ≢ InRound r) → HasWrittenBefore D q s.engine c n → IsSound D o (only m) (At q) n
+      → saved_at q (images_of before m) ≡ Kept before → ((r : Round) → q ≢ InRound r) → HasWrittenBefore D q s.engine c n
+      → IsSound D o (only m) (At q) n
   ends_at q ends sealing confirming saved no_slot written = record {
     held = record {
       geometry = unsealed.control;
@@ -129,14 +132,17 @@ module _ {C : Type 0} (D : DesignOf C) (o : Origin) (m : Mark) (before : List Bl
   ends_idle ends =
       subst (λ (q : EngineStage). IsSound D o (only m) (At q) n) (sym nothing) (ends_at Idle ends refl refl refl (λ r is. cc) tt)
 
-  pub ends_tail : EndsBoot D (Applying 0) c n before → IsSound D o (only m) (record s { control = c; engine = applying s.engine; boot = b }) n
+  pub ends_tail : EndsBoot D (Applying 0) c n before
+      → IsSound D o (only m) (record s { control = c; engine = applying s.engine; boot = b }) n
   ends_tail ends = ends_at (Tail 0) ends refl refl refl (λ r is. cc) tt
 
 -- ---- a checkpoint was restored: what follows its commit is to be written
 
-module _ {C : Type 0} (D : DesignOf C) (v : IsPowering D) (o : Origin) (m : Mark) (before : List Block) (n : Device) (b : Booting) (s : Composed C) (c : C)
+module _ {C : Type 0} (D : DesignOf C) (v : IsPowering D) (o : Origin) (m : Mark) (before : List Block) (n : Device) (b : Booting)
+    (s : Composed C) (c : C)
     (unsealed : IsUnsealed D o s c) (geometry : b.p ≡ o.geometry) (before_is : before ≡ n.image) (settled : n.queue ≡ [])
-    (keeps : Keeps o (layout_by D o) n (Kept before) (Some m) None) (stated : block_at before 1 ≡ commit_of m.epoch) (found : IsRestored D.filling n b c)
+    (keeps : Keeps o (layout_by D o) n (Kept before) (Some m) None) (stated : block_at before 1 ≡ commit_of m.epoch)
+    (found : IsRestored D.filling n b c)
     (state : state_from b.p (cpu_of_record b.p (slot_read D.filling b)) (D.filling.loads c n) ≡ at o m.count) where
   abbrev cpu : CpuState
   cpu = cpu_of_record b.p (slot_read D.filling b)
@@ -153,20 +159,23 @@ module _ {C : Type 0} (D : DesignOf C) (v : IsPowering D) (o : Origin) (m : Mark
   ends : EndsBoot D (phase_committed D.items) c n before
   ends =
       subst (EndsBoot D (phase_committed D.items) c n) (sym before_is)
-      (v.restores c n b (unsealed.control ∙ sym geometry) settled (keeps.sized ∙ ap (λ (p : Parameters). (layout_at D.filling p).image_blocks) (sym geometry)) found)
+      (v.restores c n b (unsealed.control ∙ sym geometry) settled
+      (keeps.sized ∙ ap (λ (p : Parameters). (layout_at D.filling p).image_blocks) (sym geometry)) found)
 
   by_tail : (tail : Bool) → EndsBoot D (if tail then Applying 0 else Resting) c n before
       → IsSound D o (only m) (record s { control = c; engine = if tail then applying s.engine else s.engine; boot = b }) n
   by_tail true e = ends_tail D o m before n b s c unsealed keeps stated header cpu made e
   by_tail false e = ends_idle D o m before n b s c unsealed keeps stated header cpu made e
 
-  pub restored_sound : IsSound D o (only m) (record s { control = c; engine = if D.items.has_tail then applying s.engine else s.engine; boot = b }) n
+  pub restored_sound : IsSound D o (only m)
+      (record s { control = c; engine = if D.items.has_tail then applying s.engine else s.engine; boot = b }) n
       × EndsBoot D (phase_committed D.items) c n before
   restored_sound = (by_tail D.items.has_tail ends, ends)
 
 -- ---- the program is loaded
 
-module _ {C : Type 0} (D : DesignOf C) (w : IsDesign D) (v : IsPowering D) (o : Origin) (g : BootImages) (n : Device) (b : Booting) (s : Composed C) (c : C)
+module _ {C : Type 0} (D : DesignOf C) (w : IsDesign D) (v : IsPowering D) (o : Origin) (g : BootImages) (n : Device) (b : Booting)
+    (s : Composed C) (c : C)
     (origin : IsOrigin o) (unsealed : IsUnsealed D o s c) (keeps : Keeps o (layout_by D o) n (Kept g.next) (Some (start_mark o)) None)
     (loaded : IsLoaded D.filling o g n c) where
   start : CanStart (D.filling.p c) o.start
@@ -176,7 +185,8 @@ module _ {C : Type 0} (D : DesignOf C) (w : IsDesign D) (v : IsPowering D) (o : 
   first =
       v.begins c n g.next o.start loaded.fresh loaded.settled
       (keeps.sized ∙ ap (λ (p : Parameters). (layout_at D.filling p).image_blocks) (sym unsealed.control)) start loaded.made.commit
-      (subst (λ (p : Parameters). slot_in (layout_at D.filling p) g.next ≡ first_slot_of D.filling p o.start) (sym unsealed.control) loaded.made.slot)
+      (subst (λ (p : Parameters). slot_in (layout_at D.filling p) g.next ≡ first_slot_of D.filling p o.start)
+      (sym unsealed.control) loaded.made.slot)
 
   start_state : state_from o.geometry (cpu_of o.start) (D.filling.loads c n) ≡ at o o.start.count
   start_state = loaded-state D.filling w.fills o origin g n c unsealed.control loaded
@@ -184,7 +194,8 @@ module _ {C : Type 0} (D : DesignOf C) (w : IsDesign D) (v : IsPowering D) (o : 
   pub loaded_sound : IsSound D o (only (start_mark o)) (record s { control = c; boot = b }) n
       × EndsBoot D Resting c n g.next × (state_from o.geometry (cpu_of o.start) (D.filling.loads c n) ≡ at o o.start.count)
   loaded_sound = (
-    ends_idle D o (start_mark o) g.next n b s c unsealed keeps loaded.made.commit (loaded-header D.filling w.fills o origin g n c unsealed.control loaded) (cpu_of o.start)
+    ends_idle D o (start_mark o) g.next n b s c unsealed keeps loaded.made.commit
+        (loaded-header D.filling w.fills o origin g n c unsealed.control loaded) (cpu_of o.start)
         start_state first,
     first,
     start_state,
@@ -281,7 +292,8 @@ module _ {C : Type 0} (D : DesignOf C) (w : AreParts D) where
 
     -- ---- it continues
 
-    goes-on : (q : Stage) → d.stage ≡ q → IsGoing q → BootsTo v (seen_at o g.kept q) → Boots D o t new × BootsTo (view_at (reading F.layouts) o b.stage n) (view_at (reading F.layouts) o d.stage new)
+    goes-on : (q : Stage) → d.stage ≡ q → IsGoing q → BootsTo v (seen_at o g.kept q)
+        → Boots D o t new × BootsTo (view_at (reading F.layouts) o b.stage n) (view_at (reading F.layouts) o d.stage new)
     goes-on q is going to =
         let on : Boots D o t new = boots-on (subst (λ (x : Stage). IsGoing x) (sym is) going) in
         let now : view_at (reading F.layouts) o d.stage new ≡ seen_at o g.kept q
@@ -292,7 +304,8 @@ module _ {C : Type 0} (D : DesignOf C) (w : AreParts D) where
 
     -- ---- it is over
 
-    blocks_are : length new.image ≡ (layout_at F o.geometry).image_blocks → D.parts.agrees e new ≡ true → ((scheme_of D).holding t new).blocks ≡ F.loads e new
+    blocks_are : length new.image ≡ (layout_at F o.geometry).image_blocks → D.parts.agrees e new ≡ true
+        → ((scheme_of D).holding t new).blocks ≡ F.loads e new
     blocks_are sized agrees =
         blocks_held D e new agrees (sized ∙ ap (λ (p : Parameters). (layout_at F p).image_blocks) (sym moved.sound.same_p)) up
 
@@ -351,7 +364,8 @@ module _ {C : Type 0} (D : DesignOf C) (w : AreParts D) where
         = sym (count-state_from d.p cpu (F.loads e new)) ∙ ap (λ (x : Plain). x.count) made ∙ keeps.meant.counted in
         let is_mark : m ≡ mark epoch cpu.count
         = ap (λ (x : ℕ). mark x m.count) r.2 ∙ ap (mark epoch) (sym count) in
-        let ended = restored_sound D w.powering o m h.before new d s e unsealed moved.sound.geometry far.before_is far.read.settled keeps stated found made in
+        let ended = restored_sound D w.powering o m h.before new d s e unsealed moved.sound.geometry far.before_is far.read.settled keeps
+        stated found made in
         let agrees = w.design.agreeing (phase_committed D.items) 0 e new (ended.1.moment 0) in
         let fits = fits_cpu o.geometry d.p ceiling slot
         (subst (λ (p : Parameters). cpu_fault p ceiling slot ≡ None) (w.design.fills.laid.of o.geometry)
@@ -435,11 +449,13 @@ module _ {C : Type 0} (D : DesignOf C) (w : AreParts D) where
     boot-fails-by (Err x) took = boot_fails o s n booting new took.err took.frame
 
   -- a step of the boot, with the start of a run
-  pub took-for : (o : Origin) (start : Start) → Begins o start → (r : Result BootStep NvmError) (n : Device) (b : Booting) (c : C) (new : Device) (d : Booting) (e : C)
+  pub took-for : (o : Origin) (start : Start) → Begins o start
+      → (r : Result BootStep NvmError) (n : Device) (b : Booting) (c : C) (new : Device) (d : Booting) (e : C)
       → TakesStep F r (state_of start.state) n b c new d e → TakesStep F r o.start n b c new d e
   took-for o start begins r n b c new d e took = subst (λ (x : Plain). TakesStep F r x n b c new d e) (sym begins.state) took
 
-  pub may-step : (start : Start) (s : Composed C) (n : Device) → CanBoot (scheme_of D) start s n → CanStep F (state_of start.state) n s.boot s.control
+  pub may-step : (start : Start) (s : Composed C) (n : Device) → CanBoot (scheme_of D) start s n
+      → CanStep F (state_of start.state) n s.boot s.control
   may-step start s n can =
       let boots : Boots D can.o s n = can.booting.boots in
       subst (λ (x : Plain). CanStep F x n s.boot s.control) can.begins.state

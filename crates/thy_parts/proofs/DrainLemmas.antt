@@ -35,7 +35,8 @@ left_less F I e q c d less = omega arith
 queued_one : (n : Device) (old now : Contents) → WritesDram n n old now → now.queued ≤ old.queued + 1
 queued_one n old now write = omega (arith, ap (λ (d : Contents). d.queued) write.left)
 
-module _ {C : Type 0} (D : DesignOf C) (w : IsDesign D) (o : Origin) (k : CheckpointMarks) (s : Composed C) (n : Device) (stands : Stands (scheme_of D) o k s n) where
+module _ {C : Type 0} (D : DesignOf C) (w : IsDesign D) (o : Origin) (k : CheckpointMarks) (s : Composed C) (n : Device)
+    (stands : Stands (scheme_of D) o k s n) where
   abbrev sound : IsSound D o k s n
   sound = stands.sound
 
@@ -78,7 +79,8 @@ module _ {C : Type 0} (D : DesignOf C) (w : IsDesign D) (o : Origin) (k : Checkp
         nearer = both.1;
       }
 
-  pub promotes : IsPaging D → D.parts.pages.promoting s.control ≡ true → Promotes (scheme_of D) o k s n (With (D.parts.pages.promoted s.control n)) n
+  pub promotes : IsPaging D → D.parts.pages.promoting s.control ≡ true
+      → Promotes (scheme_of D) o k s n (With (D.parts.pages.promoted s.control n)) n
   promotes v some =
       let both = v.promotes (phase_of s.engine.stage) s.engine.epoch s.control n sound.held.moment some in
       let one : WritesOne D (phase_of s.engine.stage) s.engine.epoch s.control n (D.parts.pages.promoted s.control n) = both.0 in

@@ -37,7 +37,8 @@ module _ {C : Type 0} (D : DesignOf C) (c : C) (n : Device) where
       (held_of (D.parts.agrees c n) (length n.image == (layout_at D.filling (D.filling.p c)).image_blocks) n.down agrees
       (eq-eqb (length n.image) (layout_at D.filling (D.filling.p c)).image_blocks sized) up)
 
-  pub moment_held : IsDesign D → (phase : Phase) (epoch : ℕ) → IsMoment D phase epoch c n → n.down ≡ false → (holding_of D c n).blocks ≡ D.filling.loads c n
+  pub moment_held : IsDesign D → (phase : Phase) (epoch : ℕ) → IsMoment D phase epoch c n → n.down ≡ false
+      → (holding_of D c n).blocks ≡ D.filling.loads c n
   moment_held w phase epoch moment up = blocks_held (w.agreeing phase epoch c n moment) moment.sized up
 
   -- a block that is held

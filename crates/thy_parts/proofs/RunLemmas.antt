@@ -111,7 +111,8 @@ module _ {C : Type 0} (D : DesignOf C) (w : AreParts D) where
     rests = λ r. record { before = r; still = w.storing.still_same s.control };
   }
 
-  pub on-stays : (a : Composed C) (l : Device) (b : Composed C) (m : Device) (c : Composed C) (n : Device) → Stays D a l b m → Stays D b m c n → Stays D a l c n
+  pub on-stays : (a : Composed C) (l : Device) (b : Composed C) (m : Device) (c : Composed C) (n : Device) → Stays D a l b m
+      → Stays D b m c n → Stays D a l c n
   on-stays a l b m c n first second = record {
     control = w.storing.stays_on a.control l b.control m c.control n first.control second.control;
     engine = second.engine ∙ first.engine;
@@ -142,12 +143,14 @@ module _ {C : Type 0} (D : DesignOf C) (w : AreParts D) where
         let few = w.design.few (phase_of s.engine.stage) s.engine.epoch s.control n sound.held.moment in
         record {
           engine =
-              subst (λ (q : Parameters). cycles_left D.filling D.items s.engine s.control ≤ most_cycles D.filling D.items q) (sym sound.held.fits.same_p ∙ p)
+              subst (λ (q : Parameters). cycles_left D.filling D.items s.engine s.control ≤ most_cycles D.filling D.items q)
+              (sym sound.held.fits.same_p ∙ p)
               (cycles_are_few D.filling D.items w.design.fills.laid w.design.items s.engine s.control sound.held.fits);
           merges = subst (λ (q : Parameters). D.parts.pages.merges_left s.control ≤ D.parts.pages.most_merges q) p few.merges;
           promotions = subst (λ (q : Parameters). D.parts.pages.promotions_left s.control ≤ D.parts.pages.most_promotions q) p few.promotions;
           owed =
-              subst (λ (q : Parameters). D.parts.owed s.control + D.parts.owed_later (phase_of s.engine.stage) s.control ≤ D.parts.most_owed q) p few.owed;
+              subst (λ (q : Parameters). D.parts.owed s.control + D.parts.owed_later (phase_of s.engine.stage) s.control
+              ≤ D.parts.most_owed q) p few.owed;
           free = subst (λ (q : Parameters). D.parts.free s.control ≤ D.parts.most_free q) p few.free;
         }
 
@@ -178,11 +181,13 @@ module _ {C : Type 0} (D : DesignOf C) (w : AreParts D) where
           };
           drained_sound = λ some. same_reads_keep D w.design o k s n (drained n) sound (drained_same n);
           drained_keeps = λ some. drained_keeps D w.design o k s n stands;
-          drained_owes = λ some. (w.design.same_reads (phase_of s.engine.stage) s.engine.epoch s.control n (drained n) sound.held.moment (drained_same n)).owed;
+          drained_owes = λ some. (w.design.same_reads (phase_of s.engine.stage) s.engine.epoch s.control n (drained n) sound.held.moment
+              (drained_same n)).owed;
           counted_sound = λ writes wear. same_reads_keep D w.design o k s n (counting writes wear n) sound (counting_same writes wear n);
           counted_keeps = λ writes wear. counted_keeps D w.design o k s n stands writes wear;
           counted_owes = λ writes wear.
-              (w.design.same_reads (phase_of s.engine.stage) s.engine.epoch s.control n (counting writes wear n) sound.held.moment (counting_same writes wear n)).owed;
+              (w.design.same_reads (phase_of s.engine.stage) s.engine.epoch s.control n (counting writes wear n) sound.held.moment
+              (counting_same writes wear n)).owed;
         }
 
   -- ---- what loads and stores keep
@@ -201,7 +206,8 @@ module _ {C : Type 0} (D : DesignOf C) (w : AreParts D) where
         subst (λ (p : Parameters). Spares (1 ∷ looked_by (layout_at D.filling p) g.before) n m) h.held.geometry
         (over.kept g.before h.checkpoints.meant)
 
-    makes_at : (q : EngineStage) → is_settled q ≡ true → D.parts.makes s.engine.epoch s.control g.next → MakesAt D (phase_of q) s.engine.epoch s.control g.next
+    makes_at : (q : EngineStage) → is_settled q ≡ true → D.parts.makes s.engine.epoch s.control g.next
+        → MakesAt D (phase_of q) s.engine.epoch s.control g.next
     makes_at (InRound r) settled made = made
     makes_at q settled made = cc
 
@@ -211,8 +217,10 @@ module _ {C : Type 0} (D : DesignOf C) (w : AreParts D) where
         (over.made g.next (makes_at s.engine.stage settled ((h.checkpoints.made way).makes settled)))
 
     spares_by : (q : EngineStage) → s.engine.stage ≡ q → Spares (guarded (looked_by l) (saved_at q g)) n m
-    spares_by (InRound Commit) is = spares_both (looked_by l g.before) (looked_by l g.next) n m spares_kept (spares_made (ap is_sealing is) (ap is_settled is))
-    spares_by (InRound Confirm) is = spares_both (looked_by l g.before) (looked_by l g.next) n m spares_kept (spares_made (ap is_sealing is) (ap is_settled is))
+    spares_by (InRound Commit) is =
+        spares_both (looked_by l g.before) (looked_by l g.next) n m spares_kept (spares_made (ap is_sealing is) (ap is_settled is))
+    spares_by (InRound Confirm) is =
+        spares_both (looked_by l g.before) (looked_by l g.next) n m spares_kept (spares_made (ap is_sealing is) (ap is_settled is))
     spares_by q is = spares_kept
 
     keeping_then : IsKeeping o l (standing_at s.engine.stage m g)
@@ -233,7 +241,8 @@ module _ {C : Type 0} (D : DesignOf C) (w : AreParts D) where
       as_long = (spares_by s.engine.stage refl).as_long
 
       -- the slot is written as far as before
-      slot_then : (q : EngineStage) → s.engine.stage ≡ q → is_sealing q ≡ true → phase_of q ≡ Made → (j : ℕ) → j ≤ slot_blocks D.filling s.engine
+      slot_then : (q : EngineStage) → s.engine.stage ≡ q → is_sealing q ≡ true → phase_of q ≡ Made → (j : ℕ)
+          → j ≤ slot_blocks D.filling s.engine
           → HasWrittenSlot D s.engine s.control n j → HasWrittenSlot D s.engine t.control m j
       slot_then q is way made j few written =
           let now : IsMoment D Made s.engine.epoch t.control m =
@@ -251,7 +260,8 @@ module _ {C : Type 0} (D : DesignOf C) (w : AreParts D) where
       written_then : (q : EngineStage) → s.engine.stage ≡ q → ((r : Round) → q ≡ InRound r → IsInRound (slot_blocks D.filling s.engine) r)
           → HasWrittenBefore D q s.engine s.control n → HasWrittenBefore D q s.engine t.control m
       written_then (InRound r) is inside b =
-          issued_over (layout_of D.filling s.engine).image_blocks (parts_at D s.engine s.control) (parts_at D s.engine t.control) (commit_of s.engine.epoch) r n m
+          issued_over (layout_of D.filling s.engine).image_blocks (parts_at D s.engine s.control) (parts_at D s.engine t.control)
+          (commit_of s.engine.epoch) r n m
           (D.parts.sealed s.control n) (D.parts.sealed t.control m) refl (inside r refl) (λ j few h. slot_then (InRound r) is refl refl j few h)
           (λ read. record { inside = let low = read.inside in omega (arith, low, as_long); newest_is = up.commit ∙ read.newest_is }) b
       written_then q is inside b = tt
@@ -259,7 +269,8 @@ module _ {C : Type 0} (D : DesignOf C) (w : AreParts D) where
       fits_then : Fits D.filling D.items s.engine t.control
       fits_then = record { same_p = same_p ∙ h.held.fits.same_p; inside = h.held.fits.inside; stands = up.moment.stands }
 
-      rests_then : (storeless : Bool) → t.storeless ≡ storeless → D.parts.rests t.storeless t.sealed_storeless (phase_of s.engine.stage) t.control
+      rests_then : (storeless : Bool) → t.storeless ≡ storeless
+          → D.parts.rests t.storeless t.sealed_storeless (phase_of s.engine.stage) t.control
       rests_then true is =
           let on : RestsOn D s t = stays.rests is in
           coe 1 0 (i. D.parts.rests (is i) (stays.sealed_storeless i) (phase_of s.engine.stage) t.control)
@@ -324,9 +335,11 @@ module _ {C : Type 0} (D : DesignOf C) (w : AreParts D) where
         safe = safe_then o k s n t m sound over stays;
         way = ap (λ (e : Progress). is_under_way e.stage) stays.engine;
         engine =
-            subst (λ (e : Progress). cycles_left D.filling D.items e t.control ≤ cycles_left D.filling D.items s.engine s.control) (sym stays.engine) less;
+            subst (λ (e : Progress). cycles_left D.filling D.items e t.control ≤ cycles_left D.filling D.items s.engine s.control)
+            (sym stays.engine) less;
         owed_later =
-            subst (λ (e : Progress). D.parts.owed_later (phase_of e.stage) t.control ≤ D.parts.owed_later (phase_of s.engine.stage) s.control) (sym stays.engine)
+            subst (λ (e : Progress). D.parts.owed_later (phase_of e.stage) t.control
+            ≤ D.parts.owed_later (phase_of s.engine.stage) s.control) (sym stays.engine)
             over.owed_later;
         sealed_storeless = stays.sealed_storeless;
       }

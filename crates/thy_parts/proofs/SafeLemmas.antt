@@ -43,9 +43,11 @@ pub idle_stage : (q : EngineStage) → is_under_way q ≡ false → q ≡ Idle
 idle_stage Idle h = refl
 idle_stage q h = cc
 
-module _ {C : Type 0} (D : DesignOf C) (w : IsDesign D) (o : Origin) (k : CheckpointMarks) (cpu : CpuState) (epoch : ℕ) (m : Mark) (s : Composed C) (n : Device)
+module _ {C : Type 0} (D : DesignOf C) (w : IsDesign D) (o : Origin) (k : CheckpointMarks) (cpu : CpuState) (epoch : ℕ) (m : Mark)
+    (s : Composed C) (n : Device)
     (h : IsSound D o k s n) (idle : is_under_way s.engine.stage ≡ false)
-    (whole : D.parts.pages.promoting s.control ≡ false) (bare : D.parts.pages.overlaid s.control ≡ false) (t : IsNext D o k cpu epoch m s n) where
+    (whole : D.parts.pages.promoting s.control ≡ false) (bare : D.parts.pages.overlaid s.control ≡ false)
+    (t : IsNext D o k cpu epoch m s n) where
   abbrev sc : C
   sc = s.control
 
@@ -150,7 +152,8 @@ pub makes_over : {C : Type 0} (D : DesignOf C) (epoch : ℕ) (c d : C) (g : List
 makes_over D epoch c d g (InRound r) settled over made = over made
 makes_over D epoch c d g q settled over made = cc
 
-module _ {C : Type 0} (D : DesignOf C) (w : IsDesign D) (o : Origin) (k : CheckpointMarks) (s : Composed C) (n : Device) (h : IsSound D o k s n) where
+module _ {C : Type 0} (D : DesignOf C) (w : IsDesign D) (o : Origin) (k : CheckpointMarks) (s : Composed C) (n : Device)
+    (h : IsSound D o k s n) where
   -- a call that leaves the engine alone, and all that holds
   pub stays : (t : Composed C) (m : Device) → t.engine ≡ s.engine
       → Carries D s.engine.epoch (phase_of s.engine.stage) s.control n (phase_of s.engine.stage) t.control m
@@ -189,7 +192,8 @@ module _ {C : Type 0} (D : DesignOf C) (w : IsDesign D) (o : Origin) (k : Checkp
   }
 
   -- a device that may hold no more after a cut keeps the checkpoints
-  pub keeping_over : (m : Device) → length m.image ≡ length n.image → HoldsNoMore n m → IsKeeping o (layout_for D o) (standing_at s.engine.stage m h.images)
+  pub keeping_over : (m : Device) → length m.image ≡ length n.image → HoldsNoMore n m
+      → IsKeeping o (layout_for D o) (standing_at s.engine.stage m h.images)
   keeping_over m as_long no_more =
       IsKeeping-move o (layout_for D o) _ _
       (Goes (saved_at s.engine.stage h.images) h.images.kept h.images.sealed n m
@@ -208,10 +212,13 @@ module _ {C : Type 0} (D : DesignOf C) (w : IsDesign D) (o : Origin) (k : Checkp
         (issued_same (layout_of D.filling s.engine).image_blocks (parts_at D s.engine s.control) n m (D.parts.sealed s.control n) j
         (placed D w s.engine s.control n moment (can D w o k s n h (ap is_sealing is ∙ way))).placed r written)
 
-    written_over : (q : EngineStage) → s.engine.stage ≡ q → HasWrittenBefore D q s.engine s.control n → HasWrittenBefore D q s.engine s.control m
+    written_over : (q : EngineStage) → s.engine.stage ≡ q → HasWrittenBefore D q s.engine s.control n
+        → HasWrittenBefore D q s.engine s.control m
     written_over (InRound q) is b =
-        issued_over (layout_of D.filling s.engine).image_blocks (parts_at D s.engine s.control) (parts_at D s.engine s.control) (commit_of s.engine.epoch) q n m
-        (D.parts.sealed s.control n) (D.parts.sealed s.control m) refl (h.held.fits.inside q is) (λ j few written. slot_over (InRound q) is refl refl j written)
+        issued_over (layout_of D.filling s.engine).image_blocks (parts_at D s.engine s.control) (parts_at D s.engine s.control)
+        (commit_of s.engine.epoch) q n m
+        (D.parts.sealed s.control n) (D.parts.sealed s.control m) refl (h.held.fits.inside q is)
+        (λ j few written. slot_over (InRound q) is refl refl j written)
         (λ read. record { inside = omega (arith, read.inside, r.as_long); newest_is = r.reads 1 read.inside ∙ read.newest_is }) b
     written_over q is b = tt
 
@@ -224,11 +231,14 @@ module _ {C : Type 0} (D : DesignOf C) (w : IsDesign D) (o : Origin) (k : Checkp
 
   -- ---- with another controller, whose slot says the same, and that was sealed as this one
 
-  module _ (d : C) (rest : (i : ℕ) → D.items.rest d i ≡ D.items.rest s.control i) (same : D.parts.sealed d n ≡ D.parts.sealed s.control n) where
+  module _ (d : C) (rest : (i : ℕ) → D.items.rest d i ≡ D.items.rest s.control i)
+      (same : D.parts.sealed d n ≡ D.parts.sealed s.control n) where
     pub written_as : (q : EngineStage) → s.engine.stage ≡ q → HasWrittenBefore D q s.engine s.control n → HasWrittenBefore D q s.engine d n
     written_as (InRound q) is b =
-        issued_over (layout_of D.filling s.engine).image_blocks (parts_at D s.engine s.control) (parts_at D s.engine d) (commit_of s.engine.epoch) q n n
-        (D.parts.sealed s.control n) (D.parts.sealed d n) refl (h.held.fits.inside q is) (λ j few written. slot_as D s.engine s.control d n j rest same written)
+        issued_over (layout_of D.filling s.engine).image_blocks (parts_at D s.engine s.control) (parts_at D s.engine d)
+        (commit_of s.engine.epoch) q n n
+        (D.parts.sealed s.control n) (D.parts.sealed d n) refl (h.held.fits.inside q is)
+        (λ j few written. slot_as D s.engine s.control d n j rest same written)
         (λ read. read) b
     written_as q is b = tt
 
@@ -238,12 +248,14 @@ module _ {C : Type 0} (D : DesignOf C) (w : IsDesign D) (o : Origin) (k : Checkp
   stays_as d on rest =
       stays (record s { control = d }) n refl on
       (record { same_p = on.same_p ∙ h.held.fits.same_p; inside = h.held.fits.inside; stands = on.moment.stands })
-      h.checkpoints.keeping refl (written_as d rest on.sealed s.engine.stage refl h.checkpoints.written) (on.rests s.storeless s.sealed_storeless h.rests)
+      h.checkpoints.keeping refl (written_as d rest on.sealed s.engine.stage refl h.checkpoints.written)
+      (on.rests s.storeless s.sealed_storeless h.rests)
 
   -- once a write of the DRAM landed
   pub dram_drain_keeps : IsSound D o k (record s { control = D.filling.drained s.control }) n
   dram_drain_keeps =
-      stays_as (D.filling.drained s.control) (w.dram_drained (phase_of s.engine.stage) s.engine.epoch s.control n h.held.moment) (w.drained_rest s.control)
+      stays_as (D.filling.drained s.control) (w.dram_drained (phase_of s.engine.stage) s.engine.epoch s.control n h.held.moment)
+      (w.drained_rest s.control)
 
 pub same_reads_keep : {C : Type 0} (D : DesignOf C) → IsDesign D → SameReadsKeep D
 same_reads_keep D w o k s n m h r = reads_stay D w o k s n h m r
@@ -258,7 +270,8 @@ fault_of_step : (k : CheckpointMarks) (step : EngineStep) → (step ≡ Copied) 
 fault_of_step k step (inl is) = ap (λ x. marks_after_fault x k) is
 fault_of_step k step (inr is) = ap (λ x. marks_after_fault x k) is
 
-module _ {C : Type 0} (D : DesignOf C) (w : IsDesign D) (o : Origin) (k : CheckpointMarks) (s : Composed C) (n m : Device) (h : IsSound D o k s n)
+module _ {C : Type 0} (D : DesignOf C) (w : IsDesign D) (o : Origin) (k : CheckpointMarks) (s : Composed C) (n m : Device)
+    (h : IsSound D o k s n)
     (framed : IsFramed n m) where
   abbrev F : FillingOf C
   F = D.filling
@@ -299,7 +312,8 @@ module _ {C : Type 0} (D : DesignOf C) (w : IsDesign D) (o : Origin) (k : Checkp
   doubt_failed (Tail from) written = none_by k g h.checkpoints.sealed written ∙ ap doubt_in (sym (marks_tail (I.tail_next c from)))
 
   -- with one image kept, an action that leaves its places alone
-  fails_kept : (q : EngineStage) (i : Item) → s.engine.stage ≡ q → saved_at q g ≡ Kept g.before → LeavesAlone (1 ∷ looked_by l g.before) (action_of F I e i c n)
+  fails_kept : (q : EngineStage) (i : Item) → s.engine.stage ≡ q → saved_at q g ≡ Kept g.before
+      → LeavesAlone (1 ∷ looked_by l g.before) (action_of F I e i c n)
       → FailsTo (action_of F I e i c n) n m → IsKeeping o l (standing m (Kept g.before) g.kept g.sealed)
   fails_kept q i is old alone failed =
       IsKeeping-move o l _ _
@@ -307,7 +321,8 @@ module _ {C : Type 0} (D : DesignOf C) (w : IsDesign D) (o : Origin) (k : Checkp
       (subst (λ x. IsKeeping o l (standing n x g.kept g.sealed)) (ap (λ r. saved_at r g) is ∙ old) h.checkpoints.keeping)
 
   -- a step of the body, or the first one of the slot after it, that failed keeps the images
-  fails_body : (from : ℕ) (x : Option ℕ) → s.engine.stage ≡ Body from → I.body_next c from ≡ x → FailsTo (action_of F I e (body_or_slot x) c n) n m
+  fails_body : (from : ℕ) (x : Option ℕ) → s.engine.stage ≡ Body from → I.body_next c from ≡ x
+      → FailsTo (action_of F I e (body_or_slot x) c n) n m
       → IsKeeping o l (standing m (Kept g.before) g.kept g.sealed)
   fails_body from None is next failed = keeping_failed D w o k s n h (Write 0) (at_first D w o k s n h from is next) m failed framed
   fails_body from (Some j) is next failed =
@@ -333,7 +348,8 @@ module _ {C : Type 0} (D : DesignOf C) (w : IsDesign D) (o : Origin) (k : Checkp
   fails Idle is way failed = cc
   fails (Body from) is way failed = fails_body from (I.body_next c from) is refl failed
   fails (InRound r) is way failed = keeping_failed D w o k s n h r (at_round D w o k s n h r is) m failed framed
-  fails (Tail from) is way failed = fails_kept (Tail from) (tail_or_release (I.tail_next c from)) is refl (tail_alone from (I.tail_next c from) is refl) failed
+  fails (Tail from) is way failed =
+      fails_kept (Tail from) (tail_or_release (I.tail_next c from)) is refl (tail_alone from (I.tail_next c from) is refl) failed
 
 pub failed_items_are_safe : {C : Type 0} (D : DesignOf C) → IsDesign D → FailedItemsAreSafe D
 failed_items_are_safe D w o k s n m h way failed framed =

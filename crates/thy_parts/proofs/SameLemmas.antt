@@ -62,7 +62,8 @@ opens_both a b c (inl none) (inr same) = inl (same ∙ none)
 opens_both a b c (inr same) (inr again) = inr (again ∙ same)
 
 -- a moment leads to itself
-pub Carries-same : {C : Type 0} (D : DesignOf C) (epoch : ℕ) (p : Phase) (a : C) (n : Device) → IsMoment D p epoch a n → Carries D epoch p a n p a n
+pub Carries-same : {C : Type 0} (D : DesignOf C) (epoch : ℕ) (p : Phase) (a : C) (n : Device) → IsMoment D p epoch a n
+    → Carries D epoch p a n p a n
 Carries-same D epoch p a n h =
     carried h refl refl refl (λ g k. k) (λ g k. k) (λ s t k. k) (omega arith)
 
@@ -112,7 +113,8 @@ pub drained_same : (n : Device) → ReadsSame n (drained n)
 drained_same n = record { as_long = length-drained n; reads = λ x inside. newest-drained n x inside; no_more = no_more-drained n }
 
 -- what was issued of a checkpoint is so over a device that gives the same to every read
-pub issued_same : (blocks : ℕ) (parts : CheckpointParts) (n m : Device) (memory : List Block) (k : ℕ) → ArePlaced blocks parts → ReadsSame n m
+pub issued_same : (blocks : ℕ) (parts : CheckpointParts) (n m : Device) (memory : List Block) (k : ℕ) → ArePlaced blocks parts
+    → ReadsSame n m
     → AreIssued blocks parts n memory k → AreIssued blocks parts m memory k
 issued_same blocks parts n m memory k placed r h = record {
   sized = r.as_long ∙ h.sized;

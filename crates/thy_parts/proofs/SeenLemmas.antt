@@ -109,34 +109,33 @@ view-kept o m (At epoch state) h = elim h.0 as (λ _. boot_view (Some (mark epoc
 -- ---- over any filling
 
 module _ {C : Type 0} (F : FillingOf C) where
-  -- while it reads, what the image means is the mark that is kept
-  pub view-reading : (read : Reading) (o : Origin) (g : BootImages) (n : Device) (b : Booting) (c : C)
-      → IsReadBy F read → IsRecovering F g n b c → length n.image ≡ (layout_for F o).image_blocks → HasKept o (layout_for F o) g.before g.kept
-      → view_of_image o.start.count (read o.geometry ceiling n.image) ≡ finding_view o.start.count g.kept
-  view-reading read o g n b c reads recovering sized means_mark =
-      ap (view_of_image o.start.count) (reads o.geometry n.image sized)
-      ∙ ap (λ (x : List Block). view_of_image o.start.count (decode_by (layout_for F o) ceiling x)) (sym recovering.before_is)
-      ∙ finding_view-meant o (layout_for F o) g.before g.kept o.start.count means_mark
+  module _ (read : Reading) (o : Origin) (g : BootImages) (n : Device) (b : Booting) (c : C) where
+    -- while it reads, what the image means is the mark that is kept
+    pub view-reading : IsReadBy F read → IsRecovering F g n b c → length n.image ≡ (layout_for F o).image_blocks
+        → HasKept o (layout_for F o) g.before g.kept
+        → view_of_image o.start.count (read o.geometry ceiling n.image) ≡ finding_view o.start.count g.kept
+    view-reading reads recovering sized means_mark =
+        ap (view_of_image o.start.count) (reads o.geometry n.image sized)
+        ∙ ap (λ (x : List Block). view_of_image o.start.count (decode_by (layout_for F o) ceiling x)) (sym recovering.before_is)
+        ∙ finding_view-meant o (layout_for F o) g.before g.kept o.start.count means_mark
 
-  -- while a boot migrates, what the image means is the mark that is kept
-  pub view-migrating : (read : Reading) (o : Origin) (g : BootImages) (n : Device) (b : Booting) (c : C) (r : Round)
-      → IsReadBy F read → IsKeeping o (layout_for F o) (standing_in_boot o (Migrates r) g n) → (far : IsMigrating F o r g n b c)
-      → view_of_image o.start.count (read o.geometry ceiling n.image) ≡ boot_view (Some far.m) None
-  view-migrating read o g n b c r reads keeps far =
-      let both : IsKeeping o (layout_for F o) (standing n (saved_in r g.before g.next) (Some far.m) (Some far.m))
-      = subst (λ (k : Option Mark). IsKeeping o (layout_for F o) (standing n (saved_in r g.before g.next) k k)) far.kept keeps in
-      let safe = Safe-same (reading F.layouts) o far.m n (Safe-sealed F.layouts o n (saved_in r g.before g.next) (Some far.m) (Some far.m) both) in
-      ap (view_of_image o.start.count) (reads o.geometry n.image keeps.sized)
-      ∙ view-kept o far.m (decode_by (layout_for F o) ceiling n.image) (safe n.image (Crash-image n))
+    -- while a boot migrates, what the image means is the mark that is kept
+    pub view-migrating : (r : Round) → IsReadBy F read → IsKeeping o (layout_for F o) (standing_in_boot o (Migrates r) g n)
+        → (far : IsMigrating F o r g n b c) → view_of_image o.start.count (read o.geometry ceiling n.image) ≡ boot_view (Some far.m) None
+    view-migrating r reads keeps far =
+        let both : IsKeeping o (layout_for F o) (standing n (saved_in r g.before g.next) (Some far.m) (Some far.m))
+        = subst (λ (k : Option Mark). IsKeeping o (layout_for F o) (standing n (saved_in r g.before g.next) k k)) far.kept keeps in
+        let safe = Safe-same (reading F.layouts) o far.m n (Safe-sealed F.layouts o n (saved_in r g.before g.next) (Some far.m) (Some far.m) both) in
+        ap (view_of_image o.start.count) (reads o.geometry n.image keeps.sized)
+        ∙ view-kept o far.m (decode_by (layout_for F o) ceiling n.image) (safe n.image (Crash-image n))
 
-  view-at : (read : Reading) (o : Origin) (g : BootImages) (n : Device) (b : Booting) (c : C) (q : Stage)
-      → IsReadBy F read → IsGoing q → IsKeeping o (layout_for F o) (standing_in_boot o q g n) → IsSoundAt F o q g n b c
-      → view_at read o q n ≡ seen_at o g.kept q
-  view-at read o g n b c (Reads r) reads going keeps far = view-reading read o g n b c reads far keeps.sized keeps.meant
-  view-at read o g n b c (Loads r) reads going keeps far = refl
-  view-at read o g n b c (Migrates r) reads going keeps far =
-      view-migrating read o g n b c r reads keeps far ∙ ap (finding_view o.start.count) (sym far.kept)
-  view-at read o g n b c (Over end) reads going keeps far = absurd going
+    view-at : (q : Stage) → IsReadBy F read → IsGoing q → IsKeeping o (layout_for F o) (standing_in_boot o q g n)
+        → IsSoundAt F o q g n b c → view_at read o q n ≡ seen_at o g.kept q
+    view-at (Reads r) reads going keeps far = view-reading reads far keeps.sized keeps.meant
+    view-at (Loads r) reads going keeps far = refl
+    view-at (Migrates r) reads going keeps far =
+        view-migrating r reads keeps far ∙ ap (finding_view o.start.count) (sym far.kept)
+    view-at (Over end) reads going keeps far = absurd going
 
   settled-at : (o : Origin) (g : BootImages) (n : Device) (b : Booting) (c : C) (q : Stage) (m : Mark)
       → IsGoing q → (seen_at o g.kept q).done ≡ Some m → migrates_at q ≡ false → IsSoundAt F o q g n b c → n.queue ≡ []
@@ -197,7 +196,8 @@ module _ {C : Type 0} (F : FillingOf C) where
   has-commit (Fills k) n b c h = committed-in n.image b.commit h.0.head.commit_is
   has-commit (Refusing bad) n b c h = tt
 
-module _ {C : Type 0} (F : FillingOf C) (read : Reading) (reads : IsReadBy F read) (o : Origin) (g : BootImages) (n : Device) (b : Booting) (c : C) where
+module _ {C : Type 0} (F : FillingOf C) (read : Reading) (reads : IsReadBy F read) (o : Origin) (g : BootImages) (n : Device) (b : Booting)
+    (c : C) where
   not-loading : IsRecovering F g n b c → length n.image ≡ (layout_for F o).image_blocks → HasKept o (layout_for F o) g.before g.kept
       → is_zero (block_at n.image 1) ≡ false → loads (view_of_image o.start.count (read o.geometry ceiling n.image)) ≡ false
   not-loading recovering sized means_mark committed =

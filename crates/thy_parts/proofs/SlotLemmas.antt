@@ -81,7 +81,8 @@ slot_as D e c d n j rest sealed h =
     record {
       sized = h.sized;
       memory_is =
-          ap (λ (slot : List Block). map (newest n) (memory_places (layout_of D.filling e) (commit_of e.epoch) slot)) list ∙ h.memory_is ∙ sym sealed;
+          ap (λ (slot : List Block). map (newest n) (memory_places (layout_of D.filling e) (commit_of e.epoch) slot)) list
+          ∙ h.memory_is ∙ sym sealed;
       slot = record {
         each = λ i l. let read = h.slot.each i l in record { inside = read.inside; newest_is = read.newest_is ∙ sym (block i) };
       };
@@ -110,7 +111,8 @@ slot_reads D w e c d n m j moment can as_long rest reads few h =
       };
     }
 
-module _ {C : Type 0} (D : DesignOf C) (w : IsDesign D) (e : Progress) (c : C) (n : Device) (moment : IsMoment D Made e.epoch c n) (can : CanRecord D e c) where
+module _ {C : Type 0} (D : DesignOf C) (w : IsDesign D) (e : Progress) (c : C) (n : Device) (moment : IsMoment D Made e.epoch c n)
+    (can : CanRecord D e c) where
   abbrev le : Layout
   le = layout_of D.filling e
 
@@ -167,18 +169,21 @@ module _ {C : Type 0} (D : DesignOf C) (w : IsDesign D) (e : Progress) (c : C) (
 
   -- ---- with the whole slot written, the next image is the checkpoint
 
-  module _ (written : HasWrittenSlot D e c n (slot_blocks D.filling e)) (header : header_bad (layout_of D.filling e) (newest n 0) true ≡ None) where
+  module _ (written : HasWrittenSlot D e c n (slot_blocks D.filling e))
+      (header : header_bad (layout_of D.filling e) (newest n 0) true ≡ None) where
     abbrev image : List Block
     image = next_image n (commit_of e.epoch)
 
     whole : IsCheckpoint (layout_of D.filling e) ceiling n (commit_of e.epoch) (parts_at D e c) (D.parts.sealed c n)
     whole =
-        issued_is_checkpoint (layout_of D.filling e) ceiling n (commit_of e.epoch) (parts_at D e c) (D.parts.sealed c n) placed written (is_zero-commit_of e.epoch)
+        issued_is_checkpoint (layout_of D.filling e) ceiling n (commit_of e.epoch) (parts_at D e c) (D.parts.sealed c n) placed written
+        (is_zero-commit_of e.epoch)
         (all_none (header_bad (layout_of D.filling e) (newest n 0) true) (commit_bad ceiling (newest n 0) (commit_of e.epoch))
         ((layout_of D.filling e).slot_bad ceiling (commit_of e.epoch) (slot_list D e c)) header
         (commit_fault-commit_of (newest n 0) e.epoch ceiling can.small (omega arith)) (w.slot_fits e c n moment can))
 
-    pub next_decodes : decode_by (layout_of D.filling e) ceiling (next_image n (commit_of e.epoch)) ≡ At e.epoch (state_from e.p e.cpu (D.parts.sealed c n))
+    pub next_decodes : decode_by (layout_of D.filling e) ceiling (next_image n (commit_of e.epoch))
+        ≡ At e.epoch (state_from e.p e.cpu (D.parts.sealed c n))
     next_decodes =
         whole.decodes
         ∙ ap (λ (k : ℕ). At k (state_by (layout_of D.filling e) (slot_list D e c) (D.parts.sealed c n))) (epoch_of-commit_of e.epoch below)

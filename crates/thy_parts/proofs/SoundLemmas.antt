@@ -66,7 +66,8 @@ written_stage D Idle r e c n b = tt
 written_stage D q r e c n b = b
 
 -- the checkpoint that is made stays so over a call that leaves memory as it was sealed
-pub made_with : {C : Type 0} (D : DesignOf C) (o : Origin) (e : Progress) (q : EngineStage) (c d : C) (n m : Device) (g : Checkpoints) (next : List Block)
+pub made_with : {C : Type 0} (D : DesignOf C) (o : Origin) (e : Progress) (q : EngineStage) (c d : C) (n m : Device)
+    (g : Checkpoints) (next : List Block)
     → IsMadeFor D o e c n g → D.parts.sealed d m ≡ D.parts.sealed c n
     → (is_settled q ≡ true → (block_at next 1 ≡ commit_of e.epoch) × D.parts.makes e.epoch d next)
     → IsMadeFor D o (record e { stage = q }) d m (record g { next = next })
@@ -83,7 +84,8 @@ made_with D o e q c d n m g next old same makes = record {
 }
 
 -- an action of the round is next, after another one or after the body
-pub record IsAt {C : Type 0} (D : DesignOf C) (o : Origin) (k : CheckpointMarks) (s : Composed C) (n : Device) (g : Checkpoints) (r : Round) : Type 0 where
+pub record IsAt {C : Type 0} (D : DesignOf C) (o : Origin) (k : CheckpointMarks) (s : Composed C) (n : Device) (g : Checkpoints)
+    (r : Round) : Type 0 where
   pub inside : IsInRound (slot_blocks D.filling s.engine) r
   pub way : is_sealing s.engine.stage ≡ true
   pub into : Carries D s.engine.epoch (phase_of s.engine.stage) s.control n Made s.control n
@@ -91,9 +93,11 @@ pub record IsAt {C : Type 0} (D : DesignOf C) (o : Origin) (k : CheckpointMarks)
   pub issued : HasWrittenBefore D (InRound r) s.engine s.control n
   pub settled : is_settled (InRound r) ≡ true → is_settled s.engine.stage ≡ true
   pub doubt : k.written ≡ is_written r
-  pub fits : Fits D.filling D.items (record s.engine { stage = next_after D.filling D.items s.engine (RoundItem r) }) (control_after D.items (RoundItem r) s.control)
+  pub fits : Fits D.filling D.items (record s.engine { stage = next_after D.filling D.items s.engine (RoundItem r) })
+      (control_after D.items (RoundItem r) s.control)
 
-module _ {C : Type 0} (D : DesignOf C) (w : IsDesign D) (o : Origin) (k : CheckpointMarks) (s : Composed C) (n : Device) (h : IsSound D o k s n) where
+module _ {C : Type 0} (D : DesignOf C) (w : IsDesign D) (o : Origin) (k : CheckpointMarks) (s : Composed C) (n : Device)
+    (h : IsSound D o k s n) where
   abbrev F : FillingOf C
   F = D.filling
 
@@ -136,7 +140,8 @@ module _ {C : Type 0} (D : DesignOf C) (w : IsDesign D) (o : Origin) (k : Checkp
   pub keeping_at : (q : EngineStage) → e.stage ≡ q → IsKeeping o l (standing_at q n g)
   keeping_at q is = subst (λ r. IsKeeping o l (standing_at r n g)) is h.checkpoints.keeping
 
-  fits_at : (q : EngineStage) (i : Item) → e.stage ≡ q → item I q c ≡ i → Fits F I (record e { stage = next_after F I e i }) (control_after I i c)
+  fits_at : (q : EngineStage) (i : Item) → e.stage ≡ q → item I q c ≡ i
+      → Fits F I (record e { stage = next_after F I e i }) (control_after I i c)
   fits_at q i is due =
       subst (λ j. Fits F I (record e { stage = next_after F I e j }) (control_after I j c)) (ap (λ r. item I r c) is ∙ due)
       (items_fit F I w.items e c h.held.fits)
@@ -215,12 +220,14 @@ module _ {C : Type 0} (D : DesignOf C) (w : IsDesign D) (o : Origin) (k : Checkp
   }
 
   -- the checkpoints are kept by a step to a stage outside the round
-  goes : (q : EngineStage) (d : C) (m : Device) → Carries D e.epoch (phase_of e.stage) c n (phase_of q) d m → Fits F I (record e { stage = q }) d
+  goes : (q : EngineStage) (d : C) (m : Device) → Carries D e.epoch (phase_of e.stage) c n (phase_of q) d m
+      → Fits F I (record e { stage = q }) d
       → IsKeeping o l (standing_at q m g) → newest m 0 ≡ newest n 0 → HasWrittenBefore D q e d m
       → is_sealing q ≡ is_sealing e.stage → is_confirming q ≡ is_confirming e.stage → is_settled q ≡ false
       → IsSound D o k (now q d) m
   goes q d m on fits keeping header written sealing confirming unsettled =
-      goes_to q d m g.next k.written on fits keeping header written sealing (h.doubt ∙ sym confirming) (λ is. absurd (both_ways (is_settled q) unsettled is))
+      goes_to q d m g.next k.written on fits keeping header written sealing (h.doubt ∙ sym confirming)
+      (λ is. absurd (both_ways (is_settled q) unsettled is))
 
   -- what carries the phase of a stage carries the engine's own
   from_stage : (q : EngineStage) (to : Phase) (d : C) (m : Device) → e.stage ≡ q → Carries D e.epoch (phase_of q) c n to d m
@@ -243,7 +250,8 @@ module _ {C : Type 0} (D : DesignOf C) (w : IsDesign D) (o : Origin) (k : Checkp
       (from_stage (Body from) (Making (j + 1)) (I.body_after c j) m is
       (Carries-both D e.epoch (Making from) (Making j) (Making (j + 1)) c c (I.body_after c j) n n m passed wrote))
       (fits_at (Body from) (BodyItem j) is (ap body_or_slot next))
-      (keeping_kept (Body from) (Body (j + 1)) m is refl refl (Spares-written (1 ∷ looked_by l g.before) x (I.body_block c n j) n m (not_looked x free) refl))
+      (keeping_kept (Body from) (Body (j + 1)) m is refl refl
+      (Spares-written (1 ∷ looked_by l g.before) x (I.body_block c n j) n m (not_looked x free) refl))
       (header_written x (I.body_block c n j) (not_header x free)) tt (sym (ap is_sealing is)) (sym (ap is_confirming is)) refl
 
   -- what an item has to reach
@@ -277,7 +285,8 @@ module _ {C : Type 0} (D : DesignOf C) (w : IsDesign D) (o : Origin) (k : Checkp
   at_round r is = record {
     inside = h.held.fits.inside r is;
     way = ap is_sealing is;
-    into = subst (λ (q : EngineStage). Carries D e.epoch (phase_of q) c n Made c n) (sym is) (Carries-same D e.epoch Made c n (moment_at (InRound r) is));
+    into = subst (λ (q : EngineStage). Carries D e.epoch (phase_of q) c n Made c n) (sym is)
+        (Carries-same D e.epoch Made c n (moment_at (InRound r) is));
     keeping = keeping_at (InRound r) is;
     issued = written_at (InRound r) is;
     settled = λ settled. ap is_settled is ∙ settled;
@@ -332,7 +341,8 @@ module _ {C : Type 0} (D : DesignOf C) (w : IsDesign D) (o : Origin) (k : Checkp
       }
 
       issued : IsIssued (looked_by l) n image
-      issued = subst (λ (p : Parameters). IsIssued (looked_by (layout_at F p)) n image) p_is (next_issued D w e c n moment_r (can here.way) whole header_e)
+      issued = subst (λ (p : Parameters). IsIssued (looked_by (layout_at F p)) n image) p_is
+          (next_issued D w e c n moment_r (can here.way) whole header_e)
 
       commit_is : block_at image 1 ≡ commit_of e.epoch
       commit_is = next_image-commit (commit_of e.epoch) n (let some = some_image in omega (arith, some))
@@ -344,18 +354,21 @@ module _ {C : Type 0} (D : DesignOf C) (w : IsDesign D) (o : Origin) (k : Checkp
 
     may_take : MayTake o l old.mark (slot_round F I e c) r g.before g.next n
     may_take = by_round r here.inside here.issued here.settled where
-      by_round : (r : Round) → IsInRound (slot_blocks F e) r → Issued r n (D.parts.sealed c n) → (is_settled (InRound r) ≡ true → is_settled e.stage ≡ true)
+      by_round : (r : Round) → IsInRound (slot_blocks F e) r → Issued r n (D.parts.sealed c n)
+          → (is_settled (InRound r) ≡ true → is_settled e.stage ≡ true)
           → MayTake o l old.mark (slot_round F I e c) r g.before g.next n
       by_round (Write j) inside written settled = not_looked (slot_place F e j) (free j inside)
       by_round Settle inside written settled = (made_of written, issued written)
       by_round Commit inside written settled = (
         old.commit (settled refl),
-        subst (λ (b : Block). IsOneWordApart b (commit_of e.epoch)) (sym h.checkpoints.stated) (one_word-epoch (commit_magic VersionTwo) k.done.epoch e.epoch),
+        subst (λ (b : Block). IsOneWordApart b (commit_of e.epoch)) (sym h.checkpoints.stated)
+            (one_word-epoch (commit_magic VersionTwo) k.done.epoch e.epoch),
       )
       by_round Confirm inside written settled = (old.commit (settled refl), written.1)
 
     -- the checkpoints after it, and if it fails
-    keeping_then : IsKeeping o l (standing_then (next_round (slot_blocks F e) r) m_r g.before (made_after (commit_of e.epoch) r n g.next) g.kept old.mark)
+    keeping_then : IsKeeping o l
+        (standing_then (next_round (slot_blocks F e) r) m_r g.before (made_after (commit_of e.epoch) r n g.next) g.kept old.mark)
     keeping_then =
         IsKeeping-move o l _ _ (rounds_move o l old.mark (slot_round F I e c) r g.before g.next g.kept n m_r may_take
         (left-as_was (round_action (slot_round F I e c) r) n))
@@ -371,7 +384,8 @@ module _ {C : Type 0} (D : DesignOf C) (w : IsDesign D) (o : Origin) (k : Checkp
     -- the moment after it, before the controller commits
     pub over : Carries D e.epoch Made c n Made c m_r
     over = by_round r here.inside where
-      by_round : (r : Round) → IsInRound (slot_blocks F e) r → Carries D e.epoch Made c n Made c (after n.writes (round_action (slot_round F I e c) r) n)
+      by_round : (r : Round) → IsInRound (slot_blocks F e) r
+          → Carries D e.epoch Made c n Made c (after n.writes (round_action (slot_round F I e c) r) n)
       by_round (Write j) inside = w.own_carries e c n (slot_place F e j) (slot_block I e c j) moment_r same_p (inr (j, inside, refl))
       by_round Commit inside = w.own_carries e c n 1 (commit_of e.epoch) moment_r same_p (inl refl)
       by_round r inside = w.same_reads Made e.epoch c n (at_rest n) moment_r (settled_same n)
@@ -387,14 +401,17 @@ module _ {C : Type 0} (D : DesignOf C) (w : IsDesign D) (o : Origin) (k : Checkp
       by_round r inside = header_settled
 
     -- what is issued after an action of the round
-    issued_then : AreIssuedThen (layout_of F e).image_blocks (parts_at D e c) (commit_of e.epoch) (next_round (slot_blocks F e) r) m_r (D.parts.sealed c n)
+    issued_then : AreIssuedThen (layout_of F e).image_blocks (parts_at D e c) (commit_of e.epoch) (next_round (slot_blocks F e) r) m_r
+        (D.parts.sealed c n)
     issued_then =
-        rounds_issue (layout_of F e).image_blocks (parts_at D e c) (commit_of e.epoch) (placed D w e c n moment_r (can here.way)).placed r n m_r (D.parts.sealed c n)
+        rounds_issue (layout_of F e).image_blocks (parts_at D e c) (commit_of e.epoch)
+        (placed D w e c n moment_r (can here.way)).placed r n m_r (D.parts.sealed c n)
         here.inside here.issued (left-as_was (round_action (slot_round F I e c) r) n)
 
     -- the checkpoints are kept by a step to the next action of the round
     goes_in : (q : Round) (next : List Block) (now_written : Bool) → now_written ≡ is_written q → Makes (InRound q) c next
-        → IsInRound (slot_blocks F e) q × Issued q m_r (D.parts.sealed c n) → IsKeeping o l (standing m_r (saved_in q g.before next) g.kept (Some old.mark))
+        → IsInRound (slot_blocks F e) q × Issued q m_r (D.parts.sealed c n)
+        → IsKeeping o l (standing m_r (saved_in q g.before next) g.kept (Some old.mark))
         → IsSound D o (record k { written = now_written }) (now (InRound q) c) m_r
     goes_in q next now_written doubt makes written keeping =
         goes_to (InRound q) c m_r next now_written on_round
@@ -407,26 +424,30 @@ module _ {C : Type 0} (D : DesignOf C) (w : IsDesign D) (o : Origin) (k : Checkp
         (subst (λ (memory : List Block). Issued q m_r memory) (sym on_round.sealed) written.1) (sym here.way) doubt makes
 
   -- the checkpoints are kept by a write of the round
-  sound_write : (j : ℕ) → Here (Write j) → IsSound D o (marks_after (report I e (RoundItem (Write j))) k) (now (next_after F I e (RoundItem (Write j))) c)
+  sound_write : (j : ℕ) → Here (Write j)
+      → IsSound D o (marks_after (report I e (RoundItem (Write j))) k) (now (next_after F I e (RoundItem (Write j))) c)
       (written_to n (slot_place F e j) (slot_block I e c j))
   sound_write j here =
       let m : Device = written_to n (slot_place F e j) (slot_block I e c j) in
       subst (λ y. IsSound D o y (now (next_after F I e (RoundItem (Write j))) c) m) (sym (marks_of_block k (nat_lt j (record_blocks e.p))))
       (next_by (λ (q : Round). IsInRound (slot_blocks F e) q × Issued q m (D.parts.sealed c n)
-      → IsKeeping o l (standing m (saved_in q g.before g.next) g.kept (Some (h.checkpoints.made here.way).mark)) → IsSound D o k (now (InRound q) c) m) j (slot_blocks F e)
+      → IsKeeping o l (standing m (saved_in q g.before g.next) g.kept (Some (h.checkpoints.made here.way).mark))
+      → IsSound D o k (now (InRound q) c) m) j (slot_blocks F e)
       (λ more written keeping. goes_in (Write j) here (Write (j + 1)) g.next k.written here.doubt (λ is. cc) written keeping)
       (λ last written keeping. goes_in (Write j) here Settle g.next k.written here.doubt (λ is. cc) written keeping)
       (issued_then (Write j) here) (keeping_then (Write j) here))
 
   sound_settle : Here Settle → IsSound D o k (now (InRound Commit) c) (at_rest n)
   sound_settle here =
-      goes_in Settle here Commit (next_image n (commit_of e.epoch)) k.written here.doubt (λ is. (commit_is Settle here here.issued, makes Settle here here.issued))
+      goes_in Settle here Commit (next_image n (commit_of e.epoch)) k.written here.doubt
+      (λ is. (commit_is Settle here here.issued, makes Settle here here.issued))
       (issued_then Settle here) (keeping_then Settle here)
 
   sound_commit : Here Commit → IsSound D o (record k { written = true }) (now (InRound Confirm) c) (written_to n 1 (commit_of e.epoch))
   sound_commit here =
       let made = h.checkpoints.made here.way in
-      goes_in Commit here Confirm g.next true refl (λ is. (made.commit (here.settled refl), made.makes (here.settled refl))) (issued_then Commit here) (keeping_then Commit here)
+      goes_in Commit here Confirm g.next true refl (λ is. (made.commit (here.settled refl), made.makes (here.settled refl)))
+      (issued_then Commit here) (keeping_then Commit here)
 
   module _ (here : Here Confirm) where
     abbrev old_d : IsMadeFor D o e c n g
@@ -445,9 +466,11 @@ module _ {C : Type 0} (D : DesignOf C) (w : IsDesign D) (o : Origin) (k : Checkp
     keeping_d = subst (λ (x : Option Mark). IsKeeping o l (standing (at_rest n) (Kept g.next) x None)) (sym old_d.sealed) (keeping_then Confirm here)
 
     -- the checkpoints are kept by the barrier that commits, at the stage after it
-    ends : (q : EngineStage) → is_sealing q ≡ false → is_confirming q ≡ false → saved_at q (record g { before = g.next; kept = g.sealed; sealed = None }) ≡ Kept g.next
+    ends : (q : EngineStage) → is_sealing q ≡ false → is_confirming q ≡ false
+        → saved_at q (record g { before = g.next; kept = g.sealed; sealed = None }) ≡ Kept g.next
         → HasWrittenBefore D q e (I.committed c) (at_rest n) → Commits D e.epoch c (at_rest n) (phase_of q) (I.committed c) (at_rest n)
-        → Fits F I (record e { stage = q }) (I.committed c) → IsSound D o (only (unwrap_or k.sealed k.done)) (now q (I.committed c)) (at_rest n)
+        → Fits F I (record e { stage = q }) (I.committed c)
+        → IsSound D o (only (unwrap_or k.sealed k.done)) (now q (I.committed c)) (at_rest n)
     ends q unsealed unconfirmed saved written on fits = record {
       held = record {
         geometry = on.same_p ∙ h.held.geometry;
@@ -508,7 +531,8 @@ module _ {C : Type 0} (D : DesignOf C) (w : IsDesign D) (o : Origin) (k : Checkp
       (from_stage (Tail from) (Applying (j + 1)) (I.tail_after c j) m is
       (Carries-both D e.epoch (Applying from) (Applying j) (Applying (j + 1)) c c (I.tail_after c j) n n m passed wrote))
       (fits_at (Tail from) (TailItem j) is (ap tail_or_release next))
-      (keeping_kept (Tail from) (Tail (j + 1)) m is refl refl (Spares-written (1 ∷ looked_by l g.before) x (I.tail_block c n j) n m (not_looked x free) refl))
+      (keeping_kept (Tail from) (Tail (j + 1)) m is refl refl
+      (Spares-written (1 ∷ looked_by l g.before) x (I.tail_block c n j) n m (not_looked x free) refl))
       (header_written x (I.tail_block c n j) (not_header x free)) tt (sym (ap is_sealing is)) (sym (ap is_confirming is)) refl
 
   sound_release : (from : ℕ) → e.stage ≡ Tail from → I.tail_next c from ≡ None → IsSound D o k (now Idle (I.released c)) (at_rest n)
@@ -530,13 +554,15 @@ module _ {C : Type 0} (D : DesignOf C) (w : IsDesign D) (o : Origin) (k : Checkp
   by_body : (from : ℕ) (x : Option ℕ) → e.stage ≡ Body from → I.body_next c from ≡ x → After (body_or_slot x)
   by_body from None is next = sound_round (Write 0) (at_first from is next)
   by_body from (Some j) is next =
-      subst (λ y. IsSound D o y (now (Body (j + 1)) (I.body_after c j)) (written_to n (I.body_place e.epoch c j) (I.body_block c n j))) (sym (marks_of_position j))
+      subst (λ y. IsSound D o y (now (Body (j + 1)) (I.body_after c j)) (written_to n (I.body_place e.epoch c j) (I.body_block c n j)))
+      (sym (marks_of_position j))
       (sound_body from j is next)
 
   by_tail_of : (from : ℕ) (x : Option ℕ) → e.stage ≡ Tail from → I.tail_next c from ≡ x → After (tail_or_release x)
   by_tail_of from None is next = sound_release from is next
   by_tail_of from (Some j) is next =
-      subst (λ y. IsSound D o y (now (Tail (j + 1)) (I.tail_after c j)) (written_to n (I.tail_place c j) (I.tail_block c n j))) (sym (marks_of_position j))
+      subst (λ y. IsSound D o y (now (Tail (j + 1)) (I.tail_after c j)) (written_to n (I.tail_place c j) (I.tail_block c n j)))
+      (sym (marks_of_position j))
       (sound_tail from j is next)
 
   by_stage : (q : EngineStage) → e.stage ≡ q → is_under_way q ≡ true → After (item I q c)

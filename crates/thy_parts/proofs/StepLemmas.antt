@@ -44,7 +44,8 @@ use Rattle.thy_parts.proofs.SoundLemmas.{IsAt, moment_at, stall_at, at_round, at
 
 -- ---- what an item is
 
-asks_slot : (lap : ℕ) (first : Bool) (x : ℕ) (block : Block) → x ≢ 1 → Asks (engine_did lap (if first then StateBlock else TableBlock)) (WriteAt x block)
+asks_slot : (lap : ℕ) (first : Bool) (x : ℕ) (block : Block) → x ≢ 1
+    → Asks (engine_did lap (if first then StateBlock else TableBlock)) (WriteAt x block)
 asks_slot lap true x block other = other
 asks_slot lap false x block other = other
 
@@ -71,14 +72,16 @@ phase_confirmed I = by_tail I.has_tail where
   by_tail false = refl
 
 -- only a commit may raise what is owed
-owes_if : {C : Type 0} (D : DesignOf C) (step : EngineStep) (s t : Composed C) (n m : Device) → D.parts.owed t.control ≤ D.parts.owed s.control
+owes_if : {C : Type 0} (D : DesignOf C) (step : EngineStep) (s t : Composed C) (n m : Device)
+    → D.parts.owed t.control ≤ D.parts.owed s.control
     → OwesAfter step (scheme_of D) s n t m
 owes_if D (Committed epoch) s t n m less = tt
 owes_if D step s t n m less = less
 
 -- ---- a step of the engine
 
-module _ {C : Type 0} (D : DesignOf C) (w : IsDesign D) (o : Origin) (k : CheckpointMarks) (s : Composed C) (n : Device) (stands : Stands (scheme_of D) o k s n)
+module _ {C : Type 0} (D : DesignOf C) (w : IsDesign D) (o : Origin) (k : CheckpointMarks) (s : Composed C) (n : Device)
+    (stands : Stands (scheme_of D) o k s n)
     (on : is_under_way s.engine.stage ≡ true) where
   abbrev F : FillingOf C
   F = D.filling
@@ -103,30 +106,32 @@ module _ {C : Type 0} (D : DesignOf C) (w : IsDesign D) (o : Origin) (k : Checkp
 
   -- ---- places
 
-  passed : (from j : ℕ) → e.stage ≡ Body from → I.body_next c from ≡ Some j → Carries D e.epoch (Making from) c n (Making j) c n
-  passed from j is next = w.body_passes e.epoch c n from j (moment_at D w o k s n sound (Body from) is) next
+  module _ (from j : ℕ) (is : e.stage ≡ Body from) (next : I.body_next c from ≡ Some j) where
+    passed : Carries D e.epoch (Making from) c n (Making j) c n
+    passed = w.body_passes e.epoch c n from j (moment_at D w o k s n sound (Body from) is) next
 
-  again : (from j : ℕ) → e.stage ≡ Body from → I.body_next c from ≡ Some j → I.body_next c j ≡ Some j
-  again from j is next = (w.items.body_onwards c from j (moment_at D w o k s n sound (Body from) is).stands next).0
+    again : I.body_next c j ≡ Some j
+    again = (w.items.body_onwards c from j (moment_at D w o k s n sound (Body from) is).stands next).0
 
-  body_free : (from j : ℕ) → e.stage ≡ Body from → I.body_next c from ≡ Some j → IsSpared D c g.before (I.body_place e.epoch c j)
-  body_free from j is next =
-      let pass = passed from j is next in
-      w.body_spared e.epoch c n j g.before pass.moment (again from j is next) (pass.keeps g.before (stall_at D w o k s n sound (Body from) is))
+    body_free : IsSpared D c g.before (I.body_place e.epoch c j)
+    body_free =
+        let pass = passed in
+        w.body_spared e.epoch c n j g.before pass.moment again (pass.keeps g.before (stall_at D w o k s n sound (Body from) is))
 
   abbrev Here : Round → Type 0
   Here r = IsAt D o k s n g r
 
-  passed_tail : (from j : ℕ) → e.stage ≡ Tail from → I.tail_next c from ≡ Some j → Carries D e.epoch (Applying from) c n (Applying j) c n
-  passed_tail from j is next = w.tail_passes e.epoch c n from j (moment_at D w o k s n sound (Tail from) is) next
+  module _ (from j : ℕ) (is : e.stage ≡ Tail from) (next : I.tail_next c from ≡ Some j) where
+    passed_tail : Carries D e.epoch (Applying from) c n (Applying j) c n
+    passed_tail = w.tail_passes e.epoch c n from j (moment_at D w o k s n sound (Tail from) is) next
 
-  again_tail : (from j : ℕ) → e.stage ≡ Tail from → I.tail_next c from ≡ Some j → I.tail_next c j ≡ Some j
-  again_tail from j is next = (w.items.tail_onwards c from j (moment_at D w o k s n sound (Tail from) is).stands next).1
+    again_tail : I.tail_next c j ≡ Some j
+    again_tail = (w.items.tail_onwards c from j (moment_at D w o k s n sound (Tail from) is).stands next).1
 
-  tail_free : (from j : ℕ) → e.stage ≡ Tail from → I.tail_next c from ≡ Some j → IsSpared D c g.before (I.tail_place c j)
-  tail_free from j is next =
-      let pass = passed_tail from j is next in
-      w.tail_spared e.epoch c n j g.before pass.moment (again_tail from j is next) (pass.keeps g.before (stall_at D w o k s n sound (Tail from) is))
+    tail_free : IsSpared D c g.before (I.tail_place c j)
+    tail_free =
+        let pass = passed_tail in
+        w.tail_spared e.epoch c n j g.before pass.moment again_tail (pass.keeps g.before (stall_at D w o k s n sound (Tail from) is))
 
   -- ---- an item asks for the action that its result names, and writes if it is reported so
 
@@ -151,7 +156,8 @@ module _ {C : Type 0} (D : DesignOf C) (w : IsDesign D) (o : Origin) (k : Checkp
       asks_position lap (I.step_of e.p j) (I.tail_place c j) (I.tail_block c n j) (w.items.steps e.p j)
       (not_commit D c g.before (I.tail_place c j) (tail_free from j is next))
 
-  asks : (lap : ℕ) (q : EngineStage) → e.stage ≡ q → is_under_way q ≡ true → Asks (engine_did lap (Step q)) (action_of F I e (item I q c) c n)
+  asks : (lap : ℕ) (q : EngineStage) → e.stage ≡ q → is_under_way q ≡ true
+      → Asks (engine_did lap (Step q)) (action_of F I e (item I q c) c n)
   asks lap Idle is way = cc
   asks lap (Body from) is way = asks_body lap from (I.body_next c from) is refl
   asks lap (InRound r) is way = asks_round lap r (at_round D w o k s n sound r is)
@@ -206,7 +212,8 @@ module _ {C : Type 0} (D : DesignOf C) (w : IsDesign D) (o : Origin) (k : Checkp
 
   -- ---- the DRAM is left alone
 
-  dram_body : (from : ℕ) (x : Option ℕ) → e.stage ≡ Body from → I.body_next c from ≡ x → F.dram (control_after I (body_or_slot x) c) ≡ F.dram c
+  dram_body : (from : ℕ) (x : Option ℕ) → e.stage ≡ Body from → I.body_next c from ≡ x
+      → F.dram (control_after I (body_or_slot x) c) ≡ F.dram c
   dram_body from None is next = refl
   dram_body from (Some j) is next = (w.items.body c j (passed from j is next).moment.stands (again from j is next)).dram
 
@@ -214,7 +221,8 @@ module _ {C : Type 0} (D : DesignOf C) (w : IsDesign D) (o : Origin) (k : Checkp
   dram_round Confirm stands = (w.items.commits c stands).dram
   dram_round r stands = refl
 
-  dram_tail : (from : ℕ) (x : Option ℕ) → e.stage ≡ Tail from → I.tail_next c from ≡ x → F.dram (control_after I (tail_or_release x) c) ≡ F.dram c
+  dram_tail : (from : ℕ) (x : Option ℕ) → e.stage ≡ Tail from → I.tail_next c from ≡ x
+      → F.dram (control_after I (tail_or_release x) c) ≡ F.dram c
   dram_tail from None is next = (w.items.releases c from (moment_at D w o k s n sound (Tail from) is).stands next).dram
   dram_tail from (Some j) is next = (w.items.tail c j (passed_tail from j is next).moment.stands (again_tail from j is next)).dram
 
@@ -239,7 +247,8 @@ module _ {C : Type 0} (D : DesignOf C) (w : IsDesign D) (o : Origin) (k : Checkp
   carries_body from None is next = carries_round (Body from) (Write 0) is (at_first D w o k s n sound from is next) refl
   carries_body from (Some j) is next =
       let pass = passed from j is next in
-      Carries-both D e.epoch (Making from) (Making j) (Making (j + 1)) c c (I.body_after c j) n n (after n.writes (action_of F I e (body_or_slot (Some j)) c n) n)
+      Carries-both D e.epoch (Making from) (Making j) (Making (j + 1)) c c (I.body_after c j) n n
+      (after n.writes (action_of F I e (body_or_slot (Some j)) c n) n)
       pass (w.body_carries e.epoch c n j pass.moment (again from j is next))
 
   carries_tail : (from : ℕ) (x : Option ℕ) → e.stage ≡ Tail from → I.tail_next c from ≡ x → To (Tail from) (tail_or_release x)
@@ -249,7 +258,8 @@ module _ {C : Type 0} (D : DesignOf C) (w : IsDesign D) (o : Origin) (k : Checkp
       (w.releases e.epoch c (at_rest n) from over.moment next)
   carries_tail from (Some j) is next =
       let pass = passed_tail from j is next in
-      Carries-both D e.epoch (Applying from) (Applying j) (Applying (j + 1)) c c (I.tail_after c j) n n (after n.writes (action_of F I e (tail_or_release (Some j)) c n) n)
+      Carries-both D e.epoch (Applying from) (Applying j) (Applying (j + 1)) c c (I.tail_after c j) n n
+      (after n.writes (action_of F I e (tail_or_release (Some j)) c n) n)
       pass (w.tail_carries e.epoch c n j pass.moment (again_tail from j is next))
 
   carries : (q : EngineStage) → e.stage ≡ q → is_under_way q ≡ true → is_confirming q ≡ false → To q (item I q c)
@@ -301,7 +311,8 @@ module _ {C : Type 0} (D : DesignOf C) (w : IsDesign D) (o : Origin) (k : Checkp
         (after_same (action_next F I e c n) n n.writes new.writes)
 
     -- a step that is no commit owes no more
-    owed_by : (q : EngineStage) → e.stage ≡ q → is_under_way q ≡ true → is_confirming q ≡ false → OwesAfter (Step q) (scheme_of D) s n (taken D s) new
+    owed_by : (q : EngineStage) → e.stage ≡ q → is_under_way q ≡ true → is_confirming q ≡ false
+        → OwesAfter (Step q) (scheme_of D) s n (taken D s) new
     owed_by q is way unconfirmed =
         owes_if D (Step q) s (taken D s) n new
         (subst (λ (r : EngineStage). D.parts.owed (control_after I (item I r c) c) ≤ D.parts.owed c) (sym is)
@@ -322,7 +333,8 @@ module _ {C : Type 0} (D : DesignOf C) (w : IsDesign D) (o : Origin) (k : Checkp
     pub engines : Engines (scheme_of D) o k (step_of D s) s n (taken D s) new
     engines = record {
       due = due e.stage refl on;
-      sound = same_reads_keep D w o (marks_after (step_of D s) k) (taken D s) (device_taken D s n) new (items_keep_sound D w o k s n sound on) same_then;
+      sound = same_reads_keep D w o (marks_after (step_of D s) k) (taken D s) (device_taken D s n) new
+          (items_keep_sound D w o k s n sound on) same_then;
       keeps = keeps;
       owes = owes e.stage refl on;
       acts = λ lap. record { action = action_next F I e c n; asked = asks lap e.stage refl on; left = left };
@@ -343,7 +355,8 @@ module _ {C : Type 0} (D : DesignOf C) (w : IsDesign D) (o : Origin) (k : Checkp
 
 -- ---- a seal
 
-pub seals : {C : Type 0} (D : DesignOf C) → IsDesign D → (o : Origin) (k : CheckpointMarks) (cpu : CpuState) (epoch : ℕ) (s : Composed C) (n : Device)
+pub seals : {C : Type 0} (D : DesignOf C) → IsDesign D
+    → (o : Origin) (k : CheckpointMarks) (cpu : CpuState) (epoch : ℕ) (s : Composed C) (n : Device)
     → Stands (scheme_of D) o k s n → is_under_way s.engine.stage ≡ false
     → D.parts.pages.promoting s.control ≡ false → D.parts.pages.overlaid s.control ≡ false
     → Seals (scheme_of D) o k cpu epoch s n (sealed D cpu epoch s)

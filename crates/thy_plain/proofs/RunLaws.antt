@@ -24,7 +24,8 @@ pub after_more : (m : Machine) (k : ℕ) → stepped (after_steps k m) ≡ after
 after_more m k = ap (λ (s : State). record m { state = s }) (sym (steps-one_more m.setting k m.state))
 
 -- the count of a machine that runs
-pub count_below : (m now : Machine) (k bound : ℕ) → now ≡ after_steps k m → is_running now.state.status ≡ true → m.state.count + k < bound → now.state.count < bound
+pub count_below : (m now : Machine) (k bound : ℕ) → now ≡ after_steps k m → is_running now.state.status ≡ true → m.state.count + k < bound
+    → now.state.count < bound
 count_below m now k bound is runs below =
     let still : is_running (steps m.setting k m.state).status ≡ true = ap (λ (n : Machine). is_running n.state.status) (sym is) ∙ runs in
     omega (arith, ap (λ (n : Machine). n.state.count) is, steps-count m.setting k m.state still)

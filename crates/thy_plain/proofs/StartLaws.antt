@@ -63,7 +63,8 @@ pub start_other-alone : (p : Parameters) (entry : ℕ) → p.harts ≡ 1 → sta
 start_other-alone p entry one = ap (λ n. if n == 2 then Some (second_hart p entry) else None) one
 
 -- the start can be stored
-pub start_state-storable : (p : Parameters) (image : Contents) → IsNumber (stack_top p) → Fits image → IsStorable (length image.memory) (start_state p image)
+pub start_state-storable : (p : Parameters) (image : Contents) → IsNumber (stack_top p) → Fits image
+    → IsStorable (length image.memory) (start_state p image)
 start_state-storable p image top f = record {
   pc = f.entry;
   registers = length-start_regs p;

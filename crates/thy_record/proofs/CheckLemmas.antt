@@ -26,7 +26,8 @@ pub head_tables : (p : Parameters) (ceiling epoch : ℕ) (slot : List Block) (w 
 head_tables p ceiling epoch slot w bad is same h =
     cc (of_epoch epoch slot w is same)
 
-pub head_status : (p : Parameters) (ceiling epoch : ℕ) (slot : List Block) (w : ℕ) (found : Option BadImage) → w ≡ record_word slot 38 → w ≡ epoch
+pub head_status : (p : Parameters) (ceiling epoch : ℕ) (slot : List Block) (w : ℕ) (found : Option BadImage) → w ≡ record_word slot 38
+    → w ≡ epoch
     → None ≡ tables_fault p (tables_in p slot) → found ≡ status_fault p ceiling slot → found ≡ head_fault p ceiling epoch slot
 head_status p ceiling epoch slot w found is same h k =
     cc (of_epoch epoch slot w is same)
@@ -41,7 +42,9 @@ grouped None None None d e = refl
 
 -- record and tables, then the counts, then the other hart's words
 pub slot_fault-parts : (version : LayoutVersion) (p : Parameters) (ceiling epoch : ℕ) (slot : List Block)
-    → option_or (option_or (head_fault p ceiling epoch slot) (count_fault version p slot)) (second_fault p slot) ≡ slot_fault version p ceiling epoch slot
+    → option_or (option_or (head_fault p ceiling epoch slot) (count_fault version p slot)) (second_fault p slot)
+    ≡ slot_fault version p ceiling epoch slot
 unfolding slot_fault
 slot_fault-parts version p ceiling epoch slot =
-    grouped (epoch_fault epoch slot) (tables_fault p (tables_in p slot)) (status_fault p ceiling slot) (count_fault version p slot) (second_fault p slot)
+    grouped (epoch_fault epoch slot) (tables_fault p (tables_in p slot)) (status_fault p ceiling slot) (count_fault version p slot)
+    (second_fault p slot)

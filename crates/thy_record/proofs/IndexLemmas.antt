@@ -24,7 +24,8 @@ index_at p btt ptt b l = memory_number p (record { btt = btt; ptt = ptt }) b 0 l
 
 -- a list that has them one by one
 index_is : (p : Parameters) (btt ptt : List (Option ℕ)) (index : List ℕ) → length index ≡ memory_blocks p
-    → ((b : ℕ) → b < memory_blocks p → slice_index_or index b 0 ≡ number_of p (place_by_entries (entry_of btt b) (entry_of ptt (page_of b)) b))
+    → ((b : ℕ) → b < memory_blocks p
+    → slice_index_or index b 0 ≡ number_of p (place_by_entries (entry_of btt b) (entry_of ptt (page_of b)) b))
     → index ≡ index_by p btt ptt
 index_is p btt ptt index long each =
     ext_get_or 0 index (index_by p btt ptt) (long ∙ sym (length-index_by p btt ptt))
@@ -56,7 +57,8 @@ module _ (p : Parameters) (btt ptt : List (Option ℕ)) (i : ℕ) (t : ListsOnce
       ≡ number_of p (place_by_entries (entry_of (take (i + 1) btt) b) (entry_of ptt (page_of b)) b)) [
         | inl e ↦
             ap (λ (x : ℕ). slice_index_or (slice_set (index_by p (take i btt) ptt) n (number_of p (AlternateBlock i))) x 0) e
-            ∙ get_or-set_same (index_by p (take i btt) ptt) n (number_of p (AlternateBlock i)) 0 (omega (arith, small, length-index_by p (take i btt) ptt))
+            ∙ get_or-set_same (index_by p (take i btt) ptt) n (number_of p (AlternateBlock i)) 0
+            (omega (arith, small, length-index_by p (take i btt) ptt))
             ∙ sym (ap (λ (o : Option ℕ). number_of p (place_by_entries o (entry_of ptt (page_of b)) b))
             (ap (entry_of (take (i + 1) btt)) e ∙ entry_of-take_here btt i n here (λ k other. t.once k i n other here)))
         | inr ne ↦
@@ -85,7 +87,8 @@ module _ (p : Parameters) (ptt : List (Option ℕ)) (j : ℕ) (t : ListsOnce p.p
   page_by (Some page) h new long has =
       let here : Lists ptt j page = record { is = h } in
       index_is p [] (take (j + 1) ptt) new long
-      (λ b l. elim (cases_eq (page_of b) page) as (λ _. slice_index_or new b 0 ≡ number_of p (place_in_page (entry_of (take (j + 1) ptt) (page_of b)) b)) [
+      (λ b l. elim (cases_eq (page_of b) page)
+      as (λ _. slice_index_or new b 0 ≡ number_of p (place_in_page (entry_of (take (j + 1) ptt) (page_of b)) b)) [
         | inl e ↦
             let at : b ≡ 64 * page + b % 64 = omega (arith, e) in
             ap (λ (x : ℕ). slice_index_or new x 0) at

@@ -47,7 +47,8 @@ long_of_two : (p : Parameters) (n : ℕ) → is_length (image_blocks p) (older_o
 long_of_two p n h = eqb-true n (image_blocks p) h
 
 -- a file has at least the blocks of version 1
-pub long_enough : (p : Parameters) (version : LayoutVersion) (n : ℕ) → is_length (image_blocks p) (older_of p version) n ≡ true → blocks_one p ≤ n
+pub long_enough : (p : Parameters) (version : LayoutVersion) (n : ℕ) → is_length (image_blocks p) (older_of p version) n ≡ true
+    → blocks_one p ≤ n
 long_enough p VersionOne n h = elim (or_cases (n == image_blocks p) (n == blocks_one p) h) as (λ _. blocks_one p ≤ n) [
   | inl whole ↦ let e : n ≡ image_blocks p = eqb-true _ _ whole in omega arith
   | inr old ↦ let e : n ≡ blocks_one p = eqb-true _ _ old in omega arith
@@ -55,7 +56,8 @@ long_enough p VersionOne n h = elim (or_cases (n == image_blocks p) (n == blocks
 long_enough p VersionTwo n h = let e : n ≡ image_blocks p = long_of_two p n h in omega arith
 
 -- a file has at most the blocks of version 2
-pub long_most : (p : Parameters) (version : LayoutVersion) (n : ℕ) → is_length (image_blocks p) (older_of p version) n ≡ true → n ≤ image_blocks p
+pub long_most : (p : Parameters) (version : LayoutVersion) (n : ℕ) → is_length (image_blocks p) (older_of p version) n ≡ true
+    → n ≤ image_blocks p
 long_most p VersionOne n h = elim (or_cases (n == image_blocks p) (n == blocks_one p) h) as (λ _. n ≤ image_blocks p) [
   | inl whole ↦ let e : n ≡ image_blocks p = eqb-true _ _ whole in omega arith
   | inr old ↦ let e : n ≡ blocks_one p = eqb-true _ _ old in omega arith
@@ -72,7 +74,8 @@ slot_inside p VersionTwo n (suc zero) h l = let e : n ≡ image_blocks p = long_
 slot_inside p VersionTwo n (suc (suc s)) h l = absurd (omega arith)
 
 -- byte i of the counts of a slot
-pub count_byte-blocks_of : (p : Parameters) (bytes : List ℕ) (i x : ℕ) → length bytes ≡ 64 * blocks_of_slot VersionTwo p → i < 64 * count_blocks p
+pub count_byte-blocks_of : (p : Parameters) (bytes : List ℕ) (i x : ℕ) → length bytes ≡ 64 * blocks_of_slot VersionTwo p
+    → i < 64 * count_blocks p
     → x ≡ 64 * (record_blocks p + table_blocks p) + i → slice_index_or bytes x 0 ≡ count_byte p (blocks_of bytes) i
 count_byte-blocks_of p bytes i x long l is =
     let at : x ≡ 64 * (record_blocks p + table_blocks p + i / 64) + i % 64 = omega arith in
@@ -107,35 +110,35 @@ least_slot p b = least_with (version_of scheme_number p b) p (one_record p b)
 
 -- ---- the numbers of memory's places
 
-pub length-memory_numbers : (p : Parameters) (t : Tables) → (let xs : List ℕ = memory_numbers p t in length xs) ≡ memory_blocks p
-length-memory_numbers p t =
-    length-map (range_with_len 0 (memory_blocks p)) (λ b. number_of p (place_of t b)) ∙ length-range_with_len 0 (memory_blocks p)
+module _ (p : Parameters) (t : Tables) where
+  pub length-memory_numbers : (let xs : List ℕ = memory_numbers p t in length xs) ≡ memory_blocks p
+  length-memory_numbers =
+      length-map (range_with_len 0 (memory_blocks p)) (λ b. number_of p (place_of t b)) ∙ length-range_with_len 0 (memory_blocks p)
 
--- the k-th is the number of block k's place
-pub memory_number : (p : Parameters) (t : Tables) (k otherwise : ℕ) → k < memory_blocks p
-    → (let xs : List ℕ = memory_numbers p t in get_or xs k otherwise) ≡ number_of p (place_of t k)
-memory_number p t k otherwise l =
-    let plain : 0 + k ≡ k = omega arith in
-    get_or-map (λ b. number_of p (place_of t b)) (range_with_len 0 (memory_blocks p)) k 0 otherwise
-    (omega (arith, length-range_with_len 0 (memory_blocks p)))
-    ∙ ap (λ b. number_of p (place_of t b)) (get_or-range_with_len 0 (memory_blocks p) k 0 l ∙ plain)
+  -- the k-th is the number of block k's place
+  pub memory_number : (k otherwise : ℕ) → k < memory_blocks p
+      → (let xs : List ℕ = memory_numbers p t in get_or xs k otherwise) ≡ number_of p (place_of t k)
+  memory_number k otherwise l =
+      let plain : 0 + k ≡ k = omega arith in
+      get_or-map (λ b. number_of p (place_of t b)) (range_with_len 0 (memory_blocks p)) k 0 otherwise
+      (omega (arith, length-range_with_len 0 (memory_blocks p)))
+      ∙ ap (λ b. number_of p (place_of t b)) (get_or-range_with_len 0 (memory_blocks p) k 0 l ∙ plain)
 
--- each number is the number of a block's place
-memory_number_of : (p : Parameters) (t : Tables) (x : ℕ) → Contains (memory_numbers p t) x
-    → (b : ℕ) × (b < memory_blocks p) × (number_of p (place_of t b) ≡ x)
-memory_number_of p t x (k, l, is) =
-    let inside : k < memory_blocks p = omega (arith, length-memory_numbers p t) in
-    (k, inside, sym (memory_number p t k x inside) ∙ is)
+  -- each number is the number of a block's place
+  memory_number_of : (x : ℕ) → Contains (memory_numbers p t) x → (b : ℕ) × (b < memory_blocks p) × (number_of p (place_of t b) ≡ x)
+  memory_number_of x (k, l, is) =
+      let inside : k < memory_blocks p = omega (arith, length-memory_numbers) in
+      (k, inside, sym (memory_number k x inside) ∙ is)
 
--- memory lies between the slots of version 1 and the slots of version 2
-pub memory_between : (p : Parameters) (t : Tables) (x : ℕ) → IsTables p t → Contains (memory_numbers p t) x → (first_home p ≤ x) × (x < blocks_one p)
-memory_between p t x s inside =
-    let of = memory_number_of p t x inside in
-    let between = between_slots p (place_of t of.0) (IsPlace-place_of p t of.0 s of.1) (in_dram-place_of t of.0) in
-    let low = between.0 in
-    let high = between.1 in
-    let e = of.2 in
-    (subst (λ y. first_home p ≤ y) e low, subst (λ y. y < blocks_one p) e high)
+  -- memory lies between the slots of version 1 and the slots of version 2
+  pub memory_between : (x : ℕ) → IsTables p t → Contains (memory_numbers p t) x → (first_home p ≤ x) × (x < blocks_one p)
+  memory_between x s inside =
+      let of = memory_number_of x inside in
+      let between = between_slots p (place_of t of.0) (IsPlace-place_of p t of.0 s of.1) (in_dram-place_of t of.0) in
+      let low = between.0 in
+      let high = between.1 in
+      let e = of.2 in
+      (subst (λ y. first_home p ≤ y) e low, subst (λ y. y < blocks_one p) e high)
 
 -- a place that no block uses is none of them
 unused_apart : (p : Parameters) (t : Tables) (x : Place) → IsTables p t → IsPlace p x → in_dram x ≡ false → IsUnused p t x
@@ -154,7 +157,8 @@ old_slot_before p (suc (suc s)) k l m = absurd (omega arith)
 pub slot_behind : (p : Parameters) (s k : ℕ) → blocks_one p ≤ slot_place p s + k
 slot_behind p s k = omega arith
 
-slots_apart : (p : Parameters) (s r k i : ℕ) → s < 2 → r < 2 → k < slot_blocks p → i < slot_blocks p → s ≢ r → slot_place p s + k ≢ slot_place p r + i
+slots_apart : (p : Parameters) (s r k i : ℕ) → s < 2 → r < 2 → k < slot_blocks p → i < slot_blocks p → s ≢ r
+    → slot_place p s + k ≢ slot_place p r + i
 slots_apart p zero zero k i l m n o other = λ e. other refl
 slots_apart p zero (suc zero) k i l m n o other = λ e. omega arith
 slots_apart p (suc zero) zero k i l m n o other = λ e. omega arith
@@ -227,7 +231,8 @@ free_of_slot p VersionTwo epoch t (PlaceBlock x) there free k l = λ e.
     let between = (between_slots p x there.0 there.1).1 in
     omega (arith, behind, between, e)
 
-free_of_memory : (p : Parameters) (version : LayoutVersion) (epoch : ℕ) (t : Tables) (x : Target) → IsTables p t → IsTarget p x → IsFree p version epoch t x
+free_of_memory : (p : Parameters) (version : LayoutVersion) (epoch : ℕ) (t : Tables) (x : Target) → IsTables p t → IsTarget p x
+    → IsFree p version epoch t x
     → Contains (memory_numbers p t) (target_number p x) → ⊥
 free_of_memory p version epoch t (SlotBlock s k) tables there free inside =
     let behind = slot_behind p s k in
@@ -240,7 +245,8 @@ module _ (p : Parameters) (image : List Block) (version : LayoutVersion) (epoch 
     (meant : HoldsCheckpoint p image version epoch t) (there : IsTarget p x) (free : IsFree p version epoch t x) where
   not_in_slot : Contains (slot_places (thynvm_layouts p) (block_at image 1)) (target_number p x) → ⊥
   not_in_slot inside =
-      let of = Contains-range (place_of_slot (version_of scheme_number p (block_at image 1)) p (epoch_of (block_at image 1) % 2)) (blocks_of_slot (version_of scheme_number p (block_at image 1)) p)
+      let of = Contains-range (place_of_slot (version_of scheme_number p (block_at image 1)) p (epoch_of (block_at image 1) % 2))
+      (blocks_of_slot (version_of scheme_number p (block_at image 1)) p)
       (target_number p x) inside in
       free_of_slot p version epoch t x there free of.0 (subst (λ f. of.0 < blocks_of_slot f p) meant.of_version of.1)
       (sym (ap (λ f. place_of_slot f p (epoch_of (block_at image 1) % 2) + of.0) meant.of_version
@@ -255,30 +261,30 @@ module _ (p : Parameters) (image : List Block) (version : LayoutVersion) (epoch 
 
 -- ---- how memory is read
 
--- memory as it is read by tables has all its blocks
-pub length-memory_read : (p : Parameters) (t : Tables) (n : Device) → length (memory_read p t n) ≡ memory_blocks p
-length-memory_read p t n = length-map (memory_numbers p t) (newest n) ∙ length-memory_numbers p t
+module _ (p : Parameters) (t : Tables) (n : Device) where
+  -- memory as it is read by tables has all its blocks
+  pub length-memory_read : length (memory_read p t n) ≡ memory_blocks p
+  length-memory_read = length-map (memory_numbers p t) (newest n) ∙ length-memory_numbers p t
 
--- a block of memory as it is read
-pub memory_read-at : (p : Parameters) (t : Tables) (n : Device) (b : ℕ) → b < memory_blocks p
-    → block_at (memory_read p t n) b ≡ newest n (number_of p (place_of t b))
-memory_read-at p t n b l =
-    get_or-map (newest n) (memory_numbers p t) b 0 zero_block (omega (arith, length-memory_numbers p t))
-    ∙ ap (newest n) (memory_number p t b 0 l)
+  -- a block of memory as it is read
+  pub memory_read-at : (b : ℕ) → b < memory_blocks p → block_at (memory_read p t n) b ≡ newest n (number_of p (place_of t b))
+  memory_read-at b l =
+      get_or-map (newest n) (memory_numbers p t) b 0 zero_block (omega (arith, length-memory_numbers p t))
+      ∙ ap (newest n) (memory_number p t b 0 l)
 
--- blocks that are at their places are what is read through the tables
-pub memory_of_places : (p : Parameters) (t : Tables) (n : Device) (memory : List Block) → HasMemory p t n memory → memory_read p t n ≡ memory
-memory_of_places p t n memory has =
-    ext_get_or zero_block (memory_read p t n) memory (length-memory_read p t n ∙ sym has.as_long)
-    (λ b below.
-    let l : b < memory_blocks p = omega (arith, length-memory_read p t n) in
-    memory_read-at p t n b l ∙ has.each b l)
+  -- blocks that are at their places are what is read through the tables
+  pub memory_of_places : (memory : List Block) → HasMemory p t n memory → memory_read p t n ≡ memory
+  memory_of_places memory has =
+      ext_get_or zero_block (memory_read p t n) memory (length-memory_read ∙ sym has.as_long)
+      (λ b below.
+      let l : b < memory_blocks p = omega (arith, length-memory_read) in
+      memory_read-at b l ∙ has.each b l)
 
-pub places_of_memory : (p : Parameters) (t : Tables) (n : Device) (memory : List Block) → memory_read p t n ≡ memory → HasMemory p t n memory
-places_of_memory p t n memory is = record {
-  as_long = ap length (sym is) ∙ length-memory_read p t n;
-  each = λ b l. sym (memory_read-at p t n b l) ∙ ap (λ m. block_at m b) is;
-}
+  pub places_of_memory : (memory : List Block) → memory_read p t n ≡ memory → HasMemory p t n memory
+  places_of_memory memory is = record {
+    as_long = ap length (sym is) ∙ length-memory_read;
+    each = λ b l. sym (memory_read-at b l) ∙ ap (λ m. block_at m b) is;
+  }
 
 -- no block of a slot is one of memory
 pub slot_of_memory : (p : Parameters) (t : Tables) (s k : ℕ) → IsTables p t → Contains (memory_numbers p t) (slot_place p s + k) → ⊥
@@ -323,12 +329,14 @@ below_end : (p : Parameters) (x n : ℕ) → x < blocks_one p → blocks_one p �
 below_end p x n l m = omega arith
 
 -- what lies between the slots of version 1 and the slots of version 2 is in none of them
-slot_apart : (p : Parameters) (version : LayoutVersion) (s k x : ℕ) → s < 2 → k < blocks_of_slot version p → first_home p ≤ x → x < blocks_one p
+slot_apart : (p : Parameters) (version : LayoutVersion) (s k x : ℕ) → s < 2 → k < blocks_of_slot version p → first_home p ≤ x
+    → x < blocks_one p
     → x ≢ place_of_slot version p s + k
 slot_apart p VersionOne s k x l m low high = λ e. let before = (old_slot_before p s k l m).1 in omega (arith, before, low, e)
 slot_apart p VersionTwo s k x l m low high = λ e. let behind = slot_behind p s k in omega (arith, behind, high, e)
 
-has_places : (p : Parameters) (commit : Block) (slot : List Block) → Fits (thynvm_layouts p) commit slot → HasPlaces (thynvm_layouts p) commit slot
+has_places : (p : Parameters) (commit : Block) (slot : List Block) → Fits (thynvm_layouts p) commit slot
+    → HasPlaces (thynvm_layouts p) commit slot
 has_places p commit slot fits =
     let t : Tables = tables_in p slot in
     let tables : IsTables p (tables_in p slot)

@@ -96,7 +96,8 @@ module _ (p : Parameters) (old new : List Block) (h : IsWrittenAnew p old new) w
   count_none : (i : ℕ) → count_byte p new i ≡ 0
   count_none i =
       ap (λ (b : Block). slice_index_or b.0 (i % 64) 0)
-      (block_same (record_blocks p + table_blocks p + i / 64) ∙ get_or_past old (record_blocks p + table_blocks p + i / 64) zero_block (omega (arith, h.short)))
+      (block_same (record_blocks p + table_blocks p + i / 64)
+      ∙ get_or_past old (record_blocks p + table_blocks p + i / 64) zero_block (omega (arith, h.short)))
       ∙ zero_block-at (i % 64)
 
   counts_none : counts_in VersionTwo p new ≡ replicate p.pages 0

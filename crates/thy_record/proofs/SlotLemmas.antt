@@ -57,36 +57,33 @@ table_block_of-entries t k entries is =
 
 -- ---- which block is which
 
-pub slot_block_of-record : (p : Parameters) (cpu : CpuState) (t : Tables) (counts : ℕ → Block) (epoch k : ℕ)
-    → k < record_blocks p → slot_block_of p cpu t counts epoch k ≡ cpu_block_of cpu epoch k
-slot_block_of-record p cpu t counts epoch k l = cc (lt-ltb k (record_blocks p) l)
+module _ (p : Parameters) (cpu : CpuState) (t : Tables) (counts : ℕ → Block) (epoch : ℕ) where
+  pub slot_block_of-record : (k : ℕ) → k < record_blocks p → slot_block_of p cpu t counts epoch k ≡ cpu_block_of cpu epoch k
+  slot_block_of-record k l = cc (lt-ltb k (record_blocks p) l)
 
-pub slot_block_of-table : (p : Parameters) (cpu : CpuState) (t : Tables) (counts : ℕ → Block) (epoch k : ℕ)
-    → k < table_blocks p → slot_block_of p cpu t counts epoch (record_blocks p + k) ≡ table_block_of t k
-slot_block_of-table p cpu t counts epoch k l =
-    let e : record_blocks p + k - record_blocks p ≡ k = omega arith in
-    cc (
-      le-ltb (record_blocks p + k) (record_blocks p) (omega arith),
-      lt-ltb (record_blocks p + k)
-          (record_blocks p + table_blocks p) (omega arith),
-    )
+  pub slot_block_of-table : (k : ℕ) → k < table_blocks p → slot_block_of p cpu t counts epoch (record_blocks p + k) ≡ table_block_of t k
+  slot_block_of-table k l =
+      let e : record_blocks p + k - record_blocks p ≡ k = omega arith in
+      cc (
+        le-ltb (record_blocks p + k) (record_blocks p) (omega arith),
+        lt-ltb (record_blocks p + k)
+            (record_blocks p + table_blocks p) (omega arith),
+      )
 
-pub slot_block_of-count : (p : Parameters) (cpu : CpuState) (t : Tables) (counts : ℕ → Block) (epoch k : ℕ)
-    → slot_block_of p cpu t counts epoch (record_blocks p + table_blocks p + k) ≡ counts k
-slot_block_of-count p cpu t counts epoch k =
-    let at : ℕ = record_blocks p + table_blocks p + k in
-    let e : record_blocks p + table_blocks p + k - (record_blocks p + table_blocks p) ≡ k = omega arith in
-    cc (
-      le-ltb at (record_blocks p) (omega arith),
-      le-ltb at (record_blocks p + table_blocks p)
-          (omega arith),
-    )
+  pub slot_block_of-count : (k : ℕ) → slot_block_of p cpu t counts epoch (record_blocks p + table_blocks p + k) ≡ counts k
+  slot_block_of-count k =
+      let at : ℕ = record_blocks p + table_blocks p + k in
+      let e : record_blocks p + table_blocks p + k - (record_blocks p + table_blocks p) ≡ k = omega arith in
+      cc (
+        le-ltb at (record_blocks p) (omega arith),
+        le-ltb at (record_blocks p + table_blocks p)
+            (omega arith),
+      )
 
-pub BeginsWithRecord-slot : (p : Parameters) (cpu : CpuState) (t : Tables) (counts : ℕ → Block) (epoch : ℕ) (slot : List Block)
-    → IsSlotOf p cpu t counts epoch slot → BeginsWithRecord p cpu epoch slot
-BeginsWithRecord-slot p cpu t counts epoch slot s = record {
-  each = λ k l. s.each k (omega arith) ∙ slot_block_of-record p cpu t counts epoch k l;
-}
+  pub BeginsWithRecord-slot : (slot : List Block) → IsSlotOf p cpu t counts epoch slot → BeginsWithRecord p cpu epoch slot
+  BeginsWithRecord-slot slot s = record {
+    each = λ k l. s.each k (omega arith) ∙ slot_block_of-record k l;
+  }
 
 -- ---- the tables
 
@@ -106,7 +103,8 @@ table_word : (p : Parameters) (t : Tables) (m : ℕ) → IsInRange p → FitBloc
 unfolding table_block_of
 table_word p t m r fit l =
     let words = table_words t in
-    let all : length (table_words t) ≡ p.btt + p.ptt = omega (arith, length-map (t.btt ++ t.ptt) entry_word, length-append t.btt t.ptt, fit.btt_length, fit.ptt_length) in
+    let all : length (table_words t) ≡ p.btt + p.ptt =
+    omega (arith, length-map (t.btt ++ t.ptt) entry_word, length-append t.btt t.ptt, fit.btt_length, fit.ptt_length) in
     let whole : 8 * (m / 8) + m % 8 ≡ m = omega arith in
     let here : slice_index (take 8 (drop (8 * (m / 8)) (table_words t))) (m % 8) ≡ entry_word (entry_at (t.btt ++ t.ptt) m) =
     get_or-take 8 (drop (8 * (m / 8)) (table_words t)) (m % 8) 0 (omega arith)
@@ -145,7 +143,8 @@ entries_back slot first n table long each =
     (λ i below. let l : i < n = omega (arith, same) in entry_at-entries_in slot first n i l ∙ each i l)
 
 -- tables are the same if both their parts are
-pub tables_alike : (a b c d : List (Option ℕ)) → a ≡ c → b ≡ d → (let t : Tables = record { btt = a; ptt = b } in t) ≡ (let u : Tables = record { btt = c; ptt = d } in u)
+pub tables_alike : (a b c d : List (Option ℕ)) → a ≡ c → b ≡ d
+    → (let t : Tables = record { btt = a; ptt = b } in t) ≡ (let u : Tables = record { btt = c; ptt = d } in u)
 tables_alike a b c d h k = cc
 
 -- tables read back as they were written
@@ -173,71 +172,68 @@ FitBlocks-tables p t r s = record {
   ptt = record { each = λ i n l. let small = s.pages i n l in omega arith };
 }
 
-pub tables_in-back : (p : Parameters) (cpu : CpuState) (t : Tables) (counts : ℕ → Block) (epoch : ℕ) (slot : List Block)
-    → IsInRange p → IsTables p t → IsSlotOf p cpu t counts epoch slot → tables_in p slot ≡ t
-tables_in-back p cpu t counts epoch slot r s of =
-    tables_back p t slot r (FitBlocks-tables p t r s)
-    (record { each = λ k l. of.each (record_blocks p + k) (omega arith) ∙ slot_block_of-table p cpu t counts epoch k l })
+module _ (p : Parameters) (cpu : CpuState) (t : Tables) (counts : ℕ → Block) (epoch : ℕ) (slot : List Block) where
+  pub tables_in-back : IsInRange p → IsTables p t → IsSlotOf p cpu t counts epoch slot → tables_in p slot ≡ t
+  tables_in-back r s of =
+      tables_back p t slot r (FitBlocks-tables p t r s)
+      (record { each = λ k l. of.each (record_blocks p + k) (omega arith) ∙ slot_block_of-table p cpu t counts epoch k l })
 
--- ---- the counts
+  -- ---- the counts
 
-count_byte-back : (p : Parameters) (cpu : CpuState) (t : Tables) (counts : ℕ → Block) (epoch : ℕ) (slot : List Block) (i : ℕ)
-    → IsSlotOf p cpu t counts epoch slot → i < 64 * count_blocks p → count_byte p slot i ≡ byte_in counts i
-count_byte-back p cpu t counts epoch slot i of l =
-    ap (λ (b : Block). slice_index_or b.0 (i % 64) 0)
-    (of.each (record_blocks p + table_blocks p + i / 64) (omega arith) ∙ slot_block_of-count p cpu t counts epoch (i / 64))
+  count_byte-back : (i : ℕ) → IsSlotOf p cpu t counts epoch slot → i < 64 * count_blocks p → count_byte p slot i ≡ byte_in counts i
+  count_byte-back i of l =
+      ap (λ (b : Block). slice_index_or b.0 (i % 64) 0)
+      (of.each (record_blocks p + table_blocks p + i / 64) (omega arith) ∙ slot_block_of-count p cpu t counts epoch (i / 64))
 
--- the counts of the pages read back
-pub counts_back : (p : Parameters) (cpu : CpuState) (t : Tables) (counts : ℕ → Block) (epoch : ℕ) (slot : List Block)
-    → IsSlotOf p cpu t counts epoch slot → counts_in VersionTwo p slot ≡ map (byte_in counts) (range_with_len 0 p.pages)
-counts_back p cpu t counts epoch slot of =
-    map-alike_numbers (count_byte p slot) (byte_in counts) p.pages
-    (λ i l. count_byte-back p cpu t counts epoch slot i of (omega arith))
+  -- the counts of the pages read back
+  pub counts_back : IsSlotOf p cpu t counts epoch slot → counts_in VersionTwo p slot ≡ map (byte_in counts) (range_with_len 0 p.pages)
+  counts_back of =
+      map-alike_numbers (count_byte p slot) (byte_in counts) p.pages
+      (λ i l. count_byte-back i of (omega arith))
 
--- no count of a page is at fault in a slot that was written
-count_fault-back : (p : Parameters) (cpu : CpuState) (t : Tables) (counts : ℕ → Block) (epoch : ℕ) (slot : List Block)
-    → AreCounts p counts → IsSlotOf p cpu t counts epoch slot → count_fault VersionTwo p slot ≡ None
-count_fault-back p cpu t counts epoch slot are of =
-    ap (option_map Count) (no_position (is_bad_count p slot) (64 * count_blocks p)
-    (λ i l. fine_count (count_byte p slot i) p.pages i
-    (λ m. subst (λ x. x ≤ 63) (sym (count_byte-back p cpu t counts epoch slot i of l)) (are.within i m))
-    (λ m. count_byte-back p cpu t counts epoch slot i of l ∙ are.rest i m l)))
+  -- no count of a page is at fault in a slot that was written
+  count_fault-back : AreCounts p counts → IsSlotOf p cpu t counts epoch slot → count_fault VersionTwo p slot ≡ None
+  count_fault-back are of =
+      ap (option_map Count) (no_position (is_bad_count p slot) (64 * count_blocks p)
+      (λ i l. fine_count (count_byte p slot i) p.pages i
+      (λ m. subst (λ x. x ≤ 63) (sym (count_byte-back i of l)) (are.within i m))
+      (λ m. count_byte-back i of l ∙ are.rest i m l)))
 
 -- ---- its faults
 
--- a slot that was written has no fault
-pub slot_fault-back : (p : Parameters) (ceiling : ℕ) (cpu : CpuState) (t : Tables) (counts : ℕ → Block) (epoch : ℕ) (slot : List Block)
-    → IsInRange p → IsRecordable p ceiling cpu → IsTables p t → AreCounts p counts → ceiling ≤ 2 ^ 64 → epoch < 2 ^ 64
-    → IsSlotOf p cpu t counts epoch slot → slot_fault VersionTwo p ceiling epoch slot ≡ None
-unfolding slot_fault
-slot_fault-back p ceiling cpu t counts epoch slot r recordable s are most l of =
-    let room : console_room p < 2 ^ 64 = omega arith in
-    let fits = FitsRecord-recordable p ceiling cpu epoch r recordable room most l in
-    let begins = BeginsWithRecord-slot p cpu t counts epoch slot of in
-    both_none _ _ (epoch_fault-back p cpu epoch slot fits begins)
-    (both_none _ _ (ap (tables_fault p) (tables_in-back p cpu t counts epoch slot r s of) ∙ (IsFaultless-tables p t s).none)
-    (both_none _ _ (status_fault-back p ceiling cpu epoch slot recordable fits begins)
-    (both_none _ _ (count_fault-back p cpu t counts epoch slot are of) (second_fault-back p cpu epoch slot fits begins))))
+module _ (p : Parameters) (ceiling : ℕ) (cpu : CpuState) (t : Tables) (counts : ℕ → Block) (epoch : ℕ) (slot : List Block) (r : IsInRange p)
+    (recordable : IsRecordable p ceiling cpu) (s : IsTables p t) (are : AreCounts p counts) (most : ceiling ≤ 2 ^ 64) where
+  -- a slot that was written has no fault
+  pub slot_fault-back : epoch < 2 ^ 64 → IsSlotOf p cpu t counts epoch slot → slot_fault VersionTwo p ceiling epoch slot ≡ None
+  unfolding slot_fault
+  slot_fault-back l of =
+      let room : console_room p < 2 ^ 64 = omega arith in
+      let fits = FitsRecord-recordable p ceiling cpu epoch r recordable room most l in
+      let begins = BeginsWithRecord-slot p cpu t counts epoch slot of in
+      both_none _ _ (epoch_fault-back p cpu epoch slot fits begins)
+      (both_none _ _ (ap (tables_fault p) (tables_in-back p cpu t counts epoch slot r s of) ∙ (IsFaultless-tables p t s).none)
+      (both_none _ _ (status_fault-back p ceiling cpu epoch slot recordable fits begins)
+      (both_none _ _ (count_fault-back p cpu t counts epoch slot are of) (second_fault-back p cpu epoch slot fits begins))))
 
--- a slot that was written reads back whole
-pub slot_back : (p : Parameters) (ceiling : ℕ) (cpu : CpuState) (t : Tables) (counts : ℕ → Block) (epoch : ℕ) (slot : List Block)
-    → IsInRange p → IsRecordable p ceiling cpu → IsTables p t → AreCounts p counts → ceiling ≤ 2 ^ 64 → epoch < 2 ^ 64
-    → IsSlotOf p cpu t counts epoch slot → ReadsBack p ceiling cpu t counts epoch slot
-slot_back p ceiling cpu t counts epoch slot r recordable s are most l of =
-    let room : console_room p < 2 ^ 64 = omega arith in
-    record {
-      cpu_back = cpu_back p cpu epoch slot (FitsRecord-recordable p ceiling cpu epoch r recordable room most l) (BeginsWithRecord-slot p cpu t counts epoch slot of);
-      tables_back = tables_in-back p cpu t counts epoch slot r s of;
-      counts_back = counts_back p cpu t counts epoch slot of;
-      faultless = slot_fault-back p ceiling cpu t counts epoch slot r recordable s are most l of;
-    }
+  -- a slot that was written reads back whole
+  pub slot_back : epoch < 2 ^ 64 → IsSlotOf p cpu t counts epoch slot → ReadsBack p ceiling cpu t counts epoch slot
+  slot_back l of =
+      let room : console_room p < 2 ^ 64 = omega arith in
+      record {
+        cpu_back = cpu_back p cpu epoch slot (FitsRecord-recordable p ceiling cpu epoch r recordable room most l)
+            (BeginsWithRecord-slot p cpu t counts epoch slot of);
+        tables_back = tables_in-back p cpu t counts epoch slot r s of;
+        counts_back = counts_back p cpu t counts epoch slot of;
+        faultless = slot_fault-back l of;
+      }
 
 -- ---- what an image decodes to, by its parts
 
 -- ---- blocks by a list of numbers
 
 pub block_at-slot_in : (p : Parameters) (image : List Block) (k : ℕ) → k < blocks_of_slot (version_of scheme_number p (block_at image 1)) p
-    → block_at (slot_in p image) k ≡ block_at image (place_of_slot (version_of scheme_number p (block_at image 1)) p (epoch_of (block_at image 1) % 2) + k)
+    → block_at (slot_in p image) k ≡ block_at image
+    (place_of_slot (version_of scheme_number p (block_at image 1)) p (epoch_of (block_at image 1) % 2) + k)
 block_at-slot_in p image k l =
     block_at-numbers (block_at image) (place_of_slot (version_of scheme_number p (block_at image 1)) p (epoch_of (block_at image 1) % 2))
     (blocks_of_slot (version_of scheme_number p (block_at image 1)) p) k l
@@ -248,7 +244,8 @@ block_at-slot_in p image k l =
 pub IsSlotOf-written : (p : Parameters) (cpu : CpuState) (t : Tables) (counts : ℕ → Block) (epoch : ℕ) (image : List Block)
     → epoch < 2 ^ 64 → HasCheckpoint p image cpu t counts epoch → IsSlotOf p cpu t counts epoch (slot_in p image)
 IsSlotOf-written p cpu t counts epoch image fits has =
-    let version : version_of scheme_number p (block_at image 1) ≡ VersionTwo = ap (version_of scheme_number p) has.commit ∙ version_of-commit_of scheme_number p epoch in
+    let version : version_of scheme_number p (block_at image 1) ≡ VersionTwo =
+    ap (version_of scheme_number p) has.commit ∙ version_of-commit_of scheme_number p epoch in
     record {
       each = λ k l.
           block_at-slot_in p image k (subst (λ f. k < blocks_of_slot f p) (sym version) l)
@@ -265,7 +262,8 @@ decode-written p ceiling cpu t counts epoch image r recordable s are most below 
     let fits : epoch < 2 ^ 64 = omega arith in
     let room : console_room p < 2 ^ 64 = omega arith in
     let of_epoch : epoch_of (block_at image 1) ≡ epoch = ap epoch_of has.commit ∙ epoch_of-commit_of epoch fits in
-    let version : version_of scheme_number p (block_at image 1) ≡ VersionTwo = ap (version_of scheme_number p) has.commit ∙ version_of-commit_of scheme_number p epoch in
+    let version : version_of scheme_number p (block_at image 1) ≡ VersionTwo =
+    ap (version_of scheme_number p) has.commit ∙ version_of-commit_of scheme_number p epoch in
     let slot = IsSlotOf-written p cpu t counts epoch image fits has in
     decode_by-whole (thynvm_layouts p) ceiling image epoch (state_from p cpu (blocks_at image (memory_numbers p t))) (record {
       committed = ap is_zero has.commit ∙ is_zero-commit_of epoch;
@@ -284,34 +282,33 @@ decode-written p ceiling cpu t counts epoch image r recordable s are most below 
 
 -- ---- what decodes has tables
 
--- in a slot without a fault no part has one
-pub slot_parts : (version : LayoutVersion) (p : Parameters) (ceiling epoch : ℕ) (slot : List Block) → slot_fault version p ceiling epoch slot ≡ None
-    → (epoch_fault epoch slot ≡ None) × (tables_fault p (tables_in p slot) ≡ None) × (status_fault p ceiling slot ≡ None)
-    × (rest_fault version p slot ≡ None)
-unfolding slot_fault
-slot_parts version p ceiling epoch slot none =
-    let parts = neither (epoch_fault epoch slot)
-    (option_or (tables_fault p (tables_in p slot)) (option_or (status_fault p ceiling slot) (rest_fault version p slot))) none in
-    let tables = neither (tables_fault p (tables_in p slot)) (option_or (status_fault p ceiling slot) (rest_fault version p slot)) parts.1 in
-    let status = neither (status_fault p ceiling slot) (rest_fault version p slot) tables.1 in
-    (parts.0, tables.0, status.0, status.1)
+module _ (version : LayoutVersion) (p : Parameters) (ceiling epoch : ℕ) (slot : List Block) where
+  -- in a slot without a fault no part has one
+  pub slot_parts : slot_fault version p ceiling epoch slot ≡ None
+      → (epoch_fault epoch slot ≡ None) × (tables_fault p (tables_in p slot) ≡ None) × (status_fault p ceiling slot ≡ None)
+      × (rest_fault version p slot ≡ None)
+  unfolding slot_fault
+  slot_parts none =
+      let parts = neither (epoch_fault epoch slot)
+      (option_or (tables_fault p (tables_in p slot)) (option_or (status_fault p ceiling slot) (rest_fault version p slot))) none in
+      let tables = neither (tables_fault p (tables_in p slot)) (option_or (status_fault p ceiling slot) (rest_fault version p slot)) parts.1 in
+      let status = neither (status_fault p ceiling slot) (rest_fault version p slot) tables.1 in
+      (parts.0, tables.0, status.0, status.1)
 
--- a slot without a fault has tables that a checkpoint may have
-pub tables_of_slot : (version : LayoutVersion) (p : Parameters) (ceiling epoch : ℕ) (slot : List Block) → slot_fault version p ceiling epoch slot ≡ None
-    → IsTables p (tables_in p slot)
-tables_of_slot version p ceiling epoch slot none =
-    IsTables-faultless p (tables_in p slot) (record {
-      btt_length = length-entries_in slot (8 * record_blocks p) p.btt;
-      ptt_length = length-entries_in slot (8 * record_blocks p + p.btt) p.ptt;
-      none = (slot_parts version p ceiling epoch slot none).1;
-    })
+  -- a slot without a fault has tables that a checkpoint may have
+  pub tables_of_slot : slot_fault version p ceiling epoch slot ≡ None → IsTables p (tables_in p slot)
+  tables_of_slot none =
+      IsTables-faultless p (tables_in p slot) (record {
+        btt_length = length-entries_in slot (8 * record_blocks p) p.btt;
+        ptt_length = length-entries_in slot (8 * record_blocks p + p.btt) p.ptt;
+        none = (slot_parts none).1;
+      })
 
--- a processor without a fault
-pub cpu_of_slot : (version : LayoutVersion) (p : Parameters) (ceiling epoch : ℕ) (slot : List Block) → slot_fault version p ceiling epoch slot ≡ None
-    → cpu_fault p ceiling slot ≡ None
-cpu_of_slot version p ceiling epoch slot none =
-    let parts = slot_parts version p ceiling epoch slot none in
-    both_none _ _ parts.2 (neither (count_fault version p slot) (second_fault p slot) parts.3).1
+  -- a processor without a fault
+  pub cpu_of_slot : slot_fault version p ceiling epoch slot ≡ None → cpu_fault p ceiling slot ≡ None
+  cpu_of_slot none =
+      let parts = slot_parts none in
+      both_none _ _ parts.2 (neither (count_fault version p slot) (second_fault p slot) parts.3).1
 
 pub tables_of_decoded : (p : Parameters) (ceiling : ℕ) (image : List Block) (epoch : ℕ) (state : State)
     → decode_image p ceiling image ≡ At epoch state → IsTables p (tables_in p (slot_in p image))

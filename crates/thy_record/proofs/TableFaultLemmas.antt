@@ -115,7 +115,8 @@ page_beyond_least p t i btt least k l (PageBeyond j page at over) =
 
 index_says : (p : Parameters) (t : Tables) (bad : BadImage) → length t.btt ≡ p.btt → index_fault p t ≡ Some bad → Says p t bad
 index_says p t bad long h =
-    elim (which (first_clash (index_rule 0 (memory_blocks p)) 0 t.btt) (first_clash (index_rule p.btt p.pages) 0 t.ptt) bad h) as (λ _. Says p t bad) [
+    elim (which (first_clash (index_rule 0 (memory_blocks p)) 0 t.btt) (first_clash (index_rule p.btt p.pages) 0 t.ptt) bad h)
+    as (λ _. Says p t bad) [
       | inl btt ↦
           let of = first (index_rule 0 (memory_blocks p)) t.btt bad btt in
           let broken = index_breaks 0 (memory_blocks p) of.entry of.number bad of.breaks in
@@ -149,55 +150,56 @@ page_twice_least p t i btt least j m l (BlockTwice a b block below x y) =
 page_twice_least p t i btt least j m l (PageTwice a b page below x y) =
     twice_asks p.btt t.ptt a b page (least b page (omega arith) y) below x
 
-twice_says : (p : Parameters) (t : Tables) (bad : BadImage) → length t.btt ≡ p.btt → index_fault p t ≡ None → twice_fault p t ≡ Some bad → Says p t bad
-twice_says p t bad long index h =
-    elim (which (first_clash (twice_rule 0 t.btt) 0 t.btt) (first_clash (twice_rule p.btt t.ptt) 0 t.ptt) bad h) as (λ _. Says p t bad) [
-      | inl btt ↦
-          let of = first (twice_rule 0 t.btt) t.btt bad btt in
-          let broken = twice_breaks 0 t.btt of.entry of.number bad of.breaks in
-          let inside = Lists-inside t.btt of.entry of.number of.lists in
-          let is : IsFirstTwice p t broken.0 of.entry = record {
-            here = BlockTwice broken.0 of.entry of.number broken.1 broken.2 of.lists;
-            least = block_twice_least p t of.entry (omega (arith, long, inside)) of.least;
-            none_beyond = none_beyond p t index;
-          } in
-          subst (Says p t) broken.3
-          (subst (λ x. IsFirstTwice p t x (0 + of.entry)) (sym (zero-add broken.0))
-          (subst (IsFirstTwice p t broken.0) (sym (zero-add of.entry)) is))
-      | inr ptt ↦
-          let of = first (twice_rule p.btt t.ptt) t.ptt bad ptt.1 in
-          let broken = twice_breaks p.btt t.ptt of.entry of.number bad of.breaks in
-          let is : IsFirstTwice p t (p.btt + broken.0) (p.btt + of.entry) = record {
-            here = PageTwice broken.0 of.entry of.number broken.1 broken.2 of.lists;
-            least = page_twice_least p t of.entry ptt.0 of.least;
-            none_beyond = none_beyond p t index;
-          } in
-          subst (Says p t) broken.3 is
-    ]
-
-under_says : (p : Parameters) (t : Tables) (bad : BadImage) → index_fault p t ≡ None → twice_fault p t ≡ None → under_fault t ≡ Some bad → Says p t bad
-under_says p t bad index twice h =
-    let of = first (under_rule t.ptt) t.btt bad h in
-    let broken = under_breaks t.ptt of.entry of.number bad of.breaks in
-    let is : IsFirstUnder p t of.entry broken.0 = record {
-      here = record { block = of.number; lists = of.lists; page = broken.1 };
-      least = λ k m l under. under_asks t.ptt k m under.block (of.least k under.block l under.lists) under.page;
-      none_twice = none_twice p t twice;
-      none_beyond = none_beyond p t index;
-    } in
-    subst (Says p t) broken.2 is
-
--- the refusal that is found is so
-pub tables_say : (p : Parameters) (t : Tables) (bad : BadImage) → length t.btt ≡ p.btt → tables_fault p t ≡ Some bad → Says p t bad
-unfolding tables_fault
-tables_say p t bad long h =
-    elim (which (index_fault p t) (option_or (twice_fault p t) (under_fault t)) bad h) as (λ _. Says p t bad) [
-      | inl index ↦ index_says p t bad long index
-      | inr rest ↦ elim (which (twice_fault p t) (under_fault t) bad rest.1) as (λ _. Says p t bad) [
-        | inl twice ↦ twice_says p t bad long rest.0 twice
-        | inr last ↦ under_says p t bad rest.0 last.0 last.1
+module _ (p : Parameters) (t : Tables) (bad : BadImage) where
+  twice_says : length t.btt ≡ p.btt → index_fault p t ≡ None → twice_fault p t ≡ Some bad → Says p t bad
+  twice_says long index h =
+      elim (which (first_clash (twice_rule 0 t.btt) 0 t.btt) (first_clash (twice_rule p.btt t.ptt) 0 t.ptt) bad h) as (λ _. Says p t bad) [
+        | inl btt ↦
+            let of = first (twice_rule 0 t.btt) t.btt bad btt in
+            let broken = twice_breaks 0 t.btt of.entry of.number bad of.breaks in
+            let inside = Lists-inside t.btt of.entry of.number of.lists in
+            let is : IsFirstTwice p t broken.0 of.entry = record {
+              here = BlockTwice broken.0 of.entry of.number broken.1 broken.2 of.lists;
+              least = block_twice_least p t of.entry (omega (arith, long, inside)) of.least;
+              none_beyond = none_beyond p t index;
+            } in
+            subst (Says p t) broken.3
+            (subst (λ x. IsFirstTwice p t x (0 + of.entry)) (sym (zero-add broken.0))
+            (subst (IsFirstTwice p t broken.0) (sym (zero-add of.entry)) is))
+        | inr ptt ↦
+            let of = first (twice_rule p.btt t.ptt) t.ptt bad ptt.1 in
+            let broken = twice_breaks p.btt t.ptt of.entry of.number bad of.breaks in
+            let is : IsFirstTwice p t (p.btt + broken.0) (p.btt + of.entry) = record {
+              here = PageTwice broken.0 of.entry of.number broken.1 broken.2 of.lists;
+              least = page_twice_least p t of.entry ptt.0 of.least;
+              none_beyond = none_beyond p t index;
+            } in
+            subst (Says p t) broken.3 is
       ]
-    ]
+
+  under_says : index_fault p t ≡ None → twice_fault p t ≡ None → under_fault t ≡ Some bad → Says p t bad
+  under_says index twice h =
+      let of = first (under_rule t.ptt) t.btt bad h in
+      let broken = under_breaks t.ptt of.entry of.number bad of.breaks in
+      let is : IsFirstUnder p t of.entry broken.0 = record {
+        here = record { block = of.number; lists = of.lists; page = broken.1 };
+        least = λ k m l under. under_asks t.ptt k m under.block (of.least k under.block l under.lists) under.page;
+        none_twice = none_twice p t twice;
+        none_beyond = none_beyond p t index;
+      } in
+      subst (Says p t) broken.2 is
+
+  -- the refusal that is found is so
+  pub tables_say : length t.btt ≡ p.btt → tables_fault p t ≡ Some bad → Says p t bad
+  unfolding tables_fault
+  tables_say long h =
+      elim (which (index_fault p t) (option_or (twice_fault p t) (under_fault t)) bad h) as (λ _. Says p t bad) [
+        | inl index ↦ index_says p t bad long index
+        | inr rest ↦ elim (which (twice_fault p t) (under_fault t) bad rest.1) as (λ _. Says p t bad) [
+          | inl twice ↦ twice_says long rest.0 twice
+          | inr last ↦ under_says rest.0 last.0 last.1
+        ]
+      ]
 
 -- ---- and none but it is so
 
@@ -225,94 +227,95 @@ twice_before p t i k twice = elim (twice_cases p t i k twice) as (λ _. i < k) [
 same_number : (table : List (Option ℕ)) (k n m : ℕ) → Lists table k n → Lists table k m → n ≡ m
 same_number table k n m a b = let x = a.is in let y = b.is in cc
 
--- of two that list what entry k does the first and the second are a pair as well
-twice_in_order : (p : Parameters) (t : Tables) (i j k : ℕ) → length t.btt ≡ p.btt → ListTwice p t i k → ListTwice p t j k → i < j → ListTwice p t i j
-twice_in_order p t i j k long first second less = elim (twice_cases p t i k first) as (λ _. ListTwice p t i j) [
-  | inl (n, l, x, y) ↦ elim (twice_cases p t j k second) as (λ _. ListTwice p t i j) [
-    | inl (m, l', x', y') ↦ BlockTwice i j n less x (subst (Lists t.btt j) (same_number t.btt k m n y' y) x')
-    | inr (a', b', m, e', f', l', x', y') ↦ let inside = Lists-inside t.btt k n y in absurd (omega arith)
-  ]
-  | inr (a, b, n, e, f, l, x, y) ↦ elim (twice_cases p t j k second) as (λ _. ListTwice p t i j) [
-    | inl (m, l', x', y') ↦ let inside = Lists-inside t.btt k m y' in absurd (omega arith)
-    | inr (a', b', m, e', f', l', x', y') ↦
-        let same : b' ≡ b = omega arith in
-        let number : m ≡ n = same_number t.ptt b m n (subst (λ z. Lists t.ptt z m) same y') y in
-        let pair : ListTwice p t (p.btt + a) (p.btt + a') = PageTwice a a' n (omega arith) x (subst (Lists t.ptt a') number x') in
-        subst (λ z. ListTwice p t z j) (sym e) (subst (ListTwice p t (p.btt + a)) (sym e') pair)
-  ]
-]
-
-one_beyond : (p : Parameters) (t : Tables) (i k : ℕ) → IsFirstBeyond p t i → IsFirstBeyond p t k → i ≡ k
-one_beyond p t i k a b = one_number i k (λ l. b.least i l a.here) (λ l. a.least k l b.here)
-
-one_last : (p : Parameters) (t : Tables) (i j k m : ℕ) → IsFirstTwice p t i k → IsFirstTwice p t j m → k ≡ m
-one_last p t i j k m a b = one_number k m (λ l. b.least i k l a.here) (λ l. a.least j m l b.here)
-
-one_first : (p : Parameters) (t : Tables) (i j k : ℕ) → length t.btt ≡ p.btt → IsFirstTwice p t i k → IsFirstTwice p t j k → i ≡ j
-one_first p t i j k long a b = one_number i j
-    (λ l. b.least i j (twice_before p t j k b.here) (twice_in_order p t i j k long a.here b.here l))
-    (λ l. a.least j i (twice_before p t i k a.here) (twice_in_order p t j i k long b.here a.here l))
-
-one_twice : (p : Parameters) (t : Tables) (i j k m : ℕ) → length t.btt ≡ p.btt → IsFirstTwice p t i k → IsFirstTwice p t j m
-    → TableTwice i k ≡ TableTwice j m
-one_twice p t i j k m long a b =
-    let last = one_last p t i j k m a b in
-    let pair = one_first p t i j k long a (subst (IsFirstTwice p t j) (sym last) b) in
-    ap (λ x. TableTwice x k) pair ∙ ap (TableTwice j) last
-
-one_block : (p : Parameters) (t : Tables) (i j k m : ℕ) → IsFirstUnder p t i j → IsFirstUnder p t k m → i ≡ k
-one_block p t i j k m a b = one_number i k (λ l. b.least i j l a.here) (λ l. a.least k m l b.here)
-
-one_page : (p : Parameters) (t : Tables) (i j m : ℕ) → IsFirstUnder p t i j → IsFirstUnder p t i m → j ≡ m
-one_page p t i j m a b =
-    let same = ap page_of (same_number t.btt i b.here.block a.here.block b.here.lists a.here.lists) in
-    let other = subst (Lists t.ptt m) same b.here.page in
-    one_number j m
-    (λ l. a.none_twice (p.btt + j) (p.btt + m) (PageTwice j m (page_of a.here.block) l a.here.page other))
-    (λ l. a.none_twice (p.btt + m) (p.btt + j) (PageTwice m j (page_of a.here.block) l other a.here.page))
-
-one_under : (p : Parameters) (t : Tables) (i j k m : ℕ) → IsFirstUnder p t i j → IsFirstUnder p t k m → BlockUnderPage i j ≡ BlockUnderPage k m
-one_under p t i j k m a b =
-    let block = one_block p t i j k m a b in
-    let page = one_page p t i j m a (subst (λ x. IsFirstUnder p t x m) (sym block) b) in
-    ap (BlockUnderPage i) page ∙ ap (λ x. BlockUnderPage x m) block
-
-one_refusal : (p : Parameters) (t : Tables) (bad other : BadImage) → length t.btt ≡ p.btt → Says p t bad → Says p t other → bad ≡ other
-one_refusal p t bad other long a b = elim (says_cases p t bad a) as (λ _. bad ≡ other) [
-  | inl (i, e, x) ↦ elim (says_cases p t other b) as (λ _. bad ≡ other) [
-    | inl (k, f, y) ↦ e ∙ ap TableIndex (one_beyond p t i k x y) ∙ sym f
-    | inr (inl (k, m, f, y)) ↦ absurd (y.none_beyond i x.here)
-    | inr (inr (k, m, f, y)) ↦ absurd (y.none_beyond i x.here)
-  ]
-  | inr (inl (i, j, e, x)) ↦ elim (says_cases p t other b) as (λ _. bad ≡ other) [
-    | inl (k, f, y) ↦ absurd (x.none_beyond k y.here)
-    | inr (inl (k, m, f, y)) ↦ e ∙ one_twice p t i k j m long x y ∙ sym f
-    | inr (inr (k, m, f, y)) ↦ absurd (y.none_twice i j x.here)
-  ]
-  | inr (inr (i, j, e, x)) ↦ elim (says_cases p t other b) as (λ _. bad ≡ other) [
-    | inl (k, f, y) ↦ absurd (x.none_beyond k y.here)
-    | inr (inl (k, m, f, y)) ↦ absurd (x.none_twice k m y.here)
-    | inr (inr (k, m, f, y)) ↦ e ∙ one_under p t i j k m x y ∙ sym f
-  ]
-]
-
--- tables of which a refusal is so have a fault
-some_fault : (p : Parameters) (t : Tables) (bad : BadImage) → Says p t bad → tables_fault p t ≡ None → ⊥
-unfolding tables_fault
-some_fault p t bad s h =
-    let whole = neither (index_fault p t) (option_or (twice_fault p t) (under_fault t)) h in
-    let rest = neither (twice_fault p t) (under_fault t) whole.1 in
-    elim (says_cases p t bad s) as (λ _. ⊥) [
-      | inl (i, e, x) ↦ none_beyond p t whole.0 i x.here
-      | inr (inl (i, k, e, x)) ↦ none_twice p t rest.0 i k x.here
-      | inr (inr (i, j, e, x)) ↦ under_asks t.ptt i j x.here.block (unbroken (under_rule t.ptt) t.btt rest.1 i x.here.block x.here.lists) x.here.page
+module _ (p : Parameters) (t : Tables) where
+  -- of two that list what entry k does the first and the second are a pair as well
+  twice_in_order : (i j k : ℕ) → length t.btt ≡ p.btt → ListTwice p t i k → ListTwice p t j k → i < j → ListTwice p t i j
+  twice_in_order i j k long first second less = elim (twice_cases p t i k first) as (λ _. ListTwice p t i j) [
+    | inl (n, l, x, y) ↦ elim (twice_cases p t j k second) as (λ _. ListTwice p t i j) [
+      | inl (m, l', x', y') ↦ BlockTwice i j n less x (subst (Lists t.btt j) (same_number t.btt k m n y' y) x')
+      | inr (a', b', m, e', f', l', x', y') ↦ let inside = Lists-inside t.btt k n y in absurd (omega arith)
     ]
+    | inr (a, b, n, e, f, l, x, y) ↦ elim (twice_cases p t j k second) as (λ _. ListTwice p t i j) [
+      | inl (m, l', x', y') ↦ let inside = Lists-inside t.btt k m y' in absurd (omega arith)
+      | inr (a', b', m, e', f', l', x', y') ↦
+          let same : b' ≡ b = omega arith in
+          let number : m ≡ n = same_number t.ptt b m n (subst (λ z. Lists t.ptt z m) same y') y in
+          let pair : ListTwice p t (p.btt + a) (p.btt + a') = PageTwice a a' n (omega arith) x (subst (Lists t.ptt a') number x') in
+          subst (λ z. ListTwice p t z j) (sym e) (subst (ListTwice p t (p.btt + a)) (sym e') pair)
+    ]
+  ]
 
-found_is : (p : Parameters) (t : Tables) (bad : BadImage) (found : Option BadImage) → length t.btt ≡ p.btt → tables_fault p t ≡ found
-    → Says p t bad → found ≡ Some bad
-found_is p t bad None long h s = absurd (some_fault p t bad s h)
-found_is p t bad (Some other) long h s = ap Some (one_refusal p t other bad long (tables_say p t other long h) s)
+  one_beyond : (i k : ℕ) → IsFirstBeyond p t i → IsFirstBeyond p t k → i ≡ k
+  one_beyond i k a b = one_number i k (λ l. b.least i l a.here) (λ l. a.least k l b.here)
 
--- a refusal that is so is the one that is found
-pub found_of_says : (p : Parameters) (t : Tables) (bad : BadImage) → length t.btt ≡ p.btt → Says p t bad → tables_fault p t ≡ Some bad
-found_of_says p t bad long s = found_is p t bad (tables_fault p t) long refl s
+  one_last : (i j k m : ℕ) → IsFirstTwice p t i k → IsFirstTwice p t j m → k ≡ m
+  one_last i j k m a b = one_number k m (λ l. b.least i k l a.here) (λ l. a.least j m l b.here)
+
+  one_first : (i j k : ℕ) → length t.btt ≡ p.btt → IsFirstTwice p t i k → IsFirstTwice p t j k → i ≡ j
+  one_first i j k long a b = one_number i j
+      (λ l. b.least i j (twice_before p t j k b.here) (twice_in_order i j k long a.here b.here l))
+      (λ l. a.least j i (twice_before p t i k a.here) (twice_in_order j i k long b.here a.here l))
+
+  one_twice : (i j k m : ℕ) → length t.btt ≡ p.btt → IsFirstTwice p t i k → IsFirstTwice p t j m → TableTwice i k ≡ TableTwice j m
+  one_twice i j k m long a b =
+      let last = one_last i j k m a b in
+      let pair = one_first i j k long a (subst (IsFirstTwice p t j) (sym last) b) in
+      ap (λ x. TableTwice x k) pair ∙ ap (TableTwice j) last
+
+  one_block : (i j k m : ℕ) → IsFirstUnder p t i j → IsFirstUnder p t k m → i ≡ k
+  one_block i j k m a b = one_number i k (λ l. b.least i j l a.here) (λ l. a.least k m l b.here)
+
+  one_page : (i j m : ℕ) → IsFirstUnder p t i j → IsFirstUnder p t i m → j ≡ m
+  one_page i j m a b =
+      let same = ap page_of (same_number t.btt i b.here.block a.here.block b.here.lists a.here.lists) in
+      let other = subst (Lists t.ptt m) same b.here.page in
+      one_number j m
+      (λ l. a.none_twice (p.btt + j) (p.btt + m) (PageTwice j m (page_of a.here.block) l a.here.page other))
+      (λ l. a.none_twice (p.btt + m) (p.btt + j) (PageTwice m j (page_of a.here.block) l other a.here.page))
+
+  one_under : (i j k m : ℕ) → IsFirstUnder p t i j → IsFirstUnder p t k m → BlockUnderPage i j ≡ BlockUnderPage k m
+  one_under i j k m a b =
+      let block = one_block i j k m a b in
+      let page = one_page i j m a (subst (λ x. IsFirstUnder p t x m) (sym block) b) in
+      ap (BlockUnderPage i) page ∙ ap (λ x. BlockUnderPage x m) block
+
+  one_refusal : (bad other : BadImage) → length t.btt ≡ p.btt → Says p t bad → Says p t other → bad ≡ other
+  one_refusal bad other long a b = elim (says_cases p t bad a) as (λ _. bad ≡ other) [
+    | inl (i, e, x) ↦ elim (says_cases p t other b) as (λ _. bad ≡ other) [
+      | inl (k, f, y) ↦ e ∙ ap TableIndex (one_beyond i k x y) ∙ sym f
+      | inr (inl (k, m, f, y)) ↦ absurd (y.none_beyond i x.here)
+      | inr (inr (k, m, f, y)) ↦ absurd (y.none_beyond i x.here)
+    ]
+    | inr (inl (i, j, e, x)) ↦ elim (says_cases p t other b) as (λ _. bad ≡ other) [
+      | inl (k, f, y) ↦ absurd (x.none_beyond k y.here)
+      | inr (inl (k, m, f, y)) ↦ e ∙ one_twice i k j m long x y ∙ sym f
+      | inr (inr (k, m, f, y)) ↦ absurd (y.none_twice i j x.here)
+    ]
+    | inr (inr (i, j, e, x)) ↦ elim (says_cases p t other b) as (λ _. bad ≡ other) [
+      | inl (k, f, y) ↦ absurd (x.none_beyond k y.here)
+      | inr (inl (k, m, f, y)) ↦ absurd (x.none_twice k m y.here)
+      | inr (inr (k, m, f, y)) ↦ e ∙ one_under i j k m x y ∙ sym f
+    ]
+  ]
+
+  -- tables of which a refusal is so have a fault
+  some_fault : (bad : BadImage) → Says p t bad → tables_fault p t ≡ None → ⊥
+  unfolding tables_fault
+  some_fault bad s h =
+      let whole = neither (index_fault p t) (option_or (twice_fault p t) (under_fault t)) h in
+      let rest = neither (twice_fault p t) (under_fault t) whole.1 in
+      elim (says_cases p t bad s) as (λ _. ⊥) [
+        | inl (i, e, x) ↦ none_beyond p t whole.0 i x.here
+        | inr (inl (i, k, e, x)) ↦ none_twice p t rest.0 i k x.here
+        | inr (inr (i, j, e, x)) ↦ under_asks t.ptt i j x.here.block
+            (unbroken (under_rule t.ptt) t.btt rest.1 i x.here.block x.here.lists) x.here.page
+      ]
+
+  found_is : (bad : BadImage) (found : Option BadImage) → length t.btt ≡ p.btt → tables_fault p t ≡ found → Says p t bad
+      → found ≡ Some bad
+  found_is bad None long h s = absurd (some_fault bad s h)
+  found_is bad (Some other) long h s = ap Some (one_refusal other bad long (tables_say p t other long h) s)
+
+  -- a refusal that is so is the one that is found
+  pub found_of_says : (bad : BadImage) → length t.btt ≡ p.btt → Says p t bad → tables_fault p t ≡ Some bad
+  found_of_says bad long s = found_is bad (tables_fault p t) long refl s

@@ -127,7 +127,8 @@ module _ (p : Parameters) (ceiling epoch : ℕ) (blocks : ℕ → Block) (t : Ta
           ∙ ap (λ (e : ℕ). At e (state_from p (cpu_of_record p whole_slot) memory)) epoch_is
           ∙ ap (λ (c : CpuState). At epoch (state_from p c memory)) cpu_is
 
-module _ (p : Parameters) (ceiling : ℕ) (cpu : CpuState) (t : Tables) (counts : ℕ → Block) (epoch : ℕ) (range : IsInRange p) (recordable : IsRecordable p ceiling cpu)
+module _ (p : Parameters) (ceiling : ℕ) (cpu : CpuState) (t : Tables) (counts : ℕ → Block) (epoch : ℕ) (range : IsInRange p)
+    (recordable : IsRecordable p ceiling cpu)
     (most : ceiling ≤ 2 ^ 64) (below : epoch < ceiling) (tables : IsTables p t) (counts_are : AreCounts p counts) where
   abbrev slot : List Block
   slot = slot_of (parts_by p cpu t counts epoch)
@@ -146,7 +147,8 @@ module _ (p : Parameters) (ceiling : ℕ) (cpu : CpuState) (t : Tables) (counts 
   pub cpu_is : cpu_of_record p slot ≡ cpu
   cpu_is =
       let room : console_room p < 2 ^ 64 = omega arith in
-      cpu_back p cpu epoch slot (FitsRecord-recordable p ceiling cpu epoch range recordable room most small) (BeginsWithRecord-slot p cpu t counts epoch slot slot_is)
+      cpu_back p cpu epoch slot (FitsRecord-recordable p ceiling cpu epoch range recordable room most small)
+      (BeginsWithRecord-slot p cpu t counts epoch slot slot_is)
 
   slot_faultless : slot_fault VersionTwo p ceiling epoch slot ≡ None
   slot_faultless =
@@ -211,4 +213,5 @@ module _ (p : Parameters) (ceiling epoch : ℕ) (slot : List Block) (most : ceil
         }
 
 pub migration_decodes : MigrationDecodes
-migration_decodes p ceiling n slot epoch memory most below long none header h = is_migrated p ceiling epoch slot most below long none n memory header h
+migration_decodes p ceiling n slot epoch memory most below long none header h =
+    is_migrated p ceiling epoch slot most below long none n memory header h

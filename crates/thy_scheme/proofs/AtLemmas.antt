@@ -33,7 +33,8 @@ at-hart o k hart late mine =
     ∙ fronted-twice hart (step (setting_of o) (fronted hart (at o k)))
 
 -- the instruction of a hart adds one to the count
-pub at-count : (o : Origin) (k hart : ℕ) → o.start.count ≤ k → turn_at o k ≡ hart → (at o k).count ≡ k → runs_at o k ≡ true → (at o (k + 1)).count ≡ k + 1
+pub at-count : (o : Origin) (k hart : ℕ) → o.start.count ≤ k → turn_at o k ≡ hart → (at o k).count ≡ k → runs_at o k ≡ true
+    → (at o (k + 1)).count ≡ k + 1
 at-count o k hart late mine is runs =
     sym (count-fronted hart (at o (k + 1)))
     ∙ ap (λ (s : State). s.count) (at-hart o k hart late mine)
@@ -59,6 +60,7 @@ processor-fronted (suc hart) h memory s is =
     ∙ ap (λ (x : State). without_memory (crossed x)) is
     ∙ ap without_memory (fronted-twice (suc hart) s)
 
-pub processor-from : (p : Parameters) (cpu : CpuState) (blocks : List Block) (s : State) → state_from p cpu blocks ≡ s → state_with cpu [] [] ≡ without_memory s
+pub processor-from : (p : Parameters) (cpu : CpuState) (blocks : List Block) (s : State) → state_from p cpu blocks ≡ s
+    → state_with cpu [] [] ≡ without_memory s
 unfolding state_from
 processor-from p cpu blocks s is = ap without_memory is

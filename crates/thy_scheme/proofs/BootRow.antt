@@ -86,17 +86,18 @@ module _ {S : Type 0} (K : SchemeOf S) (o : Origin) (m : Machine S) (n : Device)
 
 -- ---- the state that the checkpoint makes
 
-status-from : (p : Parameters) (cpu : CpuState) (blocks : List Block) → (state_from p cpu blocks).status ≡ cpu.status
-unfolding state_from
-status-from p cpu blocks = refl
+module _ (p : Parameters) (cpu : CpuState) where
+  status-from : (blocks : List Block) → (state_from p cpu blocks).status ≡ cpu.status
+  unfolding state_from
+  status-from blocks = refl
 
-console-from : (p : Parameters) (cpu : CpuState) (blocks : List Block) → IsSized (new_hart p cpu 0) blocks → length (state_from p cpu blocks).console ≡ cpu.console_len
-unfolding state_from
-console-from p cpu blocks sized = length-console_bytes p blocks cpu.console_len sized.range sized.blocks sized.console
+  console-from : (blocks : List Block) → IsSized (new_hart p cpu 0) blocks → length (state_from p cpu blocks).console ≡ cpu.console_len
+  unfolding state_from
+  console-from blocks sized = length-console_bytes p blocks cpu.console_len sized.range sized.blocks sized.console
 
-current-from : (p : Parameters) (cpu : CpuState) (number : ℕ) (blocks : List Block) → current (new_hart p cpu number) blocks ≡ state_from p cpu blocks
-unfolding current
-current-from p cpu number blocks = refl
+  current-from : (number : ℕ) (blocks : List Block) → current (new_hart p cpu number) blocks ≡ state_from p cpu blocks
+  unfolding current
+  current-from number blocks = refl
 
 -- ---- behind the boot
 
@@ -105,7 +106,8 @@ abbrev in_boot : {S : Type 0} → Origin → Machine S → Machine S
 in_boot o m = record m { phase = Boot; hart = record m.hart { geometry = o.geometry } }
 
 module _ {S : Type 0} (K : SchemeOf S) (o : Origin) (m : Machine S) (cpu : CpuState) (epoch : ℕ) (t : S) (new : Device)
-    (origin : IsOrigin o) (blank : IsBlank m) (booted : IsBooted K o (mark epoch cpu.count) cpu t new) (holds : RunHolds K o (only (mark epoch cpu.count)) t new) where
+    (origin : IsOrigin o) (blank : IsBlank m) (booted : IsBooted K o (mark epoch cpu.count) cpu t new)
+    (holds : RunHolds K o (only (mark epoch cpu.count)) t new) where
   abbrev blocks : List Block
   blocks = (K.holding t new).blocks
 
@@ -122,7 +124,11 @@ module _ {S : Type 0} (K : SchemeOf S) (o : Origin) (m : Machine S) (cpu : CpuSt
   runs_here = ap is_running (sym (status-from o.geometry cpu blocks)) ∙ ap (λ (s : State). is_running s.status) booted.state
 
   console_here : cpu.console_len ≡ length (at o cpu.count).console
-  console_here = sym (console-from o.geometry cpu blocks (record { range = origin.geometry; blocks = holds.memory; console = booted.recordable.console })) ∙ ap (λ (s : State). length s.console) booted.state
+  console_here = sym (console-from o.geometry cpu blocks (record {
+    range = origin.geometry;
+    blocks = holds.memory;
+    console = booted.recordable.console;
+  })) ∙ ap (λ (s : State). length s.console) booted.state
 
   held_here : IsHeld K next new
   held_here = record {
@@ -133,11 +139,13 @@ module _ {S : Type 0} (K : SchemeOf S) (o : Origin) (m : Machine S) (cpu : CpuSt
 
   follows_blocks : Follows o.input (at o cpu.count) (new_hart o.geometry cpu (epoch + 1)) blocks
   follows_blocks =
-      let here : current (new_hart o.geometry cpu (epoch + 1)) blocks ≡ at o cpu.count = current-from o.geometry cpu (epoch + 1) blocks ∙ booted.state in
+      let here : current (new_hart o.geometry cpu (epoch + 1)) blocks ≡ at o cpu.count =
+      current-from o.geometry cpu (epoch + 1) blocks ∙ booted.state in
       record {
         sized = sized;
         current = λ none. here;
-        coming = λ running. next-coming o.input (new_hart o.geometry cpu (epoch + 1)) blocks sized refl running ∙ ap (step (setting_for o.geometry o.input)) here;
+        coming = λ running. next-coming o.input (new_hart o.geometry cpu (epoch + 1)) blocks sized refl running
+            ∙ ap (step (setting_for o.geometry o.input)) here;
       }
 
   paced_here : IsPaced K o.geometry next new
@@ -182,7 +190,8 @@ module _ {S : Type 0} (K : SchemeOf S) (o : Origin) (m : Machine S) (cpu : CpuSt
 
 -- ---- the steps
 
-module _ {S : Type 0} (K : SchemeOf S) (o : Origin) (cycles : ℕ) (m : Machine S) (n : Device) (t : S) (new : Device) (at : At K o cycles (in_boot o m) n) where
+module _ {S : Type 0} (K : SchemeOf S) (o : Origin) (cycles : ℕ) (m : Machine S) (n : Device) (t : S) (new : Device)
+    (at : At K o cycles (in_boot o m) n) where
   boots : IsBooting K o m.scheme n
   boots = record { boots = at.sound.moment.boots; up = at.sound.up }
 
@@ -210,7 +219,8 @@ module _ {S : Type 0} (K : SchemeOf S) (o : Origin) (cycles : ℕ) (m : Machine 
   goes_on b =
       let up = up_after DidBoot n new at.sound.up b.acts in
       let blank = blank_on in
-      let step : CoreStep o (K.boot_view o m.scheme n) DidBoot (K.boot_view o t new) = (boots_phase o (K.boot_view o m.scheme n) shown, b.answers.1) in
+      let step : CoreStep o (K.boot_view o m.scheme n) DidBoot (K.boot_view o t new) =
+      (boots_phase o (K.boot_view o m.scheme n) shown, b.answers.1) in
       let none = boots_spent o (K.boot_view o t new) (at.lawful.boot_holds o t new (record { boots = b.answers.0; up = up })).shown in
       let unsecured : secured m.hart.hand ≡ 0 = ap secured blank.hand in
       let clean = blank.clean in
@@ -246,9 +256,12 @@ module _ {S : Type 0} (K : SchemeOf S) (o : Origin) (cycles : ℕ) (m : Machine 
 
   -- the last step of a boot, by what the cycle is reported to have done
   boots_up : (did : Did) (cpu : CpuState) (epoch : ℕ) → IsBooted K o (mark epoch cpu.count) cpu t new
-      → ActsBy (K.migrates m.scheme) did n new → LeavesDram did n new (K.dram m.scheme) (K.dram t) → CoreStep o (K.boot_view o m.scheme n) did (run_view (running_from cpu epoch t (in_boot o m)))
-      → Queues did (queued_in K m.scheme n) (queued_in K t new) → Ends did (K.boot_left m.scheme) 0 → StridesOn did (K.boot_view o m.scheme n).retired m.idle m.idle
-      → Works did (gauge_of K (in_boot o m) n) (gauge_of K (running_from cpu epoch t (in_boot o m)) new) n new (K.dram m.scheme) (K.dram t) → did ≢ Moved
+      → ActsBy (K.migrates m.scheme) did n new → LeavesDram did n new (K.dram m.scheme) (K.dram t)
+      → CoreStep o (K.boot_view o m.scheme n) did (run_view (running_from cpu epoch t (in_boot o m)))
+      → Queues did (queued_in K m.scheme n) (queued_in K t new) → Ends did (K.boot_left m.scheme) 0
+      → StridesOn did (K.boot_view o m.scheme n).retired m.idle m.idle
+      → Works did (gauge_of K (in_boot o m) n) (gauge_of K (running_from cpu epoch t (in_boot o m)) new) n new (K.dram m.scheme) (K.dram t)
+      → did ≢ Moved
       → ((found : Mark) → (K.boot_view o m.scheme n).done ≡ Some found → K.migrates m.scheme ≡ false → new ≡ n)
       → SimulatesCycle K o cycles did (in_boot o m) n (running_from cpu epoch t (in_boot o m)) new
   boots_up did cpu epoch booted acts dram step queues ends strides works other still =
@@ -258,7 +271,8 @@ module _ {S : Type 0} (K : SchemeOf S) (o : Origin) (cycles : ℕ) (m : Machine 
       let blank = blank_on in
       let holds = at.lawful.run_holds o (only (mark epoch cpu.count)) t new (record { sound = booted.sound; up = up }) in
       let now : view_of K o next new ≡ run_view next = shown_in K o next new runs in
-      let stepped : CoreStep o (K.boot_view o m.scheme n) did (view_of K o next new) = subst (CoreStep o (K.boot_view o m.scheme n) did) (sym now) step in
+      let stepped : CoreStep o (K.boot_view o m.scheme n) did (view_of K o next new) =
+      subst (CoreStep o (K.boot_view o m.scheme n) did) (sym now) step in
       let spent : (view_of K o next new).spent ≡ m.spent = ap (λ (v : View). v.spent) now in
       let none = blank.spent in
       let clean = blank.clean in
@@ -321,7 +335,8 @@ module _ {S : Type 0} (K : SchemeOf S) (o : Origin) (cycles : ℕ) (m : Machine 
       let l = b.answers in
       let v : View = K.boot_view o m.scheme n in
       let written : View = record (loading_view o.start.count) { written = true } in
-      let runs : (if is_running o.start.status then Run else Halt) ≡ Run = ap (λ (s : Status). if is_running s then Run else Halt) (starts_running o.kept at.sound.origin.starts l.fresh) in
+      let runs : (if is_running o.start.status then Run else Halt) ≡ Run =
+      ap (λ (s : Status). if is_running s then Run else Halt) (starts_running o.kept at.sound.origin.starts l.fresh) in
       boots_up DidLoad (cpu_of o.start) 0 l.booted b.acts b.dram
       (record {
         phase = ap (λ (w : View). w.phase) l.view;
@@ -329,9 +344,13 @@ module _ {S : Type 0} (K : SchemeOf S) (o : Origin) (cycles : ℕ) (m : Machine 
         written = ap (λ (w : View). w.written) l.view;
         sealed = ap (λ (w : View). w.sealed) l.view;
         becomes = begins (cpu_of o.start) 0 Run runs
-            ∙ ap (λ (w : View). record w { phase = Run; done = w.sealed; sealed = None; epoch = 1; count = o.start.count; written = false }) (sym l.view);
+            ∙ ap (λ (w : View). record w { phase = Run; done = w.sealed; sealed = None; epoch = 1; count = o.start.count; written = false })
+            (sym l.view);
       })
-      b.queue (let left = b.nearer in omega arith) refl (record { done = tt; left = record { moves = λ e. absurd (cc); owed = λ e. absurd (cc); owed_in_all = λ e. absurd (cc); promotions = λ e. absurd (cc) } }) (λ moved. absurd (cc)) b.still
+      b.queue (let left = b.nearer in omega arith) refl (record {
+        done = tt;
+        left = record { moves = λ e. absurd (cc); owed = λ e. absurd (cc); owed_in_all = λ e. absurd (cc); promotions = λ e. absurd (cc) };
+      }) (λ moved. absurd (cc)) b.still
 
   restarts : (cpu : CpuState) (epoch : ℕ) → BootsOn K o (Restarted cpu epoch) m.scheme n t new
       → SimulatesCycle K o cycles (DidRestart epoch cpu.count) (in_boot o m) n (after_boot o (Restarted cpu epoch) t (in_boot o m)) new
@@ -350,9 +369,13 @@ module _ {S : Type 0} (K : SchemeOf S) (o : Origin) (cycles : ℕ) (m : Machine 
         becomes = begins cpu epoch (phase_at o cpu.count) runs
             ∙ ap (λ (w : View). record w { phase = phase_at o cpu.count; epoch = epoch + 1; count = cpu.count; retired = 0; spent = 0; lap = 0 }) (sym r.view);
       })
-      b.queue (let left = b.nearer in omega arith) refl (record { done = tt; left = record { moves = λ e. absurd (cc); owed = λ e. absurd (cc); owed_in_all = λ e. absurd (cc); promotions = λ e. absurd (cc) } }) (λ moved. absurd (cc)) b.still
+      b.queue (let left = b.nearer in omega arith) refl (record {
+        done = tt;
+        left = record { moves = λ e. absurd (cc); owed = λ e. absurd (cc); owed_in_all = λ e. absurd (cc); promotions = λ e. absurd (cc) };
+      }) (λ moved. absurd (cc)) b.still
 
-  boots_in : (step : BootStep) → BootsOn K o step m.scheme n t new → SimulatesCycle K o cycles (boot_did step) (in_boot o m) n (after_boot o step t (in_boot o m)) new
+  boots_in : (step : BootStep) → BootsOn K o step m.scheme n t new
+      → SimulatesCycle K o cycles (boot_did step) (in_boot o m) n (after_boot o step t (in_boot o m)) new
   boots_in GoesOn b = goes_on b
   boots_in Loaded b = loads b
   boots_in (Restarted cpu epoch) b = restarts cpu epoch b
@@ -364,4 +387,5 @@ boot_simulates {S} K o cycles m n t new step at phase b =
     ap (λ (p : Phase). record m { phase = p; hart = record m.hart { geometry = o.geometry } }) (sym phase)
     ∙ ap (λ (g : Parameters). record m { hart = record m.hart { geometry = g } }) (sym at.sound.geometry) in
     let before : At K o cycles (in_boot o m) n = subst (λ x. At K o cycles x n) (sym here) at in
-    subst (λ (x : Machine S). SimulatesCycle K o cycles (boot_did step) x n (after_boot o step t x) new) here (boots_in K o cycles m n t new before step b)
+    subst (λ (x : Machine S). SimulatesCycle K o cycles (boot_did step) x n (after_boot o step t x) new) here
+    (boots_in K o cycles m n t new before step b)

@@ -26,17 +26,20 @@ use Rattle.thy_scheme.specs.MachineCalls.{after_drain}
 use Rattle.thy_scheme.specs.Rows.{SimulatesCycle, At}
 use Rattle.thy_scheme.proofs.WorkLaws.{booting_no_more, uses_none}
 
-pub view-boot : {S : Type 0} (K : SchemeOf S) (o : Origin) (m : Machine S) (n : Device) → m.phase ≡ Boot → view_of K o m n ≡ K.boot_view o m.scheme n
-view-boot K o m n e = ap (λ phase. view_in K o phase m n) e
+module _ {S : Type 0} (K : SchemeOf S) where
+  pub view-boot : (o : Origin) (m : Machine S) (n : Device) → m.phase ≡ Boot → view_of K o m n ≡ K.boot_view o m.scheme n
+  view-boot o m n e = ap (λ phase. view_in K o phase m n) e
 
-pub sound-boot : {S : Type 0} (K : SchemeOf S) (o : Origin) (cycles : ℕ) (m : Machine S) (n : Device) → Sound K o cycles m n → m.phase ≡ Boot → SoundBoot K o m n
-sound-boot K o cycles m n s e = subst (λ phase. SoundIn K o phase m n) e s.moment
+  pub sound-boot : (o : Origin) (cycles : ℕ) (m : Machine S) (n : Device) → Sound K o cycles m n → m.phase ≡ Boot → SoundBoot K o m n
+  sound-boot o cycles m n s e = subst (λ phase. SoundIn K o phase m n) e s.moment
 
-pub holds-boot : {S : Type 0} (K : SchemeOf S) (l : IsLawful K) (o : Origin) (cycles : ℕ) (m : Machine S) (n : Device) → Sound K o cycles m n → m.phase ≡ Boot → BootHolds K o m.scheme n
-holds-boot K l o cycles m n s e = l.boot_holds o m.scheme n (record { boots = (sound-boot K o cycles m n s e).boots; up = s.up })
+  pub holds-boot : (l : IsLawful K) (o : Origin) (cycles : ℕ) (m : Machine S) (n : Device) → Sound K o cycles m n → m.phase ≡ Boot
+      → BootHolds K o m.scheme n
+  holds-boot l o cycles m n s e = l.boot_holds o m.scheme n (record { boots = (sound-boot o cycles m n s e).boots; up = s.up })
 
-pub small-boot : {S : Type 0} (K : SchemeOf S) (o : Origin) (cycles : ℕ) (m : Machine S) (n : Device) → Sound K o cycles m n → m.phase ≡ Boot → IsSmall cycles (K.boot_view o m.scheme n)
-small-boot K o cycles m n s e = subst (IsSmall cycles) (view-boot K o m n e) s.small
+  pub small-boot : (o : Origin) (cycles : ℕ) (m : Machine S) (n : Device) → Sound K o cycles m n → m.phase ≡ Boot
+      → IsSmall cycles (K.boot_view o m.scheme n)
+  small-boot o cycles m n s e = subst (IsSmall cycles) (view-boot o m n e) s.small
 
 -- nothing is counted in the view of a boot
 pub record IsUncounted (v : View) : Type 0 where
@@ -53,15 +56,19 @@ uncounted-is v w e u = subst IsUncounted (sym e) u
 
 pub uncounted : (o : Origin) (v : View) → IsBootView o v → IsUncounted v
 uncounted o v shown = elim shown as (λ _. IsUncounted v) [
-  | inl found ↦ uncounted-is v (boot_view (Some found.0) None) found.1 (record { phase = refl; spent = refl; retired = refl; lap = refl; over = refl; epoch = refl; count = refl })
+  | inl found ↦ uncounted-is v (boot_view (Some found.0) None) found.1
+      (record { phase = refl; spent = refl; retired = refl; lap = refl; over = refl; epoch = refl; count = refl })
   | inr loads ↦ elim loads.1 as (λ _. IsUncounted v) [
-    | inl e ↦ uncounted-is v (loading_view o.start.count) e (record { phase = refl; spent = refl; retired = refl; lap = refl; over = refl; epoch = refl; count = refl })
-    | inr e ↦ uncounted-is v (record (loading_view o.start.count) { written = true }) e (record { phase = refl; spent = refl; retired = refl; lap = refl; over = refl; epoch = refl; count = refl })
+    | inl e ↦ uncounted-is v (loading_view o.start.count) e
+        (record { phase = refl; spent = refl; retired = refl; lap = refl; over = refl; epoch = refl; count = refl })
+    | inr e ↦ uncounted-is v (record (loading_view o.start.count) { written = true }) e
+        (record { phase = refl; spent = refl; retired = refl; lap = refl; over = refl; epoch = refl; count = refl })
   ]
 ]
 
 -- the next moment, where it boots on
-pub simulates-booting : {S : Type 0} (K : SchemeOf S) (o : Origin) (cycles : ℕ) (did : Did) (m : Machine S) (n : Device) (t : S) (new : Device)
+pub simulates-booting : {S : Type 0} (K : SchemeOf S) (o : Origin) (cycles : ℕ) (did : Did) (m : Machine S) (n : Device)
+    (t : S) (new : Device)
     → At K o cycles m n → m.phase ≡ Boot → did ≢ Moved → new.down ≡ false → K.boots o t new
     → IsSmall (cycles + 1) (K.boot_view o t new) → CoreStep o (K.boot_view o m.scheme n) did (K.boot_view o t new) → Acts did n new
     → LeavesDram did n new (K.dram m.scheme) (K.dram t)
@@ -92,7 +99,8 @@ simulates-booting {S} K o cycles did m n t new at-m phase other up boots small s
           blank = record { agree = blank.agree; reads = blank.reads; clean = blank.clean; hand = blank.hand; spent = blank.spent; lap = blank.lap; idle = blank.idle; begun = blank.begun; last = blank.last };
         });
       };
-      step = subst (λ v. CoreStep o v did (view_of K o (after_drain t m) new)) (sym old-view) (subst (CoreStep o (K.boot_view o m.scheme n) did) (sym new-view) step);
+      step = subst (λ v. CoreStep o v did (view_of K o (after_drain t m) new)) (sym old-view)
+          (subst (CoreStep o (K.boot_view o m.scheme n) did) (sym new-view) step);
       acts = acts_by (K.migrates m.scheme) did n new acts;
       dram = dram;
       pace = record {

@@ -49,7 +49,8 @@ goes_where : (ends runs : Bool) → ends ≡ not runs → (if ends then Halt els
 goes_where ends true e goes = refl
 goes_where ends false e goes = absurd (let halted : (if ends then Halt else Run) ≡ Halt = ap (λ (b : Bool). if b then Halt else Run) e in cc)
 
-module _ {S : Type 0} (K : SchemeOf S) (o : Origin) (cycles : ℕ) (m : Machine S) (n : Device) (t : S) (new : Device) (here : At K o cycles m n) (phase : m.phase ≡ Run) where
+module _ {S : Type 0} (K : SchemeOf S) (o : Origin) (cycles : ℕ) (m : Machine S) (n : Device) (t : S) (new : Device)
+    (here : At K o cycles m n) (phase : m.phase ≡ Run) where
   behind : m.phase ≢ Boot
   behind = runs_behind m.phase phase
 
@@ -72,7 +73,8 @@ module _ {S : Type 0} (K : SchemeOf S) (o : Origin) (cycles : ℕ) (m : Machine 
   HasDone step = GetsDone (Engine step) (gauge_of K m n) (gauge_of K (after_call t m) new) (WritesBlock n new (K.dram m.scheme) (K.dram t))
 
   -- an item of the checkpoint leaves its marks
-  item : (step : EngineStep) → K.is_sound o m.marks t new → Keeps K m.scheme n t new → OwesNoMore K m.scheme n t new → Acts (Engine step) n new → ActsOnDram n new (K.dram m.scheme) (K.dram t)
+  item : (step : EngineStep) → K.is_sound o m.marks t new → Keeps K m.scheme n t new → OwesNoMore K m.scheme n t new
+      → Acts (Engine step) n new → ActsOnDram n new (K.dram m.scheme) (K.dram t)
       → HasDone step → queued_in K t new ≤ queued_in K m.scheme n + 1
       → m.spent + 1 + cycles_left K o.geometry (after_call t m) new < most_spent K o.geometry
       → CoreStep o (run_view m) (Engine step) (busier (run_view m)) → SimulatesCycle K o cycles (Engine step) m n (after_call t m) new
@@ -99,7 +101,8 @@ module _ {S : Type 0} (K : SchemeOf S) (o : Origin) (cycles : ℕ) (m : Machine 
       })
 
   -- after a step that changes marks or phase too, no more is left
-  left_behind : (next : Machine S) (did : Did) → Keeps K m.scheme n next.scheme new → (adds_copies did ≡ false → OwesNoMore K m.scheme n next.scheme new)
+  left_behind : (next : Machine S) (did : Did) → Keeps K m.scheme n next.scheme new
+      → (adds_copies did ≡ false → OwesNoMore K m.scheme n next.scheme new)
       → next.hart ≡ m.hart → next.cache ≡ m.cache → next.begun ≡ m.begun → NoMore K did m n next new
   left_behind next did keeps owes hart cache begun = record {
     moves = λ e.
@@ -137,7 +140,8 @@ module _ {S : Type 0} (K : SchemeOf S) (o : Origin) (cycles : ℕ) (m : Machine 
           numbered = record { epoch = run.numbered.epoch; sealed = run.numbered.sealed; unwritten = λ none. absurd (cc) };
           shown = record { done = run.shown.done; sealed = run.shown.sealed; ends = run.shown.ends };
           ended = record {
-            sealed = λ a same stops. let x = run.ended.sealed a same stops in record { count_is = x.count_is; hand = x.hand; over = x.over; begun = x.begun };
+            sealed = λ a same stops. let x = run.ended.sealed a same stops in
+                record { count_is = x.count_is; hand = x.hand; over = x.over; begun = x.begun };
             halted = λ halt. absurd (cc);
             live = run.ended.live;
           };
@@ -157,7 +161,8 @@ module _ {S : Type 0} (K : SchemeOf S) (o : Origin) (cycles : ℕ) (m : Machine 
       })
 
   -- a step of the engine that makes the last barrier
-  committed : (epoch : ℕ) (s : Mark) → m.marks.sealed ≡ Some s → s.epoch ≡ epoch → m.marks.written ≡ true → Engines K o m.marks (Committed epoch) m.scheme n t new
+  committed : (epoch : ℕ) (s : Mark) → m.marks.sealed ≡ Some s → s.epoch ≡ epoch → m.marks.written ≡ true
+      → Engines K o m.marks (Committed epoch) m.scheme n t new
       → SimulatesCycle K o cycles (DidCommit epoch m.lap) m n (after_engine (Committed epoch) t m) new
   committed epoch s is of written e =
       let next : Machine S = after_engine (Committed epoch) t m in
@@ -206,9 +211,11 @@ module _ {S : Type 0} (K : SchemeOf S) (o : Origin) (cycles : ℕ) (m : Machine 
           laps = refl;
           count = s.count;
           sealed = is ∙ ap (λ (x : ℕ). Some (mark x s.count)) of;
-          becomes = ap (λ p. record (busier (run_view m)) { phase = p; done = Some (unwrap_or m.marks.sealed m.marks.done); sealed = None; written = false })
+          becomes = ap (λ p. record (busier (run_view m))
+              { phase = p; done = Some (unwrap_or m.marks.sealed m.marks.done); sealed = None; written = false })
               (ended_phase m.ends (runs_at o s.count) ends)
-              ∙ ap (λ x. record (busier (run_view m)) { phase = phase_at o s.count; done = x; sealed = None; written = false }) (ap Some done ∙ sym is);
+              ∙ ap (λ x. record (busier (run_view m)) { phase = phase_at o s.count; done = x; sealed = None; written = false })
+              (ap Some done ∙ sym is);
         };
         acts = e.acts m.lap;
         dram = e.dram;
@@ -227,8 +234,10 @@ module _ {S : Type 0} (K : SchemeOf S) (o : Origin) (cycles : ℕ) (m : Machine 
   engine_in Idle way e = absurd e.due
   engine_in Copied way e = item Copied e.sound e.keeps e.owes (e.acts m.lap) e.dram (e.writes refl) e.queue (spends Copied e) (phase, refl)
   engine_in PageBlock way e = item PageBlock e.sound e.keeps e.owes (e.acts m.lap) e.dram (e.writes refl) e.queue (spends PageBlock e) (phase, refl)
-  engine_in StateBlock way e = item StateBlock e.sound e.keeps e.owes (e.acts m.lap) e.dram (e.writes refl) e.queue (spends StateBlock e) (phase, refl)
-  engine_in TableBlock way e = item TableBlock e.sound e.keeps e.owes (e.acts m.lap) e.dram (e.writes refl) e.queue (spends TableBlock e) (phase, refl)
+  engine_in StateBlock way e = item StateBlock e.sound e.keeps e.owes (e.acts m.lap) e.dram (e.writes refl) e.queue
+      (spends StateBlock e) (phase, refl)
+  engine_in TableBlock way e = item TableBlock e.sound e.keeps e.owes (e.acts m.lap) e.dram (e.writes refl) e.queue
+      (spends TableBlock e) (phase, refl)
   engine_in Barrier way e = item Barrier e.sound e.keeps e.owes (e.acts m.lap) e.dram tt e.queue (spends Barrier e) (phase, refl)
   engine_in CommitWritten way e = let d = e.due in commit_written d.0 d.1.0 d.1.1 e
   engine_in (Committed epoch) way e = let d = e.due in committed epoch d.1.0 d.1.1 d.1.2 d.0 e

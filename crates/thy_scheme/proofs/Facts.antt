@@ -15,16 +15,17 @@ use Rattle.thy_scheme.proofs.StallLemmas.{IsClear, clear}
 
 -- ---- the phase
 
-pub view-run : {S : Type 0} (K : SchemeOf S) (o : Origin) (m : Machine S) (n : Device) → m.phase ≡ Run → view_of K o m n ≡ run_view m
-view-run K o m n e = ap (λ phase. view_in K o phase m n) e
+module _ {S : Type 0} (K : SchemeOf S) where
+  pub view-run : (o : Origin) (m : Machine S) (n : Device) → m.phase ≡ Run → view_of K o m n ≡ run_view m
+  view-run o m n e = ap (λ phase. view_in K o phase m n) e
 
-pub sound-run : {S : Type 0} (K : SchemeOf S) (o : Origin) (cycles : ℕ) (m : Machine S) (n : Device) → Sound K o cycles m n → m.phase ≡ Run → SoundRun K o m n
-sound-run K o cycles m n s e = subst (λ phase. SoundIn K o phase m n) e s.moment
+  pub sound-run : (o : Origin) (cycles : ℕ) (m : Machine S) (n : Device) → Sound K o cycles m n → m.phase ≡ Run → SoundRun K o m n
+  sound-run o cycles m n s e = subst (λ phase. SoundIn K o phase m n) e s.moment
 
--- after the boot the scheme holds what it promises of a run
-pub holds-run : {S : Type 0} (K : SchemeOf S) (l : IsLawful K) (o : Origin) (cycles : ℕ) (m : Machine S) (n : Device) → Sound K o cycles m n → m.phase ≡ Run
-    → RunHolds K o m.marks m.scheme n
-holds-run K l o cycles m n s e = l.run_holds o m.marks m.scheme n (record { sound = (sound-run K o cycles m n s e).checkpoints; up = s.up })
+  -- after the boot the scheme holds what it promises of a run
+  pub holds-run : (l : IsLawful K) (o : Origin) (cycles : ℕ) (m : Machine S) (n : Device) → Sound K o cycles m n → m.phase ≡ Run
+      → RunHolds K o m.marks m.scheme n
+  holds-run l o cycles m n s e = l.run_holds o m.marks m.scheme n (record { sound = (sound-run o cycles m n s e).checkpoints; up = s.up })
 
 -- ---- the hart's turn
 
@@ -50,12 +51,15 @@ frees false false e = refl
 frees true true e = refl
 frees true false e = absurd (cc)
 
-pub is-going : {S : Type 0} (K : SchemeOf S) (o : Origin) (cycles : ℕ) (m : Machine S) (n : Device) → At K o cycles m n → HartGoes K o m n → IsGoing K o m
+pub is-going : {S : Type 0} (K : SchemeOf S) (o : Origin) (cycles : ℕ) (m : Machine S) (n : Device) → At K o cycles m n → HartGoes K o m n
+    → IsGoing K o m
 is-going K o cycles m n at turn =
     let run = sound-run K o cycles m n at.sound turn.phase in
     let way = (holds-run K at.lawful o cycles m n at.sound turn.phase).way in
-    let c : IsClear (K.under_way m.scheme) (is_barred K m) (is_some m.hart.epoch.over) (is_some (shortage_of K m)) (has_stopped o m.marks.sealed) (K.promoting m.scheme)
-    = clear (K.under_way m.scheme) (is_barred K m) (is_some m.hart.epoch.over) (is_some (shortage_of K m)) (has_stopped o m.marks.sealed) (K.promoting m.scheme)
+    let c : IsClear (K.under_way m.scheme) (is_barred K m) (is_some m.hart.epoch.over) (is_some (shortage_of K m))
+    (has_stopped o m.marks.sealed) (K.promoting m.scheme)
+    = clear (K.under_way m.scheme) (is_barred K m) (is_some m.hart.epoch.over) (is_some (shortage_of K m)) (has_stopped o m.marks.sealed)
+    (K.promoting m.scheme)
     (subst (λ v. stall_in o Run v (pressure_of K m) ≡ None) (view-run K o m n turn.phase) turn.free) in
     let going = not_some m.hart.epoch.over c.going in
     let lively = stops o m.marks.sealed (λ t. c.lively (way ∙ ap (λ b. b || K.applies m.scheme) t)) in

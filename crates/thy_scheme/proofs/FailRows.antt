@@ -51,7 +51,8 @@ doubt-is : (a b : Action) (k : CheckpointMarks) → a ≡ b → doubt_by a k ≡
 doubt-is a b k is = ap (λ x. doubt_by x k) is
 
 -- the engine's step decides it
-doubt-engine : (lap : ℕ) (step : EngineStep) (k : CheckpointMarks) (a : Action) → Asks (engine_did lap step) a → doubt_by a k ≡ doubt_in (marks_after_fault step k)
+doubt-engine : (lap : ℕ) (step : EngineStep) (k : CheckpointMarks) (a : Action) → Asks (engine_did lap step) a
+    → doubt_by a k ≡ doubt_in (marks_after_fault step k)
 doubt-engine lap Idle k a h = doubt-other a k (not-commit a h)
 doubt-engine lap Copied k a h = doubt-other a k (not-commit a h)
 doubt-engine lap PageBlock k a h = doubt-other a k (not-commit a h)
@@ -64,7 +65,8 @@ doubt-engine lap (Committed epoch) k a h = doubt-is a ActBarrier k h
 -- ---- who doesn't wait may store
 
 -- a hart that the checkpoint bars waits
-not_barred : (way overlaps over short ends : Bool) → (way && ((way && not overlaps) || over || short || ends)) ≡ false → (overlaps || not way) ≡ true
+not_barred : (way overlaps over short ends : Bool) → (way && ((way && not overlaps) || over || short || ends)) ≡ false
+    → (overlaps || not way) ≡ true
 not_barred false true over short ends e = refl
 not_barred false false over short ends e = refl
 not_barred true true over short ends e = refl
@@ -80,7 +82,8 @@ seals_now false rest e = refl
 
 -- ---- of the hart, and of a flush
 
-module _ {S : Type 0} (K : SchemeOf S) (o : Origin) (cycles : ℕ) (m : Machine S) (n new : Device) (at : IsMoment K o cycles m n) (phase : m.phase ≡ Run) where
+module _ {S : Type 0} (K : SchemeOf S) (o : Origin) (cycles : ℕ) (m : Machine S) (n new : Device) (at : IsMoment K o cycles m n)
+    (phase : m.phase ≡ Run) where
   run_is : SoundRun K o m n
   run_is = subst (λ p. SoundIn K o p m n) phase at.sound.moment
 
@@ -97,7 +100,8 @@ module _ {S : Type 0} (K : SchemeOf S) (o : Origin) (cycles : ℕ) (m : Machine 
   free_to_run : waits o (view_of K o m n) (pressure_of K m) ≡ false → is_free_to_run K m.scheme ≡ true
   free_to_run calm =
       let plain : waits o (run_view m) (pressure_of K m) ≡ false = subst (λ v. waits o v (pressure_of K m) ≡ false) view_is calm in
-      not_barred (K.under_way m.scheme) K.overlaps (is_some m.hart.epoch.over) (is_some (shortage_of K m)) (has_stopped o m.marks.sealed && not (K.promoting m.scheme)) plain
+      not_barred (K.under_way m.scheme) K.overlaps (is_some m.hart.epoch.over) (is_some (shortage_of K m))
+      (has_stopped o m.marks.sealed && not (K.promoting m.scheme)) plain
 
   -- what is safe for the marks is so for the view
   safe_for_view : (a : Action) → Safe K.decode o (Some m.marks.done) (doubt_by a m.marks) new
@@ -114,7 +118,11 @@ module _ {S : Type 0} (K : SchemeOf S) (o : Origin) (cycles : ℕ) (m : Machine 
   access_fails did t calm asks access down =
       let stays = at.lawful.stays_sound o m.marks m.scheme n t new stands (free_to_run calm) access.stays in
       record {
-        failed = record { action = access.action; asked = asks_by (K.migrates m.scheme) did access.action (asks access.action access.access); failed = access.fails down };
+        failed = record {
+          action = access.action;
+          asked = asks_by (K.migrates m.scheme) did access.action (asks access.action access.access);
+          failed = access.fails down;
+        };
         safe = safe_after_other access.action (not-commit access.action access.access) stays.safe;
         of_geometry = at.lawful.stays_of m.scheme n t new access.stays o.geometry (at.lawful.run_holds o m.marks m.scheme n stands).of_geometry;
         still = λ found r current. absurd (not_booting r.phase);
@@ -123,13 +131,15 @@ module _ {S : Type 0} (K : SchemeOf S) (o : Origin) (cycles : ℕ) (m : Machine 
 pub hart_fails : {S : Type 0} (K : SchemeOf S) → HartFails K
 hart_fails K o cycles m n t new at goes access down =
     access_fails K o cycles m n new at goes.phase Moved t
-    (goes_on (waits o (view_of K o m n) (pressure_of K m)) (if is_some (view_of K o m n).over || K.promoting m.scheme then Some Sealing else None) goes.free)
+    (goes_on (waits o (view_of K o m n) (pressure_of K m))
+    (if is_some (view_of K o m n).over || K.promoting m.scheme then Some Sealing else None) goes.free)
     (λ a h. h) access down
 
 pub flush_fails : {S : Type 0} (K : SchemeOf S) → FlushFails K
 flush_fails K o cycles m n t new at sealing access down =
     access_fails K o cycles m n new at sealing.phase Flushed t
-    (seals_now (waits o (view_of K o m n) (pressure_of K m)) (if is_some (view_of K o m n).over || K.promoting m.scheme then Some Sealing else None) sealing.stalled)
+    (seals_now (waits o (view_of K o m n) (pressure_of K m))
+    (if is_some (view_of K o m n).over || K.promoting m.scheme then Some Sealing else None) sealing.stalled)
     (λ a h. h) access down
 
 -- ---- of a read, of the engine, of the boot and of a drain
@@ -150,9 +160,14 @@ engine_leaves K o cycles m n t new at phase e left =
     let holds = at.lawful.run_holds o m.marks m.scheme n (stands K o cycles m n new at phase) in
     let acted = e.acted m.lap in
     record {
-      failed = record { action = acted.action; asked = asks_by (K.migrates m.scheme) (engine_did m.lap e.step) acted.action acted.asked; failed = acted.failed };
+      failed = record {
+        action = acted.action;
+        asked = asks_by (K.migrates m.scheme) (engine_did m.lap e.step) acted.action acted.asked;
+        failed = acted.failed;
+      };
       safe = safe_for_view K o cycles m n new at phase acted.action
-          (subst (λ (d : Option Mark). Safe K.decode o (Some m.marks.done) d new) (sym (doubt-engine m.lap e.step m.marks acted.action acted.asked)) e.safe);
+          (subst (λ (d : Option Mark). Safe K.decode o (Some m.marks.done) d new)
+          (sym (doubt-engine m.lap e.step m.marks acted.action acted.asked)) e.safe);
       of_geometry = left o.geometry holds.of_geometry;
       still = λ found r current. absurd (not_booting K o cycles m n new at phase r.phase);
     }
@@ -166,7 +181,8 @@ boot_leaves K o cycles m n t new at phase b left = record {
 }
 
 -- a scheme is of the run's geometry in each phase
-geometry_in : {S : Type 0} (K : SchemeOf S) (o : Origin) (m : Machine S) (n : Device) (phase : Phase) → IsLawful K → n.down ≡ false → SoundIn K o phase m n
+geometry_in : {S : Type 0} (K : SchemeOf S) (o : Origin) (m : Machine S) (n : Device) (phase : Phase) → IsLawful K → n.down ≡ false
+    → SoundIn K o phase m n
     → K.is_of o.geometry m.scheme
 geometry_in K o m n Boot lawful up s = (lawful.boot_holds o m.scheme n (record { boots = s.boots; up = up })).of_geometry
 geometry_in K o m n Run lawful up s = (lawful.run_holds o m.marks m.scheme n (record { sound = s.checkpoints; up = up })).of_geometry

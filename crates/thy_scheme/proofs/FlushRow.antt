@@ -167,7 +167,8 @@ flush_simulates {S} K = λ o cycles m n c t new flushed at sealing whole f.
         numbered = record { epoch = s.numbered.epoch; sealed = s.numbered.sealed; unwritten = s.numbered.unwritten };
         shown = record { done = s.shown.done; sealed = s.shown.sealed; ends = s.shown.ends };
         ended = record {
-          sealed = λ a is stops. let e = s.ended.sealed a is stops in record { count_is = e.count_is; hand = e.hand; over = e.over; begun = e.begun };
+          sealed = λ a is stops. let e = s.ended.sealed a is stops in
+              record { count_is = e.count_is; hand = e.hand; over = e.over; begun = e.begun };
           halted = λ is. let e = s.ended.halted is in (record { count_is = e.0.count_is; hand = e.0.hand; over = e.0.over; begun = e.0.begun }, e.1);
           live = s.ended.live;
         };

@@ -43,14 +43,16 @@ module _ (input : List ℕ) (h : HartState) (memory : List Block) (sized : IsSiz
   calls_same : call_state_of (setting_for h.geometry input) (state_from h.geometry h.cpu memory) ≡ calls_in h.geometry h.cpu (length input)
   unfolding state_from
   calls_same =
-      ap (λ n. calls_with n (length (memory_bytes h.geometry memory))) (length-console_bytes h.geometry memory h.cpu.console_len sized.range sized.blocks sized.console)
+      ap (λ n. calls_with n (length (memory_bytes h.geometry memory)))
+      (length-console_bytes h.geometry memory h.cpu.console_len sized.range sized.blocks sized.console)
       ∙ ap (calls_with h.cpu.console_len) (length-memory_bytes h.geometry memory sized.blocks)
 
   regs_same : (state_from h.geometry h.cpu memory).regs ≡ h.cpu.regs
   unfolding state_from
   regs_same = refl
 
-  stored_there : (o : Origin) → o.geometry ≡ h.geometry → o.input ≡ input → stored_by o (state_from h.geometry h.cpu memory) ≡ stored_in input h memory
+  stored_there : (o : Origin) → o.geometry ≡ h.geometry → o.input ≡ input
+      → stored_by o (state_from h.geometry h.cpu memory) ≡ stored_in input h memory
   unfolding stored_by
   stored_there o geometry same =
       let s : State = state_from h.geometry h.cpu memory in
@@ -66,7 +68,8 @@ unfolding current
 current-is h memory = refl
 
 -- with nothing in hand it is at the plain machine's state
-stored_next : (o : Origin) (h : HartState) (memory : List Block) (now : State) → o.geometry ≡ h.geometry → Follows o.input now h memory → h.hand ≡ Nothing
+stored_next : (o : Origin) (h : HartState) (memory : List Block) (now : State) → o.geometry ≡ h.geometry → Follows o.input now h memory
+    → h.hand ≡ Nothing
     → stored_by o now ≡ stored_in o.input h memory
 stored_next o h memory now geometry f none =
     let here : now ≡ state_from h.geometry h.cpu memory = sym (f.current (ap has_written none)) ∙ current-is h memory in
@@ -78,12 +81,14 @@ begun_writes : (stored : Span) (e : Effect) (from to : Span) → to ≡ stored �
 unfolding begun
 begun_writes stored e from to is = by_len (from.len == 0) (to.len == 0) refl
   where
-    by_len : (a b : Bool) → (to.len == 0) ≡ b → IsToWrite stored (if a then (if b then Retiring e false else Securing e to) else Reading e from to)
+    by_len : (a b : Bool) → (to.len == 0) ≡ b
+        → IsToWrite stored (if a then (if b then Retiring e false else Securing e to) else Reading e from to)
     by_len true true none = tt
     by_len true false some = (is, some)
     by_len false b some = is
 
-fetched_writes : (stored : Span) (input : List ℕ) (memory : List Block) (h : HartState) → stored ≡ stored_in input h memory → IsToWrite stored (fetched input memory h).hand
+fetched_writes : (stored : Span) (input : List ℕ) (memory : List Block) (h : HartState) → stored ≡ stored_in input h memory
+    → IsToWrite stored (fetched input memory h).hand
 unfolding fetched
 fetched_writes stored input memory h is =
     let e = effect_in h.geometry h.cpu memory in
@@ -95,7 +100,8 @@ secured_writes : (stored : Span) (free : ℕ) (way : Bool) (dirty : ℕ) (e : Ef
 unfolding room_secured
 secured_writes stored free way dirty e to h w = by_room (is_short free dirty to) way
   where
-    by_room : (short under : Bool) → IsToWrite stored (if short then (if under then h else dropped (exhausted free dirty (blocks_of to) h.epoch) h) else record h { hand = Writing e to 0 }).hand
+    by_room : (short under : Bool)
+        → IsToWrite stored (if short then (if under then h else dropped (exhausted free dirty (blocks_of to) h.epoch) h) else record h { hand = Writing e to 0 }).hand
     by_room true true = w
     by_room true false = tt
     by_room false under = tt
@@ -108,7 +114,8 @@ written_writes stored e to done = by_len (to.len == 0)
     by_len true = tt
     by_len false = tt
 
-acted_writes : (stored : Span) (g : Given) (dirty : ℕ) (memory : List Block) (h : HartState) (hand : Hand) → h.hand ≡ hand → IsToWrite stored hand
+acted_writes : (stored : Span) (g : Given) (dirty : ℕ) (memory : List Block) (h : HartState) (hand : Hand) → h.hand ≡ hand
+    → IsToWrite stored hand
     → (hand ≡ Nothing → stored ≡ stored_in g.input h memory) → IsToWrite stored (acted_by g dirty memory h hand).hand
 acted_writes stored g dirty memory h Nothing is w next = fetched_writes stored g.input memory h (next refl)
 acted_writes stored g dirty memory h (Reading e from to) is w next = begun_writes stored e (rest_of from) to w
@@ -127,6 +134,7 @@ hand_writes o g m now geometry input f w = by_line (brings_line m)
     acted = acted_writes (stored_by o now) g (dirty_count m.cache) (memory_of m) m.hart m.hart.hand refl w
         (λ none. stored_next o m.hart (memory_of m) now geometry f none ∙ ap (λ i. stored_in i m.hart (memory_of m)) (sym input))
 
-    by_line : (b : Bool) → IsToWrite (stored_by o now) (if b then m.hart else acted_by g (dirty_count m.cache) (memory_of m) m.hart m.hart.hand).hand
+    by_line : (b : Bool)
+        → IsToWrite (stored_by o now) (if b then m.hart else acted_by g (dirty_count m.cache) (memory_of m) m.hart m.hart.hand).hand
     by_line true = w
     by_line false = acted

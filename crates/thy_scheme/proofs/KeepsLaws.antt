@@ -229,7 +229,8 @@ module _ {S : Type 0} (K : SchemeOf S) (m next : Machine S) (n new : Device)
     start = subst (λ (x : HartState). o.start.count ≤ x.cpu.count) (sym hart) c.start;
     count = subst (λ (x : HartState). (at o x.cpu.count).count ≡ x.cpu.count) (sym hart) c.count;
     processor = subst (λ b. state_with (cpu_fronted (front_of b) next.hart.cpu) [] [] ≡ without_memory (at o next.hart.cpu.count)) (sym begun)
-        (subst (λ (x : HartState). state_with (cpu_fronted (front_of m.begun) x.cpu) [] [] ≡ without_memory (at o x.cpu.count)) (sym hart) c.processor);
+        (subst (λ (x : HartState). state_with (cpu_fronted (front_of m.begun) x.cpu) [] [] ≡ without_memory (at o x.cpu.count))
+        (sym hart) c.processor);
     running = subst (λ (x : HartState). is_running x.cpu.status ≡ runs_at o x.cpu.count) (sym hart) c.running;
   }
 

@@ -86,7 +86,8 @@ powered_on K l o k m n s on empty =
     let moment : SoundBoot K o m n = subst (λ p. SoundIn K o p m n) on.phase s.moment in
     let shown = (l.boot_holds o m.scheme n (record { boots = moment.boots; up = s.up })).shown in
     let phase : (view_of K o m n).phase ≡ Boot = ap (λ p. (view_in K o p m n).phase) on.phase ∙ boots_phase o (K.boot_view o m.scheme n) shown in
-    let own : own_left (most_spent K o.geometry) (view_of K o m n).phase (view_of K o m n) (gauge_of K m n) ≡ boot_left_in K m.phase m + 2 * most_spent K o.geometry =
+    let own : own_left (most_spent K o.geometry) (view_of K o m n).phase (view_of K o m n) (gauge_of K m n)
+    ≡ boot_left_in K m.phase m + 2 * most_spent K o.geometry =
     ap (λ p. own_left (most_spent K o.geometry) p (view_of K o m n) (gauge_of K m n)) phase in
     record {
       queued = omega (arith, none, queued);
@@ -160,7 +161,8 @@ module _ {S : Type 0} (K : SchemeOf S) (o : Origin) (m : Machine S) (n : Device)
   moves_few Run (Some cause) begun x = omega arith
   moves_few Halt over begun x = omega arith
 
-  few_run : (phase : Phase) → phase ≢ Boot → SoundRun K o m n → IsWithin (K.most_owed o.geometry) (K.most_promotions o.geometry) (gauge_in K phase m n)
+  few_run : (phase : Phase) → phase ≢ Boot → SoundRun K o m n
+      → IsWithin (K.most_owed o.geometry) (K.most_promotions o.geometry) (gauge_in K phase m n)
   few_run phase behind run =
       let b = (holds run).bounded in
       let owed = number_behind phase (K.holding m.scheme n).owed behind in
@@ -176,7 +178,11 @@ module _ {S : Type 0} (K : SchemeOf S) (o : Origin) (m : Machine S) (n : Device)
 
   -- while no instruction is begun none is in hand, so nothing is secured, and none has secured
   counts_by : (m.begun ≡ None → m.hart.hand ≡ Nothing) → CountsLines (pressure_of K m) (gauge_of K m n)
-  counts_by rests = record { lines = omega arith; unsecured = λ none. omega (arith, ap secured (rests none)); unmarked = λ none. ap has_secured (rests none) }
+  counts_by rests = record {
+    lines = omega arith;
+    unsecured = λ none. omega (arith, ap secured (rests none));
+    unmarked = λ none. ap has_secured (rests none);
+  }
 
   -- ---- in each phase
 
@@ -187,7 +193,8 @@ module _ {S : Type 0} (K : SchemeOf S) (o : Origin) (m : Machine S) (n : Device)
 
   short_in : (phase : Phase) (s : Shortage) → SoundIn K o phase m n → shortage_of K m ≡ Some s
       → IsShortage o (view_in K o phase m n) m.begun (gauge_of K m n) s
-  short_in Boot s booting e = absurd (let none : shortage_of K m ≡ None = ap (short_of (K.free m.scheme) (dirty_count m.cache)) booting.blank.hand in cc)
+  short_in Boot s booting e =
+      absurd (let none : shortage_of K m ≡ None = ap (short_of (K.free m.scheme) (dirty_count m.cache)) booting.blank.hand in cc)
   short_in Run s run e = short_run s run e
   short_in Halt s run e = short_run s run e
 

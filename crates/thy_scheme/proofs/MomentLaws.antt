@@ -18,25 +18,25 @@ use Rattle.thy_scheme.specs.Runs.{LeadsToMoment}
 use Rattle.thy_scheme.specs.Sound.{Sound, IsAt}
 
 -- along the run's own turns
-pub sound-here : {S : Type 0} (K : SchemeOf S) (o : Origin) (cycles : ℕ) (m : Machine S) (n : Device) → IsAt K o cycles m n → Sound K o cycles m n
+pub sound-here : {S : Type 0} (K : SchemeOf S) (o : Origin) (cycles : ℕ) (m : Machine S) (n : Device) → IsAt K o cycles m n
+    → Sound K o cycles m n
 sound-here K o cycles m n at = at o.turns (AgreeBelow-same o (reach (view_of K o m n)))
 
--- what a machine shows is the same along other turns
-alike-in : {S : Type 0} (K : SchemeOf S) → IsLawful K → (o : Origin) (turns : List ℕ) (m : Machine S) (n : Device) (phase : Phase)
-    → view_in K (with_turns o turns) phase m n ≡ view_in K o phase m n
-alike-in K l o turns m n Boot = l.boot_alike o turns m.scheme n
-alike-in K l o turns m n Run = refl
-alike-in K l o turns m n Halt = refl
+module _ {S : Type 0} (K : SchemeOf S) (l : IsLawful K) (o : Origin) (turns : List ℕ) (m : Machine S) (n : Device) where
+  -- what a machine shows is the same along other turns
+  alike-in : (phase : Phase) → view_in K (with_turns o turns) phase m n ≡ view_in K o phase m n
+  alike-in Boot = l.boot_alike o turns m.scheme n
+  alike-in Run = refl
+  alike-in Halt = refl
 
-pub view-alike : {S : Type 0} (K : SchemeOf S) → IsLawful K → (o : Origin) (turns : List ℕ) (m : Machine S) (n : Device)
-    → view_of K (with_turns o turns) m n ≡ view_of K o m n
-view-alike K l o turns m n = alike-in K l o turns m n m.phase
+  pub view-alike : view_of K (with_turns o turns) m n ≡ view_of K o m n
+  view-alike = alike-in m.phase
 
-pub seen-alike : {S : Type 0} (K : SchemeOf S) → IsLawful K → (o : Origin) (turns : List ℕ) (m : Machine S) (n : Device) → IsSeenAlike (kind_over K) o turns m n
-seen-alike K l o turns m n = record {
-  view = view-alike K l o turns m n;
-  ahead = ap (λ (v : View). left_ahead (most_spent K o.geometry) v (gauge_of K m n)) (view-alike K l o turns m n);
-}
+  pub seen-alike : IsSeenAlike (kind_over K) o turns m n
+  seen-alike = record {
+    view = view-alike;
+    ahead = ap (λ (v : View). left_ahead (most_spent K o.geometry) v (gauge_of K m n)) view-alike;
+  }
 
 pub is_at-agrees : {S : Type 0} (K : SchemeOf S) → IsLawful K → (o : Origin) (turns : List ℕ) (cycles : ℕ) (m : Machine S) (n : Device)
     → IsAt K o cycles m n → AgreeBelow o turns (reach (view_of K o m n)) → IsAt K (with_turns o turns) cycles m n

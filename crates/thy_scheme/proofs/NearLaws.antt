@@ -24,7 +24,8 @@ idle_none : (most retired : ℕ) (idle : Bool) → retired ≡ 0 → idle_left m
 idle_none most retired idle none = grind arith
 
 -- after a seal one epoch less may be idle
-idle_sealed : (most retired : ℕ) (old new : Bool) → (old ≡ true → 1 ≤ retired) → new ≡ (retired == 0) → idle_left most 0 new + most ≤ idle_left most retired old
+idle_sealed : (most retired : ℕ) (old new : Bool) → (old ≡ true → 1 ≤ retired) → new ≡ (retired == 0)
+    → idle_left most 0 new + most ≤ idle_left most retired old
 idle_sealed most zero true new some is = absurd (let n : 1 ≤ 0 = some refl in omega arith)
 idle_sealed most zero false new some is = let e : idle_left most 0 new ≡ 0 = ap (idle_left most 0) is in omega arith
 idle_sealed most (suc retired) old new some is =
@@ -51,44 +52,54 @@ module _ (most : ℕ) (v next : View) (old new : Gauge) (spent : next.spent < mo
   running phase = ap (λ p. own_left most p v old) phase
 
   -- one cycle more was spent, at the end too
-  spends : (runs : Bool) → v.phase ≡ Run → next.phase ≡ (if runs then Run else Halt) → next.spent ≡ v.spent + 1 → next.retired ≡ v.retired → new.idle ≡ old.idle
+  spends : (runs : Bool) → v.phase ≡ Run → next.phase ≡ (if runs then Run else Halt) → next.spent ≡ v.spent + 1 → next.retired ≡ v.retired
+      → new.idle ≡ old.idle
       → own_left most next.phase next new + 1 ≤ own_left most v.phase v old
   spends runs phase becomes more same idle =
       let before = running phase in
-      let behind : own_left most next.phase next new ≡ own_left most (if runs then Run else Halt) next new = ap (λ p. own_left most p next new) becomes in
+      let behind : own_left most next.phase next new ≡ own_left most (if runs then Run else Halt) next new =
+      ap (λ p. own_left most p next new) becomes in
       let most_left = ended_most most runs next new in
-      let rest : idle_left most next.retired new.idle ≡ idle_left most v.retired old.idle = ap (λ r. idle_left most r new.idle) same ∙ ap (idle_left most v.retired) idle in
+      let rest : idle_left most next.retired new.idle ≡ idle_left most v.retired old.idle =
+      ap (λ r. idle_left most r new.idle) same ∙ ap (idle_left most v.retired) idle in
       omega arith
 
   -- the boot goes on
-  boots_on : v.phase ≡ Boot → next.phase ≡ Boot → new.boot_left + 1 ≤ old.boot_left → own_left most next.phase next new + 1 ≤ own_left most v.phase v old
+  boots_on : v.phase ≡ Boot → next.phase ≡ Boot → new.boot_left + 1 ≤ old.boot_left
+      → own_left most next.phase next new + 1 ≤ own_left most v.phase v old
   boots_on phase stays left =
       let before : own_left most v.phase v old ≡ old.boot_left + 2 * most = ap (λ p. own_left most p v old) phase in
       let behind : own_left most next.phase next new ≡ new.boot_left + 2 * most = ap (λ p. own_left most p next new) stays in
       omega arith
 
   -- the cycle that ends the boot leaves less than before it
-  boots_up : (runs : Bool) → v.phase ≡ Boot → next.phase ≡ (if runs then Run else Halt) → next.retired ≡ 0 → new.boot_left + 1 ≤ old.boot_left
+  boots_up : (runs : Bool) → v.phase ≡ Boot → next.phase ≡ (if runs then Run else Halt) → next.retired ≡ 0
+      → new.boot_left + 1 ≤ old.boot_left
       → own_left most next.phase next new + 1 ≤ own_left most v.phase v old
   boots_up runs phase becomes none left =
       let before : own_left most v.phase v old ≡ old.boot_left + 2 * most = ap (λ p. own_left most p v old) phase in
-      let behind : own_left most next.phase next new ≡ own_left most (if runs then Run else Halt) next new = ap (λ p. own_left most p next new) becomes in
+      let behind : own_left most next.phase next new ≡ own_left most (if runs then Run else Halt) next new =
+      ap (λ p. own_left most p next new) becomes in
       let most_left = ended_most most runs next new in
       let rest = idle_none most next.retired new.idle none in
       omega arith
 
-  retires_one : v.phase ≡ Run → next.phase ≡ Run → next.spent ≡ v.spent + 1 → own_left most next.phase next new + 1 ≤ own_left most v.phase v old + 2 * most * 1
+  retires_one : v.phase ≡ Run → next.phase ≡ Run → next.spent ≡ v.spent + 1
+      → own_left most next.phase next new + 1 ≤ own_left most v.phase v old + 2 * most * 1
   retires_one phase stays more =
       let before = running phase in
-      let behind : own_left most next.phase next new ≡ most - 1 - next.spent + idle_left most next.retired new.idle = ap (λ p. own_left most p next new) stays in
+      let behind : own_left most next.phase next new ≡ most - 1 - next.spent + idle_left most next.retired new.idle =
+      ap (λ p. own_left most p next new) stays in
       let rest = idle_most most next.retired new.idle in
       omega arith
 
-  seals : v.phase ≡ Run → next.phase ≡ Run → next.spent ≡ 0 → next.retired ≡ 0 → (old.idle ≡ true → 1 ≤ v.retired) → new.idle ≡ (v.retired == 0)
+  seals : v.phase ≡ Run → next.phase ≡ Run → next.spent ≡ 0 → next.retired ≡ 0 → (old.idle ≡ true → 1 ≤ v.retired)
+      → new.idle ≡ (v.retired == 0)
       → own_left most next.phase next new + 1 ≤ own_left most v.phase v old
   seals phase stays none first some is =
       let before = running phase in
-      let behind : own_left most next.phase next new ≡ most - 1 - next.spent + idle_left most next.retired new.idle = ap (λ p. own_left most p next new) stays in
+      let behind : own_left most next.phase next new ≡ most - 1 - next.spent + idle_left most next.retired new.idle =
+      ap (λ p. own_left most p next new) stays in
       let rest = idle_sealed most v.retired old.idle new.idle some is in
       let begun : idle_left most next.retired new.idle ≡ idle_left most 0 new.idle = ap (λ r. idle_left most r new.idle) first in
       omega arith
@@ -97,7 +108,8 @@ module _ (most : ℕ) (v next : View) (old new : Gauge) (spent : next.spent < mo
 drained_most : (most : ℕ) (phase : Phase) (v : View) (old new : Gauge) → (phase ≡ Boot → new.boot_left ≤ old.boot_left) → new.idle ≡ old.idle
     → own_left most phase v new ≤ own_left most phase v old
 drained_most most Boot v old new boots idle = let l : new.boot_left ≤ old.boot_left = boots refl in omega arith
-drained_most most Run v old new boots idle = let e : idle_left most v.retired new.idle ≡ idle_left most v.retired old.idle = ap (idle_left most v.retired) idle in omega arith
+drained_most most Run v old new boots idle = let e : idle_left most v.retired new.idle ≡ idle_left most v.retired old.idle =
+    ap (idle_left most v.retired) idle in omega arith
 drained_most most Halt v old new boots idle = omega arith
 
 -- ---- by what the cycle did
@@ -110,18 +122,22 @@ module _ (most : ℕ) (o : Origin) (v next : View) (old new : Gauge) where
       let less = drained_most most v.phase v old new boots idle in
       omega arith
 
-  busy : (did : Did) → KeepsPace most v next did old new → v.phase ≡ Run → next ≡ busier v → new.queued ≤ old.queued + 1 → new.idle ≡ old.idle
+  busy : (did : Did) → KeepsPace most v next did old new → v.phase ≡ Run → next ≡ busier v → new.queued ≤ old.queued + 1
+      → new.idle ≡ old.idle
       → left_ahead most next new + 1 ≤ left_ahead most v old + 4 * most * 0
   busy did pace phase e queued idle =
       nearer most v next old new pace.spent 0 queued
-      (let l = spends most v next old new pace.spent true phase (ap (λ (w : View). w.phase) e ∙ phase) (ap (λ (w : View). w.spent) e) (ap (λ (w : View). w.retired) e) idle in omega arith)
+      (let l = spends most v next old new pace.spent true phase (ap (λ (w : View). w.phase) e ∙ phase) (ap (λ (w : View). w.spent) e)
+      (ap (λ (w : View). w.retired) e) idle in omega arith)
 
-  moves : (did : Did) → KeepsPace most v next did old new → v.phase ≡ Run → MovesTo v next → new.queued ≤ old.queued + 1 → new.idle ≡ old.idle
+  moves : (did : Did) → KeepsPace most v next did old new → v.phase ≡ Run → MovesTo v next → new.queued ≤ old.queued + 1
+      → new.idle ≡ old.idle
       → left_ahead most next new + 1 ≤ left_ahead most v old + 4 * most * 0
   moves did pace phase m queued idle = elim m as (λ _. left_ahead most next new + 1 ≤ left_ahead most v old + 4 * most * 0) [
     | inl e ↦ busy did pace phase e queued idle
     | inr e ↦ nearer most v next old new pace.spent 0 queued
-        (let l = spends most v next old new pace.spent true phase (ap (λ (w : View). w.phase) e.4 ∙ phase) (ap (λ (w : View). w.spent) e.4) (ap (λ (w : View). w.retired) e.4) idle in omega arith)
+        (let l = spends most v next old new pace.spent true phase (ap (λ (w : View). w.phase) e.4 ∙ phase) (ap (λ (w : View). w.spent) e.4)
+        (ap (λ (w : View). w.retired) e.4) idle in omega arith)
   ]
 
   engine : (step : EngineStep) → KeepsPace most v next (Engine step) old new → v.phase ≡ Run → EngineTo step v next
@@ -134,10 +150,12 @@ module _ (most : ℕ) (o : Origin) (v next : View) (old new : Gauge) where
   engine Barrier pace phase e queued idle = busy (Engine Barrier) pace phase e queued idle
   engine CommitWritten pace phase e queued idle =
       nearer most v next old new pace.spent 0 queued
-      (let l = spends most v next old new pace.spent true phase (ap (λ (w : View). w.phase) e.2 ∙ phase) (ap (λ (w : View). w.spent) e.2) (ap (λ (w : View). w.retired) e.2) idle in omega arith)
+      (let l = spends most v next old new pace.spent true phase (ap (λ (w : View). w.phase) e.2 ∙ phase) (ap (λ (w : View). w.spent) e.2)
+      (ap (λ (w : View). w.retired) e.2) idle in omega arith)
   engine (EngineCommitted epoch) pace phase e queued idle = absurd e
 
-  boots : (did : Did) → KeepsPace most v next did old new → v.phase ≡ Boot → BootsTo v next → new.queued ≤ old.queued + 1 → new.boot_left + 1 ≤ old.boot_left
+  boots : (did : Did) → KeepsPace most v next did old new → v.phase ≡ Boot → BootsTo v next → new.queued ≤ old.queued + 1
+      → new.boot_left + 1 ≤ old.boot_left
       → left_ahead most next new + 1 ≤ left_ahead most v old + 4 * most * 0
   boots did pace phase b queued left =
       let stays : next.phase ≡ Boot = elim b as (λ _. next.phase ≡ Boot) [
@@ -151,10 +169,12 @@ module _ (most : ℕ) (o : Origin) (v next : View) (old new : Gauge) where
   near DidBoot fresh s pace live = boots DidBoot pace s.0 s.1 pace.queues (pace.boots s.0)
   near Loaded fresh s pace live =
       nearer most v next old new pace.spent 0 pace.queues
-      (let l = boots_up most v next old new pace.spent true s.phase (ap (λ (w : View). w.phase) s.becomes) (ap (λ (w : View). w.retired) s.becomes ∙ fresh s.phase) (pace.boots s.phase) in omega arith)
+      (let l = boots_up most v next old new pace.spent true s.phase (ap (λ (w : View). w.phase) s.becomes)
+      (ap (λ (w : View). w.retired) s.becomes ∙ fresh s.phase) (pace.boots s.phase) in omega arith)
   near (Restarted epoch count) fresh s pace live =
       nearer most v next old new pace.spent 0 pace.queues
-      (let l = boots_up most v next old new pace.spent (runs_at o count) s.phase (ap (λ (w : View). w.phase) s.becomes) (ap (λ (w : View). w.retired) s.becomes) (pace.boots s.phase) in omega arith)
+      (let l = boots_up most v next old new pace.spent (runs_at o count) s.phase (ap (λ (w : View). w.phase) s.becomes)
+      (ap (λ (w : View). w.retired) s.becomes) (pace.boots s.phase) in omega arith)
   near (Refused bad) fresh s pace live = boots (Refused bad) pace s.0 (inl s.3) pace.queues (pace.boots s.0)
   near Moved fresh s pace live = moves Moved pace s.0 s.3 pace.queues pace.strides
   near (Retired hart) fresh s pace live =
@@ -164,12 +184,14 @@ module _ (most : ℕ) (o : Origin) (v next : View) (old new : Gauge) where
   near Merged fresh s pace live = busy Merged pace s.0 s.1 pace.queues pace.strides
   near (Sealed epoch count cause) fresh s pace live =
       nearer most v next old new pace.spent 0 pace.queues
-      (let l = seals most v next old new pace.spent s.phase (ap (λ (w : View). w.phase) s.becomes ∙ s.phase) (ap (λ (w : View). w.spent) s.becomes) (ap (λ (w : View). w.retired) s.becomes) pace.strides.0 pace.strides.1 in omega arith)
+      (let l = seals most v next old new pace.spent s.phase (ap (λ (w : View). w.phase) s.becomes ∙ s.phase)
+      (ap (λ (w : View). w.spent) s.becomes) (ap (λ (w : View). w.retired) s.becomes) pace.strides.0 pace.strides.1 in omega arith)
   near Promoted fresh s pace live = busy Promoted pace s.0 s.1 pace.queues pace.strides
   near (Engine step) fresh s pace live = engine step pace s.0 s.1 pace.queues pace.strides
   near (Committed epoch overlapped) fresh s pace live =
       nearer most v next old new pace.spent 0 pace.queues
-      (let l = spends most v next old new pace.spent (runs_at o s.count) s.phase (ap (λ (w : View). w.phase) s.becomes) (ap (λ (w : View). w.spent) s.becomes) (ap (λ (w : View). w.retired) s.becomes) pace.strides in omega arith)
+      (let l = spends most v next old new pace.spent (runs_at o s.count) s.phase (ap (λ (w : View). w.phase) s.becomes)
+      (ap (λ (w : View). w.spent) s.becomes) (ap (λ (w : View). w.retired) s.becomes) pace.strides in omega arith)
   near NvmDrained fresh s pace live = drains s pace.queues pace.boots pace.strides
   near DramDrained fresh s pace live = drains s pace.queues pace.boots pace.strides
   near Nothing fresh s pace live = absurd (let e : is_halt v.phase ≡ true = ap is_halt s.0 in cc)

@@ -25,7 +25,8 @@ use Rattle.thy_view.proofs.TurnLaws.{at-agrees, at-early, IsOrigin-with_turns}
 
 -- ---- a moment is safe
 
-safe_in : {S : Type 0} (K : SchemeOf S) (o : Origin) (m : Machine S) (n : Device) (phase : Phase) → IsLawfulScheme K → n.down ≡ false → SoundIn K o phase m n
+safe_in : {S : Type 0} (K : SchemeOf S) (o : Origin) (m : Machine S) (n : Device) (phase : Phase) → IsLawfulScheme K → n.down ≡ false
+    → SoundIn K o phase m n
     → Safe K.decode o (view_in K o phase m n).done (doubt_of (view_in K o phase m n)) n
 safe_in K o m n Boot lawful up s = (lawful.boot_holds o m.scheme n (record { boots = s.boots; up = up })).safe
 safe_in K o m n Run lawful up s = (lawful.run_holds o m.marks m.scheme n (record { sound = s.checkpoints; up = up })).safe
@@ -69,7 +70,8 @@ found_small o k (At epoch state) origin own small = record {
 
 -- ---- a machine over an image of the run's own
 
-module _ {S : Type 0} (K : SchemeOf S) (o : Origin) (cycles : ℕ) (m : Machine S) (n : Device) (lawful : IsLawfulScheme K) (origin : IsOrigin o)
+module _ {S : Type 0} (K : SchemeOf S) (o : Origin) (cycles : ℕ) (m : Machine S) (n : Device) (lawful : IsLawfulScheme K)
+    (origin : IsOrigin o)
     (on : IsPowered K o.geometry m) (found : IsFound K o n) where
   view_found : view_of K o m n ≡ view_of_image o.start.count (K.decode o.geometry ceiling n.image)
   view_found = ap (λ p. view_in K o p m n) on.phase ∙ (lawful.finds o m.scheme n origin on.scheme found).view
@@ -82,18 +84,21 @@ module _ {S : Type 0} (K : SchemeOf S) (o : Origin) (cycles : ℕ) (m : Machine 
     up = found.up;
     unfailed = on.unfailed;
     small = subst (IsSmall cycles) (sym view_found) small;
-    moment = subst (λ p. SoundIn K o p m n) (sym on.phase) (record { boots = (lawful.finds o m.scheme n origin on.scheme found).boots; blank = on.blank });
+    moment = subst (λ p. SoundIn K o p m n) (sym on.phase)
+        (record { boots = (lawful.finds o m.scheme n origin on.scheme found).boots; blank = on.blank });
   }
 
 -- ---- and so with all turns that agree as far as the image goes
 
-own_with_turns : (o : Origin) (turns : List ℕ) (d : Decoded) → AgreeBelow o turns (reach (view_of_image o.start.count d)) → IsOwn o d → IsOwn (with_turns o turns) d
+own_with_turns : (o : Origin) (turns : List ℕ) (d : Decoded) → AgreeBelow o turns (reach (view_of_image o.start.count d)) → IsOwn o d
+    → IsOwn (with_turns o turns) d
 own_with_turns o turns Nothing agree own = own
 own_with_turns o turns (Refused bad) agree own = own
 own_with_turns o turns (At epoch state) agree own = own ∙ sym (at-agrees o turns state.count agree)
 
 is_at-found : {S : Type 0} (K : SchemeOf S) (o : Origin) (cycles : ℕ) (m : Machine S) (n : Device) → IsLawfulScheme K → IsOrigin o
-    → IsPowered K o.geometry m → IsFound K o n → IsSmall cycles (view_of_image o.start.count (K.decode o.geometry ceiling n.image)) → IsAt K o cycles m n
+    → IsPowered K o.geometry m → IsFound K o n → IsSmall cycles (view_of_image o.start.count (K.decode o.geometry ceiling n.image))
+    → IsAt K o cycles m n
 is_at-found K o cycles m n lawful origin on found small = λ turns agree.
     sound_found K (with_turns o turns) cycles m n lawful (IsOrigin-with_turns o turns origin) on
     (record {
@@ -106,10 +111,12 @@ is_at-found K o cycles m n lawful origin on found small = λ turns agree.
 
 -- ---- a fresh start
 
-length-fitted : (shape : Shape) (start : List Block) (n : Device) → length start ≤ shape.blocks → length (fitted shape start n).image ≡ shape.blocks
+length-fitted : (shape : Shape) (start : List Block) (n : Device) → length start ≤ shape.blocks
+    → length (fitted shape start n).image ≡ shape.blocks
 length-fitted shape start n fits =
     length-append start (replicate (shape.blocks - length start) zero_block)
-    ∙ (let rest : length (replicate (shape.blocks - length start) zero_block) ≡ shape.blocks - length start = length-replicate (shape.blocks - length start) zero_block in omega arith)
+    ∙ (let rest : length (replicate (shape.blocks - length start) zero_block) ≡ shape.blocks - length start =
+    length-replicate (shape.blocks - length start) zero_block in omega arith)
 
 -- what a run begins with is its own
 own_first : (o : Origin) (kept : Option Mark) → o.kept ≡ kept → IsOwn o (found_first o kept)
@@ -156,7 +163,8 @@ boot_kept o v shown none = elim shown as (λ _. o.kept ≡ None) [
   | inr s ↦ s.0
 ]
 
-pub kept_in : {S : Type 0} (K : SchemeOf S) (o : Origin) (m : Machine S) (n : Device) (phase : Phase) → IsLawfulScheme K → n.down ≡ false → SoundIn K o phase m n
+pub kept_in : {S : Type 0} (K : SchemeOf S) (o : Origin) (m : Machine S) (n : Device) (phase : Phase) → IsLawfulScheme K → n.down ≡ false
+    → SoundIn K o phase m n
     → ((view_in K o phase m n).done ≡ None → o.kept ≡ None) × (length n.image ≡ K.blocks o.geometry)
 kept_in K o m n Boot lawful up s =
     let holds = lawful.boot_holds o m.scheme n (record { boots = s.boots; up = up }) in

@@ -23,7 +23,8 @@ load_once K l s n new b (Ok block) inside stays frame same failed =
         left = same;
         dram = inl refl;
         queue = omega (arith, ap (λ (d : Device). length d.queue) same);
-        copies = λ less. absurd (let kept : (K.holding s new).owed ≡ (K.holding s n).owed = ap (λ (d : Device). (K.holding s d).owed) same in omega (arith, less, kept));
+        copies = λ less. absurd (let kept : (K.holding s new).owed ≡ (K.holding s n).owed =
+            ap (λ (d : Device). (K.holding s d).owed) same in omega (arith, less, kept));
       };
       fails = λ dead. absurd (cc);
       frame = frame;
@@ -45,7 +46,8 @@ load_leaves n new (Ok x) same failed up = same
 load_leaves n new (Err e) same failed up = absurd (let down = failed.down in cc)
 
 -- a call that failed is counted
-pub failure_counts : {T : Type 0} (result : Result T NvmError) (n new : Device) → OnOk result (new.down ≡ false) → CountsFault result n.faults new.faults
+pub failure_counts : {T : Type 0} (result : Result T NvmError) (n new : Device) → OnOk result (new.down ≡ false)
+    → CountsFault result n.faults new.faults
     → new.down ≡ true → Rose n.faults new.faults
 failure_counts (Ok x) n new up counts dead = absurd (cc)
 failure_counts (Err e) n new up counts dead = counts
@@ -60,4 +62,5 @@ pub load_counts : {S : Type 0} (K : SchemeOf S) (l : IsLawful K) (s : S) (n new 
     → b < length (K.holding s n).blocks → OnOk result (new ≡ n) → OnErr result (HasFailed n new)
     → CountsOneFault result (failed_calls n) (failed_calls new)
 load_counts K l s n new b result inside same failed =
-    counts_once result n new (l.up s n b inside) (load_up K l s n new b result inside same) (on_err_weaker result (λ (f : HasFailed n new). f.down) failed)
+    counts_once result n new (l.up s n b inside) (load_up K l s n new b result inside same)
+    (on_err_weaker result (λ (f : HasFailed n new). f.down) failed)

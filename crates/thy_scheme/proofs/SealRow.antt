@@ -94,7 +94,8 @@ standing K o cycles m n cause at sealing whole clean over_is =
     let behind = runs_behind m.phase sealing.phase in
     let s : SoundRun K o m n = run_of K o cycles m n at.sound behind in
     let over : IsOver m.hart.epoch.over (K.under_way m.scheme) = over_at K o m n sealing whole in
-    let unsealed : m.marks.sealed ≡ None = unsealed_at K o m n (at.lawful.run_holds o m.marks m.scheme n (stands K o cycles m n at.sound behind)) over.idle in
+    let unsealed : m.marks.sealed ≡ None =
+    unsealed_at K o m n (at.lawful.run_holds o m.marks m.scheme n (stands K o cycles m n at.sound behind)) over.idle in
     let p = o.geometry in
     let cpu = m.hart.cpu in
     let blocks : List Block = (K.holding m.scheme n).blocks in

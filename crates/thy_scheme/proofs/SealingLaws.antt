@@ -38,7 +38,8 @@ unsealed_in : (sealed : Option Mark) (applies way : Bool) → way ≡ (is_some s
 unsealed_in None applies way is idle = refl
 unsealed_in (Some s) applies way is idle = absurd (let both : false ≡ true = sym idle ∙ is in cc)
 
-pub unsealed_at : {S : Type 0} (K : SchemeOf S) (o : Origin) (m : Machine S) (n : Device) → RunHolds K o m.marks m.scheme n → K.under_way m.scheme ≡ false
+pub unsealed_at : {S : Type 0} (K : SchemeOf S) (o : Origin) (m : Machine S) (n : Device) → RunHolds K o m.marks m.scheme n
+    → K.under_way m.scheme ≡ false
     → m.marks.sealed ≡ None
 unsealed_at K o m n holds idle = unsealed_in m.marks.sealed (K.applies m.scheme) (K.under_way m.scheme) holds.way idle
 
@@ -46,6 +47,7 @@ pub over_at : {S : Type 0} (K : SchemeOf S) (o : Origin) (m : Machine S) (n : De
     → IsOver m.hart.epoch.over (K.under_way m.scheme)
 over_at K o m n sealing whole =
     let behind = runs_behind m.phase sealing.phase in
-    over_in m.hart.epoch.over (K.under_way m.scheme) (is_barred K m) (is_some (shortage_of K m)) (has_stopped o m.marks.sealed && not (K.promoting m.scheme))
+    over_in m.hart.epoch.over (K.under_way m.scheme) (is_barred K m) (is_some (shortage_of K m))
+    (has_stopped o m.marks.sealed && not (K.promoting m.scheme))
     (K.promoting m.scheme) whole
     (subst (λ v. stall_in o Run v (pressure_of K m) ≡ Some Sealing) (view_run K o m n behind) sealing.stalled)

@@ -47,13 +47,15 @@ module _ (o : Origin) (k : ℕ) (v next : View) (h : IsSmall k v) where
   boots : BootsTo v next → IsSmall (k + 1) next
   boots b = elim b as (λ _. IsSmall (k + 1) next) [
     | inl e ↦ same e
-    | inr e ↦ small_is (k + 1) next (record v { written = true }) e.1 (kept_small k v (record v { written = true }) h refl refl (omega arith) refl refl refl)
+    | inr e ↦ small_is (k + 1) next (record v { written = true }) e.1
+        (kept_small k v (record v { written = true }) h refl refl (omega arith) refl refl refl)
   ]
 
   moves : MovesTo v next → IsSmall (k + 1) next
   moves b = elim b as (λ _. IsSmall (k + 1) next) [
     | inl e ↦ busy e
-    | inr e ↦ kept_small k v next h (ap (λ w. w.epoch) e.4) (ap (λ w. w.count) e.4) (let n = ap (λ w. w.spent) e.4 in omega (arith, n)) (ap (λ w. w.lap) e.4) (ap (λ w. w.done) e.4) (ap (λ w. w.sealed) e.4)
+    | inr e ↦ kept_small k v next h (ap (λ w. w.epoch) e.4) (ap (λ w. w.count) e.4) (let n = ap (λ w. w.spent) e.4 in omega (arith, n))
+        (ap (λ w. w.lap) e.4) (ap (λ w. w.done) e.4) (ap (λ w. w.sealed) e.4)
   ]
 
   engine : (step : EngineStep) → EngineTo step v next → IsSmall (k + 1) next
@@ -64,7 +66,8 @@ module _ (o : Origin) (k : ℕ) (v next : View) (h : IsSmall k v) where
   engine TableBlock e = busy e
   engine Barrier e = busy e
   engine CommitWritten e =
-      kept_small k v next h (ap (λ w. w.epoch) e.2) (ap (λ w. w.count) e.2) (let n = ap (λ w. w.spent) e.2 in omega (arith, n)) (ap (λ w. w.lap) e.2) (ap (λ w. w.done) e.2) (ap (λ w. w.sealed) e.2)
+      kept_small k v next h (ap (λ w. w.epoch) e.2) (ap (λ w. w.count) e.2) (let n = ap (λ w. w.spent) e.2 in omega (arith, n))
+      (ap (λ w. w.lap) e.2) (ap (λ w. w.done) e.2) (ap (λ w. w.sealed) e.2)
   engine (EngineCommitted epoch) e = absurd e
 
   -- a step of the view

@@ -17,7 +17,8 @@ pub record IsClear (way barred over short stopped promotes : Bool) : Type 0 wher
   pub enough : way ≡ true → short ≡ false
   pub lively : way ≡ true → stopped ≡ false
 
-pub clear : (way barred over short stopped promotes : Bool) → stalled way barred over short stopped promotes ≡ None → IsClear way barred over short stopped promotes
+pub clear : (way barred over short stopped promotes : Bool) → stalled way barred over short stopped promotes ≡ None
+    → IsClear way barred over short stopped promotes
 clear false barred false short stopped false e = record {
   going = refl;
   whole = refl;

@@ -136,7 +136,8 @@ entries-begun old e from to had-not = by_len (from.len == 0) (to.len == 0)
     by_len false b = record { entries = omega arith; once = sym had-not }
 
 -- an effect that continues after a written block secures no further entry
-entries-written : (old : Hand) (e : Effect) (to : Span) (done now : ℕ) → old ≡ Writing e to done → KeepsEntries old (written_on e (rest_of to) now)
+entries-written : (old : Hand) (e : Effect) (to : Span) (done now : ℕ) → old ≡ Writing e to done
+    → KeepsEntries old (written_on e (rest_of to) now)
 entries-written old e to done now is =
     written_by (λ hand. KeepsEntries old hand) e (rest_of to) now
     (λ some. record { entries = omega (arith, ap secured is, blocks_of-two to some, blocks_of-most (rest_of to)); once = sym (ap has_secured is) })
@@ -147,7 +148,8 @@ entries-same h = record { entries = omega arith; once = refl }
 
 -- ---- each micro-step
 
-fetched-entries : (input : List ℕ) (memory : List Block) (h : HartState) → h.hand ≡ Nothing → KeepsEntries h.hand (fetched input memory h).hand
+fetched-entries : (input : List ℕ) (memory : List Block) (h : HartState) → h.hand ≡ Nothing
+    → KeepsEntries h.hand (fetched input memory h).hand
 unfolding fetched
 fetched-entries input memory h none =
     let e = effect_in h.geometry h.cpu memory in
@@ -161,7 +163,8 @@ fetched-on input memory h =
     let moves = moves_of h.cpu.regs (calls_in h.geometry h.cpu (length input)) e in
     fresh-begun e moves.from moves.to
 
-fetched-stated : (b : Bool) (g : Given) (dirty : ℕ) (m : Moment) → m.hart.hand ≡ Nothing → IsMoved g dirty m.hart (fetched g.input (memory_of m) m.hart)
+fetched-stated : (b : Bool) (g : Given) (dirty : ℕ) (m : Moment) → m.hart.hand ≡ Nothing
+    → IsMoved g dirty m.hart (fetched g.input (memory_of m) m.hart)
 unfolding fetched
 fetched-stated b g dirty m none = record {
   epoch = refl;
@@ -199,7 +202,11 @@ secured-stated b g dirty h e to is = by_room (is_short g.free dirty to) refl g.u
         → Stated (if short then (if way then Waiting else Over (Exhausted g.free dirty (blocks_of to))) else Moved) b g dirty h
         (if short then (if way then h else record h { epoch = exhausted g.free dirty (blocks_of to) h.epoch; hand = Nothing; bytes = [] })
         else record h { hand = Writing e to 0 })
-    by_room true s true w = record { way = w; short = ap (λ x. is_some (short_of g.free dirty x)) is ∙ ap (λ t. is_some (if t then Some (shortage g.free dirty (blocks_of to)) else None)) s }
+    by_room true s true w = record {
+      way = w;
+      short = ap (λ x. is_some (short_of g.free dirty x)) is
+          ∙ ap (λ t. is_some (if t then Some (shortage g.free dirty (blocks_of to)) else None)) s;
+    }
     by_room true s false w = record {
       epoch = refl;
       short = ap (short_of g.free dirty) is ∙ ap (λ t. if t then Some (shortage g.free dirty (blocks_of to)) else None) s;
@@ -214,12 +221,14 @@ secured-stated b g dirty h e to is = by_room (is_short g.free dirty to) refl g.u
     }
 
 acted-stated : (g : Given) (m : Moment) (hand : Hand) → m.hart.hand ≡ hand → brings_line m ≡ false
-    → Stated (answer_by g (dirty_count m.cache) m.hart hand) (brings_line m) g (dirty_count m.cache) m.hart (acted_by g (dirty_count m.cache) (memory_of m) m.hart hand)
+    → Stated (answer_by g (dirty_count m.cache) m.hart hand) (brings_line m) g (dirty_count m.cache) m.hart
+    (acted_by g (dirty_count m.cache) (memory_of m) m.hart hand)
 acted-stated g m Nothing is touches = fetched-stated (brings_line m) g (dirty_count m.cache) m is
 acted-stated g m (Reading e from to) is touches = record {
   epoch = refl;
   enough = ap (short_of g.free (dirty_count m.cache)) is;
-  fresh = subst (λ h. KeepsFresh h (begun e (rest_of from) to)) (sym is) (early (Reading e from to) (begun e (rest_of from) to) refl (λ d r f. f) (fresh-begun e (rest_of from) to));
+  fresh = subst (λ h. KeepsFresh h (begun e (rest_of from) to)) (sym is)
+      (early (Reading e from to) (begun e (rest_of from) to) refl (λ d r f. f) (fresh-begun e (rest_of from) to));
   entries = inl (entries-begun m.hart.hand e (rest_of from) to (ap has_secured is));
 }
 acted-stated g m (Securing e to) is touches = secured-stated (brings_line m) g (dirty_count m.cache) m.hart e to is
@@ -230,14 +239,16 @@ acted-stated g m (Writing e to done) is touches = record {
   entries = inl (entries-written m.hart.hand e to done (done + head_len to) is);
 }
 acted-stated g m (Retiring e wrote) is touches =
-    over-never (is_running (cpu_retired g.input e m.hart).status) m.hart.epoch.span (m.hart.epoch.retired + 1) (brings_line m) g (dirty_count m.cache) m.hart (retired g.input e m.hart) refl touches refl
+    over-never (is_running (cpu_retired g.input e m.hart).status) m.hart.epoch.span (m.hart.epoch.retired + 1) (brings_line m) g
+    (dirty_count m.cache) m.hart (retired g.input e m.hart) refl touches refl
 
 -- an instruction that secures its entries brings no line
 pub securing-brings : (m : Moment) (e : Effect) (to : Span) → m.hart.hand ≡ Securing e to → brings_line m ≡ false
 securing-brings m e to is = ap (λ h. is_missing m.cache (block_for m.hart.geometry m.hart.cpu h)) is
 
 -- a line is brought only for a hand that has no shortage
-brought-short : (g : Given) (m : Moment) (dirty : ℕ) (hand : Hand) → m.hart.hand ≡ hand → brings_line m ≡ true → short_of g.free dirty hand ≡ None
+brought-short : (g : Given) (m : Moment) (dirty : ℕ) (hand : Hand) → m.hart.hand ≡ hand → brings_line m ≡ true
+    → short_of g.free dirty hand ≡ None
 brought-short g m dirty Nothing is b = refl
 brought-short g m dirty (Reading e from to) is b = refl
 brought-short g m dirty (Securing e to) is b =
@@ -252,5 +263,10 @@ stated g m = by_line (brings_line m) refl
     by_line : (b : Bool) → brings_line m ≡ b
         → Stated (if b then Moved else answer_by g (dirty_count m.cache) m.hart m.hart.hand) (brings_line m) g (dirty_count m.cache) m.hart
         (if b then m.hart else acted_by g (dirty_count m.cache) (memory_of m) m.hart m.hart.hand)
-    by_line true e = record { epoch = refl; enough = brought-short g m (dirty_count m.cache) m.hart.hand refl e; fresh = fresh-same m.hart.hand; entries = inl (entries-same m.hart.hand) }
+    by_line true e = record {
+      epoch = refl;
+      enough = brought-short g m (dirty_count m.cache) m.hart.hand refl e;
+      fresh = fresh-same m.hart.hand;
+      entries = inl (entries-same m.hart.hand);
+    }
     by_line false e = acted-stated g m m.hart.hand refl e

@@ -27,19 +27,22 @@ moves_same Run (Some cause) begun a b e = refl
 moves_same Halt over begun a b e = refl
 
 -- a machine has at most the moves left of one that runs
-moves_most : (phase : Phase) (over : Option EndCause) (begun : Option ℕ) (a : Moment) → moves_in phase over begun a ≤ moves_in Run over begun a
+moves_most : (phase : Phase) (over : Option EndCause) (begun : Option ℕ) (a : Moment)
+    → moves_in phase over begun a ≤ moves_in Run over begun a
 moves_most Boot over begun a = omega arith
 moves_most Run over begun a = omega arith
 moves_most Halt over begun a = omega arith
 
 -- after a phase that runs there are no more moves than in it
-pub moves_fewer : (before now : Phase) (over : Option EndCause) (begun : Option ℕ) (a b : Moment) → before ≡ Run → moves_left b ≡ moves_left a
+pub moves_fewer : (before now : Phase) (over : Option EndCause) (begun : Option ℕ) (a b : Moment) → before ≡ Run
+    → moves_left b ≡ moves_left a
     → moves_in now over begun b ≤ moves_in before over begun a
 moves_fewer before now over begun a b runs e =
     omega (arith, moves_most now over begun b, moves_same Run over begun a b e, ap (λ p. moves_in p over begun a) runs)
 
 -- no moves are left once the epoch is over
-pub moves_over : (phase : Phase) (over : Option EndCause) (begun : Option ℕ) (cause : EndCause) (a : Moment) → over ≡ Some cause → moves_in phase over begun a ≡ 0
+pub moves_over : (phase : Phase) (over : Option EndCause) (begun : Option ℕ) (cause : EndCause) (a : Moment) → over ≡ Some cause
+    → moves_in phase over begun a ≡ 0
 moves_over Boot over begun cause a e = refl
 moves_over Run over begun cause a e = ap (λ x. moves_while x begun a) e
 moves_over Halt over begun cause a e = refl
@@ -56,12 +59,14 @@ number_behind Halt number behind = refl
 -- what is shown of a cycle after the boot: it leaves no more to do
 pub record NoMore {S : Type 0} (K : SchemeOf S) (did : Did) (m : Machine S) (n : Device) (next : Machine S) (new : Device) : Type 0 where
   pub moves : begins_instruction did ≡ false
-      → moves_in next.phase next.hart.epoch.over next.begun (moment_of K next new) ≤ moves_in m.phase m.hart.epoch.over m.begun (moment_of K m n)
+      → moves_in next.phase next.hart.epoch.over next.begun (moment_of K next new)
+      ≤ moves_in m.phase m.hart.epoch.over m.begun (moment_of K m n)
   pub owed : adds_copies did ≡ false → OwesNoMore K m.scheme n next.scheme new
   pub owed_in_all : begins_epoch did ≡ false → owed_in K next.scheme new ≤ owed_in K m.scheme n
   pub promotions : begins_epoch did ≡ false → K.promotions_left next.scheme ≤ K.promotions_left m.scheme
 
-pub leaves_no_more : {S : Type 0} (K : SchemeOf S) (did : Did) (m : Machine S) (n : Device) (next : Machine S) (new : Device) → m.phase ≢ Boot → next.phase ≢ Boot
+pub leaves_no_more : {S : Type 0} (K : SchemeOf S) (did : Did) (m : Machine S) (n : Device) (next : Machine S) (new : Device)
+    → m.phase ≢ Boot → next.phase ≢ Boot
     → NoMore K did m n next new → LeavesNoMore did (gauge_of K m n) (gauge_of K next new)
 leaves_no_more K did m n next new behind after l =
     let owed_was = number_behind m.phase (K.holding m.scheme n).owed behind in
@@ -93,4 +98,9 @@ pub uses_none : {S : Type 0} (K : SchemeOf S) (o : Origin) (m next : Machine S) 
     → UsesEntries (view_of K o m n) (pressure_of K m) (pressure_of K next) (gauge_of K m n) (gauge_of K next new)
 uses_none K o m next n new fewer same room =
     let kept : secured next.hart.hand ≡ secured m.hart.hand = ap secured same in
-    record { entries = omega (arith, kept); lines = omega (arith, fewer, kept); room = λ run. omega (arith, kept, room run); once = λ begun. ap has_secured same }
+    record {
+      entries = omega (arith, kept);
+      lines = omega (arith, fewer, kept);
+      room = λ run. omega (arith, kept, room run);
+      once = λ begun. ap has_secured same;
+    }

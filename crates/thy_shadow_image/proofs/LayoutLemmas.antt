@@ -34,42 +34,41 @@ use Rattle.thy_shadow_image.specs.Free.{Target, SlotBlock, PoolBlock, target_pla
 
 -- ---- the places of memory
 
-pub length-memory_places : (p : Parameters) (table : List (Option ℕ)) → (let xs : List ℕ = memory_places p table in length xs) ≡ memory_blocks p
-length-memory_places p table = length-map-range_with_len (place_of p table) 0 (memory_blocks p)
+module _ (p : Parameters) (table : List (Option ℕ)) where
+  pub length-memory_places : (let xs : List ℕ = memory_places p table in length xs) ≡ memory_blocks p
+  length-memory_places = length-map-range_with_len (place_of p table) 0 (memory_blocks p)
 
-pub memory_place : (p : Parameters) (table : List (Option ℕ)) (k otherwise : ℕ) → k < memory_blocks p
-    → (let xs : List ℕ = memory_places p table in get_or xs k otherwise) ≡ place_of p table k
-memory_place p table k otherwise l =
-    get_or-map-range_with_len (place_of p table) 0 (memory_blocks p) k k otherwise l (omega arith)
+  pub memory_place : (k otherwise : ℕ) → k < memory_blocks p
+      → (let xs : List ℕ = memory_places p table in get_or xs k otherwise) ≡ place_of p table k
+  memory_place k otherwise l =
+      get_or-map-range_with_len (place_of p table) 0 (memory_blocks p) k k otherwise l (omega arith)
 
--- each place of memory is the place of a block
-pub memory_place_of : (p : Parameters) (table : List (Option ℕ)) (x : ℕ) → Contains (memory_places p table) x
-    → (b : ℕ) × (b < memory_blocks p) × (place_of p table b ≡ x)
-memory_place_of p table x (k, l, is) =
-    let inside : k < memory_blocks p = omega (arith, length-memory_places p table) in
-    (k, inside, sym (memory_place p table k x inside) ∙ is)
+  -- each place of memory is the place of a block
+  pub memory_place_of : (x : ℕ) → Contains (memory_places p table) x → (b : ℕ) × (b < memory_blocks p) × (place_of p table b ≡ x)
+  memory_place_of x (k, l, is) =
+      let inside : k < memory_blocks p = omega (arith, length-memory_places) in
+      (k, inside, sym (memory_place k x inside) ∙ is)
 
--- a block of memory stands in the page of the pool that the map lists for its page
-pub page_listed : (p : Parameters) (table : List (Option ℕ)) (b : ℕ) → IsMap p table → b < memory_blocks p
-    → (q : ℕ) × Lists table (page_of b) q × (place_of p table b ≡ pool_place p q (b % 64))
-page_listed p table b h l =
-    let low : page_of b < p.pages = omega arith in
-    let of = h.mapped (page_of b) low in
-    (of.0, of.1, ap (λ e. pool_place p (pool_page e) (b % 64)) of.1.is)
+  -- a block of memory stands in the page of the pool that the map lists for its page
+  pub page_listed : (b : ℕ) → IsMap p table → b < memory_blocks p
+      → (q : ℕ) × Lists table (page_of b) q × (place_of p table b ≡ pool_place p q (b % 64))
+  page_listed b h l =
+      let low : page_of b < p.pages = omega arith in
+      let of = h.mapped (page_of b) low in
+      (of.0, of.1, ap (λ e. pool_place p (pool_page e) (b % 64)) of.1.is)
 
--- the place of a block lies after the slots, within the image
-pub place_behind : (p : Parameters) (table : List (Option ℕ)) (b : ℕ) → IsMap p table → b < memory_blocks p
-    → (first_pool p ≤ place_of p table b) × (place_of p table b < image_blocks p)
-place_behind p table b h l =
-    let of = page_listed p table b h l in
-    let small : of.0 < pool_pages p = h.in_pool (page_of b) of.0 of.1 in
-    subst (λ y. (first_pool p ≤ y) × (y < image_blocks p)) (sym of.2) (omega arith, omega (arith, small))
+  -- the place of a block lies after the slots, within the image
+  pub place_behind : (b : ℕ) → IsMap p table → b < memory_blocks p
+      → (first_pool p ≤ place_of p table b) × (place_of p table b < image_blocks p)
+  place_behind b h l =
+      let of = page_listed b h l in
+      let small : of.0 < pool_pages p = h.in_pool (page_of b) of.0 of.1 in
+      subst (λ y. (first_pool p ≤ y) × (y < image_blocks p)) (sym of.2) (omega arith, omega (arith, small))
 
-pub memory_behind : (p : Parameters) (table : List (Option ℕ)) (x : ℕ) → IsMap p table → Contains (memory_places p table) x
-    → (first_pool p ≤ x) × (x < image_blocks p)
-memory_behind p table x h inside =
-    let of = memory_place_of p table x inside in
-    subst (λ y. (first_pool p ≤ y) × (y < image_blocks p)) of.2 (place_behind p table of.0 h of.1)
+  pub memory_behind : (x : ℕ) → IsMap p table → Contains (memory_places p table) x → (first_pool p ≤ x) × (x < image_blocks p)
+  memory_behind x h inside =
+      let of = memory_place_of x inside in
+      subst (λ y. (first_pool p ≤ y) × (y < image_blocks p)) of.2 (place_behind of.0 h of.1)
 
 -- ---- the slots
 
@@ -153,7 +152,8 @@ target_behind : (p : Parameters) (x : Target) → IsTarget p x → 2 ≤ target_
 target_behind p (SlotBlock s k) there = (slot_behind p s k there.0 there.1).0
 target_behind p (PoolBlock q c) there = omega arith
 
-slots_apart : (p : Parameters) (s r k i : ℕ) → s < 2 → r < 2 → k < slot_blocks p → i < slot_blocks p → s ≢ r → slot_place p s + k ≢ slot_place p r + i
+slots_apart : (p : Parameters) (s r k i : ℕ) → s < 2 → r < 2 → k < slot_blocks p → i < slot_blocks p → s ≢ r
+    → slot_place p s + k ≢ slot_place p r + i
 slots_apart p zero zero k i l m n o other = λ e. other refl
 slots_apart p zero (suc zero) k i l m n o other = λ e. omega arith
 slots_apart p (suc zero) zero k i l m n o other = λ e. omega arith
@@ -224,7 +224,8 @@ place_once p table a b h l m same =
     let of : page_of a ≡ page_of b = h.once (page_of a) (page_of b) y.0 (subst (Lists table (page_of a)) page x.1) y.1 in
     omega (arith, at, page, of)
 
-has_places : (p : Parameters) (commit : Block) (slot : List Block) → Fits (shadow_layouts p) commit slot → HasPlaces (shadow_layouts p) commit slot
+has_places : (p : Parameters) (commit : Block) (slot : List Block) → Fits (shadow_layouts p) commit slot
+    → HasPlaces (shadow_layouts p) commit slot
 has_places p commit slot fits =
     let table : List (Option ℕ) = table_in p slot in
     let whole : IsMap p (table_in p slot) = faultless_map p fits.ceiling (epoch_of commit) slot fits.faultless in
@@ -240,11 +241,13 @@ has_places p commit slot fits =
 
 -- ---- all of it
 
-cpu_fits : (p : Parameters) (ceiling epoch : ℕ) (slot : List Block) → slot_fault p ceiling epoch slot ≡ None → cpu_fault p ceiling slot ≡ None
+cpu_fits : (p : Parameters) (ceiling epoch : ℕ) (slot : List Block) → slot_fault p ceiling epoch slot ≡ None
+    → cpu_fault p ceiling slot ≡ None
 unfolding slot_fault
 cpu_fits p ceiling epoch slot none = (slot_parts (table_fault p (table_in p slot)) p ceiling epoch slot none).2
 
-fits_higher : (p : Parameters) (low high epoch : ℕ) (slot : List Block) → low ≤ high → slot_fault p low epoch slot ≡ None → slot_fault p high epoch slot ≡ None
+fits_higher : (p : Parameters) (low high epoch : ℕ) (slot : List Block) → low ≤ high → slot_fault p low epoch slot ≡ None
+    → slot_fault p high epoch slot ≡ None
 unfolding slot_fault
 fits_higher p low high epoch slot most none = slot_higher (table_fault p (table_in p slot)) p low high epoch slot most none
 

@@ -32,7 +32,8 @@ stray_past p slot x past before =
     let none : drop x (table_in p slot) ≡ [] = drop_of_length-le (table_in p slot) (omega (arith, past, table_long p slot)) in
     sym (before ∙ ap (first_stray p x) none)
 
-pub faultless_map : (p : Parameters) (ceiling epoch : ℕ) (slot : List Block) → slot_fault p ceiling epoch slot ≡ None → IsMap p (table_in p slot)
+pub faultless_map : (p : Parameters) (ceiling epoch : ℕ) (slot : List Block) → slot_fault p ceiling epoch slot ≡ None
+    → IsMap p (table_in p slot)
 unfolding slot_fault
 faultless_map p ceiling epoch slot none =
     IsMap-faultless p (table_in p slot) (table_long p slot) (slot_parts (table_fault p (table_in p slot)) p ceiling epoch slot none).1
@@ -51,6 +52,7 @@ slot_reads_back p ceiling cpu table epoch range recordable whole most small =
     record {
       cpu_back = processor_back p cpu table epoch (map_blocks p) whole.long words ceiling range recordable most small;
       table_back = same;
-      faultless = faultless_back p cpu table epoch (map_blocks p) whole.long words ceiling range recordable most small (table_fault p (table_in p slot))
+      faultless = faultless_back p cpu table epoch (map_blocks p) whole.long words ceiling range recordable most small
+          (table_fault p (table_in p slot))
           (ap (table_fault p) same ∙ table_fault-none p table whole);
     }

@@ -67,77 +67,77 @@ first_stray-each p k (e ∷ es) h =
     let next : k + 1 + i ≡ k + suc i = omega arith in
     ap (λ x. stray p x (entry_at es i)) next ∙ h (suc i) (omega arith)))
 
-pub each_stray : (p : Parameters) (table : List (Option ℕ)) (x : ℕ) → index_fault p table ≡ None → x < length table → stray p x (entry_at table x) ≡ None
-each_stray p table x h l = ap (λ y. stray p y (entry_at table x)) (sym (zero-add x)) ∙ first_stray-None p 0 table h x l
+module _ (p : Parameters) (table : List (Option ℕ)) where
+  pub each_stray : (x : ℕ) → index_fault p table ≡ None → x < length table → stray p x (entry_at table x) ≡ None
+  each_stray x h l = ap (λ y. stray p y (entry_at table x)) (sym (zero-add x)) ∙ first_stray-None p 0 table h x l
 
--- ---- both ways
+  -- ---- both ways
 
-pub IsMap-faultless : (p : Parameters) (table : List (Option ℕ)) → length table ≡ 8 * map_blocks p → table_fault p table ≡ None → IsMap p table
-unfolding table_fault
-IsMap-faultless p table long none =
-    let parts = neither (index_fault p table) (twice_fault table) none in
-    let right = λ (x q : ℕ) (l : Lists table x q).
-    let inside = Lists-inside table x q l in
-    lists_right p x q (sym (ap (stray p x) l.is) ∙ each_stray p table x parts.0 inside) in
-    record {
-      long = long;
-      mapped = λ x l.
-          let of = has_page p x (entry_at table x) (each_stray p table x parts.0 (omega (arith, l, long))) l in
-          (of.0, record { is = of.1 });
-      of_page = λ x q l. (right x q l).0;
-      in_pool = λ x q l. (right x q l).1;
-      once = once 0 table parts.1;
-    }
+  pub IsMap-faultless : length table ≡ 8 * map_blocks p → table_fault p table ≡ None → IsMap p table
+  unfolding table_fault
+  IsMap-faultless long none =
+      let parts = neither (index_fault p table) (twice_fault table) none in
+      let right = λ (x q : ℕ) (l : Lists table x q).
+      let inside = Lists-inside table x q l in
+      lists_right p x q (sym (ap (stray p x) l.is) ∙ each_stray x parts.0 inside) in
+      record {
+        long = long;
+        mapped = λ x l.
+            let of = has_page p x (entry_at table x) (each_stray x parts.0 (omega (arith, l, long))) l in
+            (of.0, record { is = of.1 });
+        of_page = λ x q l. (right x q l).0;
+        in_pool = λ x q l. (right x q l).1;
+        once = once 0 table parts.1;
+      }
 
-pub table_fault-none : (p : Parameters) (table : List (Option ℕ)) → IsMap p table → table_fault p table ≡ None
-unfolding table_fault
-table_fault-none p table h =
-    both_none (index_fault p table) (twice_fault table)
-    (first_stray-each p 0 table (λ i l.
-    ap (λ x. stray p x (entry_at table i)) (zero-add i)
-    ∙ none_right p i (entry_at table i)
-    (λ q is. let lists : Lists table i q = record { is = is } in (h.of_page i q lists, h.in_pool i q lists))
-    (λ empty inside. let of = (h.mapped i inside).1 in let is = of.is in cc)))
-    (no_twins 0 table h.once)
+  pub table_fault-none : IsMap p table → table_fault p table ≡ None
+  unfolding table_fault
+  table_fault-none h =
+      both_none (index_fault p table) (twice_fault table)
+      (first_stray-each p 0 table (λ i l.
+      ap (λ x. stray p x (entry_at table i)) (zero-add i)
+      ∙ none_right p i (entry_at table i)
+      (λ q is. let lists : Lists table i q = record { is = is } in (h.of_page i q lists, h.in_pool i q lists))
+      (λ empty inside. let of = (h.mapped i inside).1 in let is = of.is in cc)))
+      (no_twins 0 table h.once)
 
 -- ---- an entry without a right page
 
-stray_listed : (p : Parameters) (table : List (Option ℕ)) (x q : ℕ) (bad : BadImage) → Lists table x q → stray p x (Some q) ≡ Some bad
-    → IsStray p table x × (TableIndex x ≡ bad)
-stray_listed p table x q bad l h = elim (cases_lt x p.pages) as (λ _. IsStray p table x × (TableIndex x ≡ bad)) [
-  | inl inside ↦
-      let mapped : stray p x (Some q) ≡ (if nat_lt q (pool_pages p) then None else Some (TableIndex x))
-      = ap (λ b. if b && nat_lt q (pool_pages p) then None else Some (TableIndex x)) (lt-ltb x p.pages inside) in
-      elim (cases_lt q (pool_pages p)) as (λ _. IsStray p table x × (TableIndex x ≡ bad)) [
-        | inl fits ↦
-            let none : stray p x (Some q) ≡ None = mapped ∙ ap (λ b. if b then None else Some (TableIndex x)) (lt-ltb q (pool_pages p) fits) in
-            absurd (cc)
-        | inr over ↦
-            let some : stray p x (Some q) ≡ Some (TableIndex x)
-            = mapped ∙ ap (λ b. if b then None else Some (TableIndex x)) (le-ltb q (pool_pages p) over) in
-            (PastPool q l over, cc)
-      ]
-  | inr past ↦
-      let some : stray p x (Some q) ≡ Some (TableIndex x)
-      = ap (λ b. if b && nat_lt q (pool_pages p) then None else Some (TableIndex x)) (le-ltb x p.pages past) in
-      (PastMemory q l past, cc)
-]
+module _ (p : Parameters) (table : List (Option ℕ)) (x : ℕ) where
+  stray_listed : (q : ℕ) (bad : BadImage) → Lists table x q → stray p x (Some q) ≡ Some bad → IsStray p table x × (TableIndex x ≡ bad)
+  stray_listed q bad l h = elim (cases_lt x p.pages) as (λ _. IsStray p table x × (TableIndex x ≡ bad)) [
+    | inl inside ↦
+        let mapped : stray p x (Some q) ≡ (if nat_lt q (pool_pages p) then None else Some (TableIndex x))
+        = ap (λ b. if b && nat_lt q (pool_pages p) then None else Some (TableIndex x)) (lt-ltb x p.pages inside) in
+        elim (cases_lt q (pool_pages p)) as (λ _. IsStray p table x × (TableIndex x ≡ bad)) [
+          | inl fits ↦
+              let none : stray p x (Some q) ≡ None = mapped ∙ ap (λ b. if b then None else Some (TableIndex x)) (lt-ltb q (pool_pages p) fits) in
+              absurd (cc)
+          | inr over ↦
+              let some : stray p x (Some q) ≡ Some (TableIndex x)
+              = mapped ∙ ap (λ b. if b then None else Some (TableIndex x)) (le-ltb q (pool_pages p) over) in
+              (PastPool q l over, cc)
+        ]
+    | inr past ↦
+        let some : stray p x (Some q) ≡ Some (TableIndex x)
+        = ap (λ b. if b && nat_lt q (pool_pages p) then None else Some (TableIndex x)) (le-ltb x p.pages past) in
+        (PastMemory q l past, cc)
+  ]
 
-stray_says : (p : Parameters) (table : List (Option ℕ)) (x : ℕ) (e : Option ℕ) (bad : BadImage) → entry_at table x ≡ e → stray p x e ≡ Some bad
-    → IsStray p table x × (TableIndex x ≡ bad)
-stray_says p table x None bad is h = elim (cases_lt x p.pages) as (λ _. IsStray p table x × (TableIndex x ≡ bad)) [
-  | inl inside ↦
-      let some : stray p x None ≡ Some (TableIndex x) = ap (λ b. if b then Some (TableIndex x) else None) (lt-ltb x p.pages inside) in
-      (Unmapped inside is, cc)
-  | inr past ↦
-      let none : stray p x None ≡ None = ap (λ b. if b then Some (TableIndex x) else None) (le-ltb x p.pages past) in absurd (cc)
-]
-stray_says p table x (Some q) bad is h = stray_listed p table x q bad (record { is = is }) h
+  stray_says : (e : Option ℕ) (bad : BadImage) → entry_at table x ≡ e → stray p x e ≡ Some bad → IsStray p table x × (TableIndex x ≡ bad)
+  stray_says None bad is h = elim (cases_lt x p.pages) as (λ _. IsStray p table x × (TableIndex x ≡ bad)) [
+    | inl inside ↦
+        let some : stray p x None ≡ Some (TableIndex x) = ap (λ b. if b then Some (TableIndex x) else None) (lt-ltb x p.pages inside) in
+        (Unmapped inside is, cc)
+    | inr past ↦
+        let none : stray p x None ≡ None = ap (λ b. if b then Some (TableIndex x) else None) (le-ltb x p.pages past) in absurd (cc)
+  ]
+  stray_says (Some q) bad is h = stray_listed q bad (record { is = is }) h
 
-not_stray : (p : Parameters) (table : List (Option ℕ)) (x : ℕ) → stray p x (entry_at table x) ≡ None → IsStray p table x → ⊥
-not_stray p table x h (Unmapped inside empty) = let is = (has_page p x (entry_at table x) h inside).1 in cc
-not_stray p table x h (PastPool q l over) = omega (arith, (lists_right p x q (sym (ap (stray p x) l.is) ∙ h)).1)
-not_stray p table x h (PastMemory q l past) = let right = (lists_right p x q (sym (ap (stray p x) l.is) ∙ h)).0 in omega arith
+  not_stray : stray p x (entry_at table x) ≡ None → IsStray p table x → ⊥
+  not_stray h (Unmapped inside empty) = let is = (has_page p x (entry_at table x) h inside).1 in cc
+  not_stray h (PastPool q l over) = omega (arith, (lists_right p x q (sym (ap (stray p x) l.is) ∙ h)).1)
+  not_stray h (PastMemory q l past) = let right = (lists_right p x q (sym (ap (stray p x) l.is) ∙ h)).0 in omega arith
 
 -- ---- the first of them
 
@@ -175,34 +175,31 @@ first_from : (p : Parameters) (k : ℕ) (es : List (Option ℕ)) (bad : BadImage
 first_from p k [] bad h = cc
 first_from p k (e ∷ es) bad h = first_of p k e es bad (stray p k e) refl h (λ more. first_from p (k + 1) es bad more)
 
-index_names : (p : Parameters) (table : List (Option ℕ)) (bad : BadImage) → index_fault p table ≡ Some bad
-    → (x : ℕ) × (bad ≡ TableIndex x) × IsFirstWrong (IsStray p table) x
-index_names p table bad h =
-    let of = first_from p 0 table bad h in
-    let broken = stray_says p table of.entry (entry_at table of.entry) bad refl
-    (ap (λ x. stray p x (entry_at table of.entry)) (sym (zero-add of.entry)) ∙ of.breaks) in
-    let is : IsFirstWrong (IsStray p table) of.entry = record {
-      here = broken.0;
-      least = λ k l s. not_stray p table k (ap (λ x. stray p x (entry_at table k)) (sym (zero-add k)) ∙ of.least k l) s;
-    } in
-    (of.entry, sym broken.1, is)
+module _ (p : Parameters) (table : List (Option ℕ)) where
+  index_names : (bad : BadImage) → index_fault p table ≡ Some bad → (x : ℕ) × (bad ≡ TableIndex x) × IsFirstWrong (IsStray p table) x
+  index_names bad h =
+      let of = first_from p 0 table bad h in
+      let broken = stray_says p table of.entry (entry_at table of.entry) bad refl
+      (ap (λ x. stray p x (entry_at table of.entry)) (sym (zero-add of.entry)) ∙ of.breaks) in
+      let is : IsFirstWrong (IsStray p table) of.entry = record {
+        here = broken.0;
+        least = λ k l s. not_stray p table k (ap (λ x. stray p x (entry_at table k)) (sym (zero-add k)) ∙ of.least k l) s;
+      } in
+      (of.entry, sym broken.1, is)
 
--- a map without such a fault has no such entry
-none_stray : (p : Parameters) (table : List (Option ℕ)) → length table ≡ 8 * map_blocks p → index_fault p table ≡ None
-    → (x : ℕ) → IsStray p table x → ⊥
-none_stray p table long h x (Unmapped inside empty) =
-    not_stray p table x (each_stray p table x h (omega (arith, inside, long))) (Unmapped inside empty)
-none_stray p table long h x (PastPool q l over) = not_stray p table x (each_stray p table x h (Lists-inside table x q l)) (PastPool q l over)
-none_stray p table long h x (PastMemory q l past) = not_stray p table x (each_stray p table x h (Lists-inside table x q l)) (PastMemory q l past)
+  -- a map without such a fault has no such entry
+  none_stray : length table ≡ 8 * map_blocks p → index_fault p table ≡ None → (x : ℕ) → IsStray p table x → ⊥
+  none_stray long h x (Unmapped inside empty) =
+      not_stray p table x (each_stray p table x h (omega (arith, inside, long))) (Unmapped inside empty)
+  none_stray long h x (PastPool q l over) = not_stray p table x (each_stray p table x h (Lists-inside table x q l)) (PastPool q l over)
+  none_stray long h x (PastMemory q l past) = not_stray p table x (each_stray p table x h (Lists-inside table x q l)) (PastMemory q l past)
 
--- ---- the refusal that is found
+  -- ---- the refusal that is found
 
-pub map_says : (p : Parameters) (table : List (Option ℕ)) (bad : BadImage) → length table ≡ 8 * map_blocks p → table_fault p table ≡ Some bad
-    → Says (IsStray p table) table bad
-unfolding table_fault
-map_says p table bad long h = found_says (IsStray p table) table (index_fault p table) (index_names p table) (none_stray p table long) bad h
+  pub map_says : (bad : BadImage) → length table ≡ 8 * map_blocks p → table_fault p table ≡ Some bad → Says (IsStray p table) table bad
+  unfolding table_fault
+  map_says bad long h = found_says (IsStray p table) table (index_fault p table) index_names (none_stray long) bad h
 
-pub map_found : (p : Parameters) (table : List (Option ℕ)) (bad : BadImage) → length table ≡ 8 * map_blocks p → Says (IsStray p table) table bad
-    → table_fault p table ≡ Some bad
-unfolding table_fault
-map_found p table bad long s = found_if_so (IsStray p table) table (index_fault p table) (index_names p table) (none_stray p table long) bad s
+  pub map_found : (bad : BadImage) → length table ≡ 8 * map_blocks p → Says (IsStray p table) table bad → table_fault p table ≡ Some bad
+  unfolding table_fault
+  map_found bad long s = found_if_so (IsStray p table) table (index_fault p table) index_names (none_stray long) bad s

@@ -54,7 +54,8 @@ use Rattle.thy_shadow_parts.proofs.PhaseLemmas.{next_filled, target_of, next_fre
 module _ (e : Progress) (s : State) (n : Device) (at : ℕ) (block : Block) (x q c : ℕ) (same : s.p ≡ e.p)
     (lists : Lists (committed_table s) x q) (below : c < 64) where
   -- a block of the slot, and the commit block
-  round_spared : (r : Round) → IsInRound (slot_blocks e.p) r → action_of filling_shadow items_shadow e (RoundItem r) s n ≡ WriteAt at block → at ≢ pool_place s.p q c
+  round_spared : (r : Round) → IsInRound (slot_blocks e.p) r → action_of filling_shadow items_shadow e (RoundItem r) s n ≡ WriteAt at block
+      → at ≢ pool_place s.p q c
   round_spared Commit l act there = let is : 1 ≡ at = cc in omega (arith, is, there)
   round_spared (Write k) l act there =
       let is : slot_place e.p (epoch_of (commit_of e.epoch) % 2) + k ≡ at = cc in
@@ -201,11 +202,13 @@ module _ (e : Progress) (s : State) (n : Device) (moment : IsMoment shadow_desig
   pub slot_fits : (shadow_layouts e.p).slot_bad ceiling (commit_of e.epoch) slot ≡ None
   slot_fits = ap (λ (k : ℕ). slot_fault e.p ceiling k slot) epoch_is ∙ back.faultless
 
-  pub slot_makes : (g : List Block) → block_at g 1 ≡ commit_of e.epoch → slot_in (shadow_layouts e.p) g ≡ slot → HoldsCheckpoint s.p g e.epoch (next_table s)
+  pub slot_makes : (g : List Block) → block_at g 1 ≡ commit_of e.epoch → slot_in (shadow_layouts e.p) g ≡ slot
+      → HoldsCheckpoint s.p g e.epoch (next_table s)
   slot_makes g commit is = record {
     of_epoch = ap epoch_of commit ∙ epoch_is;
     table_is =
-        subst (λ (p : Parameters). table_in p (slot_in (shadow_layouts p) g) ≡ next_table s) (sym can.same_p) (ap (table_in e.p) is ∙ back.table_back);
+        subst (λ (p : Parameters). table_in p (slot_in (shadow_layouts p) g) ≡ next_table s) (sym can.same_p)
+        (ap (table_in e.p) is ∙ back.table_back);
     whole = IsMap-next s moment.sound;
   }
 
@@ -251,7 +254,8 @@ own_before e p x same (inr (k, l, is)) =
     let before = (slot_behind e.p (epoch % 2) k (half epoch) l).1 in
     subst (λ (q : Parameters). x < first_pool q) (sym same) (omega (arith, before, is))
 
-own_carried : (e : Progress) (s : State) (n : Device) (x : ℕ) (block : Block) → IsMoment shadow_design Made e.epoch s n → s.p ≡ e.p → IsOwn shadow_design e x
+own_carried : (e : Progress) (s : State) (n : Device) (x : ℕ) (block : Block) → IsMoment shadow_design Made e.epoch s n → s.p ≡ e.p
+    → IsOwn shadow_design e x
     → Carries shadow_design e.epoch Made s n Made s (written_to n x block)
 own_carried e s n x block moment same own =
     over_before e.epoch s n moment x block (own_before e s.p x same own)
@@ -259,7 +263,8 @@ own_carried e s n x block moment same own =
 -- ---- the body
 
 body_carried : (epoch : ℕ) (s : State) (n : Device) (x : ℕ) → IsMoment shadow_design (Making x) epoch s n → next_block x s ≡ Some x
-    → Carries shadow_design epoch (Making x) s n (Making (x + 1)) s (written_to n (target_place s (x / 64) (x % 64)) (frame_block s (x / 64) (x % 64)))
+    → Carries shadow_design epoch (Making x) s n (Making (x + 1)) s
+    (written_to n (target_place s (x / 64) (x % 64)) (frame_block s (x / 64) (x % 64)))
 body_carried epoch s n x moment found =
     let filled = (next_filled s x x found).1 in
     let to : ℕ = target_place s (x / 64) (x % 64) in
@@ -273,7 +278,8 @@ body_carried epoch s n x moment found =
     (λ g h. h) (λ a b r. tt) (omega arith)
 
 -- a frame's page of the pool is none of the committed map's
-body_spares : (epoch : ℕ) (s : State) (n : Device) (x : ℕ) (g : List Block) → IsMoment shadow_design (Making x) epoch s n → next_block x s ≡ Some x
+body_spares : (epoch : ℕ) (s : State) (n : Device) (x : ℕ) (g : List Block) → IsMoment shadow_design (Making x) epoch s n
+    → next_block x s ≡ Some x
     → IsKeptBy (Making x) epoch s g → IsSpared shadow_design s g (target_place s (x / 64) (x % 64))
 body_spares epoch s n x g moment found keeps =
     let sound = moment.sound in
@@ -306,7 +312,8 @@ rests_committed true s =
     (entry_at-cleared freed_frame (λ e. refl) s.frames)
 rests_committed false s = tt
 
-commits_to : (epoch : ℕ) (s : State) (n : Device) → IsMoment shadow_design Made epoch s n → Commits shadow_design epoch s n Resting (committed_state s) n
+commits_to : (epoch : ℕ) (s : State) (n : Device) → IsMoment shadow_design Made epoch s n
+    → Commits shadow_design epoch s n Resting (committed_state s) n
 commits_to epoch s n moment = record {
   moment = record {
     sound = IsSoundState-committed s moment.sound;
@@ -332,7 +339,8 @@ commits_to epoch s n moment = record {
 
 -- ---- the seal, and devices
 
-seals_to : (before epoch : ℕ) (s : State) (n : Device) → IsMoment shadow_design Resting before s n → SealsTo shadow_design before epoch s (sealed_state s) n
+seals_to : (before epoch : ℕ) (s : State) (n : Device) → IsMoment shadow_design Resting before s n
+    → SealsTo shadow_design before epoch s (sealed_state s) n
 seals_to before epoch s n moment = record {
   moment = record {
     sound = IsSoundState-sealed s moment.sound;

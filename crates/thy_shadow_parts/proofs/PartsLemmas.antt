@@ -45,7 +45,8 @@ use Rattle.thy_shadow_parts.proofs.StoreLemmas.{is_storing}
 -- ---- power comes on
 
 -- pages of a new pool list their own numbers, and no frame lists a page
-lists_first : (p : Parameters) (q n : ℕ) → lists number_key n (entry_at (listing (first_entries p) (pool_pages p)) q) ≡ true → (q < p.pages) × (q ≡ n)
+lists_first : (p : Parameters) (q n : ℕ) → lists number_key n (entry_at (listing (first_entries p) (pool_pages p)) q) ≡ true
+    → (q < p.pages) × (q ≡ n)
 lists_first p q n h =
     first_lists p q n (nat_lt q p.pages) refl (sym (ap (lists number_key n) (entry_at-first p (pool_pages p) q)) ∙ h)
 
@@ -56,26 +57,26 @@ pool_once p = IsListing-once number_key (listing (first_entries p) (pool_pages p
     let of = lists_first p q n a in
     omega (arith, of.0, of.1))
 
--- a new pool has every page of memory in the page of the pool with its number
-page_first : (p : Parameters) (dram : Contents) → IsSoundState (new_state p dram) → (x : ℕ) → x < p.pages
-    → pool_of (new_state p dram) x ≡ Some x
-page_first p dram sound x l =
-    sound.pool_once.found x x (held_lists x (entry_at (new_state p dram).pool x) (entry_at-first p (pool_pages p) x ∙ first_page p x l))
+module _ (p : Parameters) (dram : Contents) where
+  -- a new pool has every page of memory in the page of the pool with its number
+  page_first : IsSoundState (new_state p dram) → (x : ℕ) → x < p.pages → pool_of (new_state p dram) x ≡ Some x
+  page_first sound x l =
+      sound.pool_once.found x x (held_lists x (entry_at (new_state p dram).pool x) (entry_at-first p (pool_pages p) x ∙ first_page p x l))
 
-pub first_committed : (p : Parameters) (dram : Contents) → IsSoundState (new_state p dram) → committed_table (new_state p dram) ≡ first_table p
-first_committed p dram sound = table_by-same p (pool_of (new_state p dram)) (λ x. Some x) (page_first p dram sound)
+  pub first_committed : IsSoundState (new_state p dram) → committed_table (new_state p dram) ≡ first_table p
+  first_committed sound = table_by-same p (pool_of (new_state p dram)) (λ x. Some x) (page_first sound)
 
--- a new pool is as when power comes on: no frame is filled or begun
-new_fresh : (p : Parameters) (dram : Contents) → IsInRange p → IsDramOf p dram → IsFresh (new_state p dram)
-new_fresh p dram range is =
-    let sound : IsSoundState (new_state p dram) =
-    IsSoundState-new p dram range is.blocks (pool_once p)
-    (IsListing-free page_key (empty_table p.ptt p.pages)
-    (entry_at-empty {E = Framed} p.ptt p.pages)) in
-    record {
-      unframed = record { state = sound; free = λ j. entry_at-empty p.ptt p.pages j; unbegun = refl };
-      first = first_committed p dram sound;
-    }
+  -- a new pool is as when power comes on: no frame is filled or begun
+  new_fresh : IsInRange p → IsDramOf p dram → IsFresh (new_state p dram)
+  new_fresh range is =
+      let sound : IsSoundState (new_state p dram) =
+      IsSoundState-new p dram range is.blocks (pool_once p)
+      (IsListing-free page_key (empty_table p.ptt p.pages)
+      (entry_at-empty {E = Framed} p.ptt p.pages)) in
+      record {
+        unframed = record { state = sound; free = λ j. entry_at-empty p.ptt p.pages j; unbegun = refl };
+        first = first_committed sound;
+      }
 
 -- ---- in both ends of a boot
 
@@ -114,7 +115,8 @@ restored s n b same sized found =
 -- ---- the program is loaded
 
 loaded : (s : State) (n : Device) (g : List Block) (start : Plain) → IsFresh s → length n.image ≡ image_blocks s.p → CanStart s.p start
-    → block_at g 1 ≡ commit_of 0 → slot_in (shadow_layouts s.p) g ≡ first_slot_of filling_shadow s.p start → EndsBoot shadow_design Resting s n g
+    → block_at g 1 ≡ commit_of 0 → slot_in (shadow_layouts s.p) g ≡ first_slot_of filling_shadow s.p start
+    → EndsBoot shadow_design Resting s n g
 loaded s n g start fresh sized can commit slot =
     ends s n g 0 fresh.unframed sized (record {
       of_epoch = ap epoch_of commit ∙ epoch_of-commit_of 0 (omega arith);

@@ -32,21 +32,20 @@ use Rattle.thy_shadow_parts.specs.Design.{ArePaged, AllPaged}
 
 -- ---- over another NVM
 
--- a block in a frame does not depend on the NVM
-work_same : (s : State) (m n : Device) (b : ℕ) (o : Option ℕ) → committed_of s n b ≡ committed_of s m b → work_by s n b o ≡ work_by s m b o
-work_same s m n b None h = h
-work_same s m n b (Some j) h = refl
+module _ (s : State) (m n : Device) where
+  -- a block in a frame does not depend on the NVM
+  work_same : (b : ℕ) (o : Option ℕ) → committed_of s n b ≡ committed_of s m b → work_by s n b o ≡ work_by s m b o
+  work_same b None h = h
+  work_same b (Some j) h = refl
 
--- all blocks load as before if each reads as before where it was committed
-pub works_same : (s : State) (m n : Device) → ((b : ℕ) → b < memory_blocks s.p → committed_of s n b ≡ committed_of s m b)
-    → works s n ≡ works s m
-works_same s m n same =
-    map_below (memory_blocks s.p) (work_of s n) (work_of s m)
-    (λ b l. work_same s m n b (frame_of s (page_of b)) (same b l))
+  -- all blocks load as before if each reads as before where it was committed
+  pub works_same : ((b : ℕ) → b < memory_blocks s.p → committed_of s n b ≡ committed_of s m b) → works s n ≡ works s m
+  works_same same =
+      map_below (memory_blocks s.p) (work_of s n) (work_of s m)
+      (λ b l. work_same b (frame_of s (page_of b)) (same b l))
 
-pub commits_same : (s : State) (m n : Device) → ((b : ℕ) → b < memory_blocks s.p → committed_of s n b ≡ committed_of s m b)
-    → commits s n ≡ commits s m
-commits_same s m n same = map_below (memory_blocks s.p) (committed_of s n) (committed_of s m) same
+  pub commits_same : ((b : ℕ) → b < memory_blocks s.p → committed_of s n b ≡ committed_of s m b) → commits s n ≡ commits s m
+  commits_same same = map_below (memory_blocks s.p) (committed_of s n) (committed_of s m) same
 
 -- ---- places of the committed map
 
@@ -176,7 +175,8 @@ pub aside_before : (s : State) → IsSoundState s → (x : ℕ) → x < first_po
 aside_before s sound x low b small q =
     let behind = (committed_behind s b sound small).0 in omega (arith, low, behind, q)
 
-pub aside_page : (s : State) → IsSoundState s → (x : ℕ) → is_some (entry_at s.frames (x / 64)) ≡ true → IsAside s (target_place s (x / 64) (x % 64))
+pub aside_page : (s : State) → IsSoundState s → (x : ℕ) → is_some (entry_at s.frames (x / 64)) ≡ true
+    → IsAside s (target_place s (x / 64) (x % 64))
 aside_page s sound x some b small = target_apart s sound (x / 64) (x % 64) b (omega arith) some small
 
 -- ---- memory

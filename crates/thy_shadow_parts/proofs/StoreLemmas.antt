@@ -485,7 +485,8 @@ stored_once : (stored : Stored) → storeless_by stored false ≡ false
 stored_once Done = refl
 stored_once CopyFirst = refl
 
-on_stays : (a : State) (l : Device) (b : State) (m : Device) (c : State) (n : Device) → StaysPool a l b m → StaysPool b m c n → StaysPool a l c n
+on_stays : (a : State) (l : Device) (b : State) (m : Device) (c : State) (n : Device) → StaysPool a l b m → StaysPool b m c n
+    → StaysPool a l c n
 on_stays a l b m c n first second = record {
   same_p = second.same_p ∙ first.same_p;
   room = second.room ∙ first.room;
@@ -500,7 +501,8 @@ rests_less : (phase : Phase) (frames : Listing Framed) → rests_at phase true f
 rests_less Resting frames rests = tt
 rests_less phase frames rests = tt
 
-module _ (epoch : ℕ) (s : State) (n : Device) (t : State) (m : Device) (moment : IsMoment shadow_design Resting epoch s n) (stays : StaysPool s n t m) where
+module _ (epoch : ℕ) (s : State) (n : Device) (t : State) (m : Device) (moment : IsMoment shadow_design Resting epoch s n)
+    (stays : StaysPool s n t m) where
   meant_then : (g : List Block) (kept : ℕ) → HoldsCheckpoint s.p g kept (committed_table s) → HoldsCheckpoint t.p g kept (committed_table t)
   meant_then g kept meant =
       subst (λ (p : Parameters). HoldsCheckpoint p g kept (committed_table t)) (sym stays.same_p)

@@ -8,20 +8,21 @@ pub joined-append : (xs ys : List (List ℕ)) → joined (xs ++ ys) ≡ joined x
 joined-append [] ys = refl
 joined-append (x ∷ xs) ys = ap (λ l. x ++ l) (joined-append xs ys) ∙ sym (append_assoc x (joined xs) (joined ys))
 
--- the joined texts of the first elements of a list, with one more
-pub joined-take-more : {X : Type 0} (f : X → List ℕ) (xs : List X) (i : ℕ) (d : X) → i < length xs → joined (map f (take (i + 1) xs)) ≡ joined (map f (take i xs)) ++ f (get_or xs i d)
-joined-take-more f xs i d h =
-    ap (λ l. joined (map f l)) (take_more xs i d h)
-    ∙ ap joined (map-append f (take i xs) (get_or xs i d ∷ []))
-    ∙ joined-append (map f (take i xs)) (f (get_or xs i d) ∷ [])
-    ∙ ap (λ l. joined (map f (take i xs)) ++ l) (append-nil (f (get_or xs i d)))
+module _ {X : Type 0} (f : X → List ℕ) (xs : List X) (i : ℕ) where
+  -- the joined texts of the first elements of a list, with one more
+  pub joined-take-more : (d : X) → i < length xs → joined (map f (take (i + 1) xs)) ≡ joined (map f (take i xs)) ++ f (get_or xs i d)
+  joined-take-more d h =
+      ap (λ l. joined (map f l)) (take_more xs i d h)
+      ∙ ap joined (map-append f (take i xs) (get_or xs i d ∷ []))
+      ∙ joined-append (map f (take i xs)) (f (get_or xs i d) ∷ [])
+      ∙ ap (λ l. joined (map f (take i xs)) ++ l) (append-nil (f (get_or xs i d)))
 
--- the joined texts of a list: the texts of its first elements, and then the rest
-pub joined-split : {X : Type 0} (f : X → List ℕ) (xs : List X) (i : ℕ) → joined (map f xs) ≡ joined (map f (take i xs)) ++ joined (map f (drop i xs))
-joined-split f xs i =
-    ap (λ l. joined (map f l)) (sym (take-append-drop i xs))
-    ∙ ap joined (map-append f (take i xs) (drop i xs))
-    ∙ joined-append (map f (take i xs)) (map f (drop i xs))
+  -- the joined texts of a list: the texts of its first elements, and then the rest
+  pub joined-split : joined (map f xs) ≡ joined (map f (take i xs)) ++ joined (map f (drop i xs))
+  joined-split =
+      ap (λ l. joined (map f l)) (sym (take-append-drop i xs))
+      ∙ ap joined (map-append f (take i xs) (drop i xs))
+      ∙ joined-append (map f (take i xs)) (map f (drop i xs))
 
 -- if the elements up to one are longer than n together, all are
 pub joined-longer : {X : Type 0} (f : X → List ℕ) (xs : List X) (i n : ℕ) (d : X) (before : List ℕ) → i < length xs

@@ -73,7 +73,8 @@ module _ (c : Course) (m : Marks) (one : c.harts ≡ 1) (none : HasNoTurns m) wh
   }
   from-at (Commit epoch cycle overlapped) h = h
   from-at (Cut index cycle) h = h
-  from-at (Restart epoch count state) h = record { marked = h.marked; whole = h.whole ∙ sym (ap (c.at count) (turns_of-unlisted m none epoch count)) }
+  from-at (Restart epoch count state) h =
+      record { marked = h.marked; whole = h.whole ∙ sym (ap (c.at count) (turns_of-unlisted m none epoch count)) }
   from-at Reload h = h
   from-at (Scheme number) h = h
   from-at (Ended status count cycle state) h =
@@ -81,7 +82,8 @@ module _ (c : Course) (m : Marks) (one : c.harts ≡ 1) (none : HasNoTurns m) wh
 
 -- marks without turns have none after an event either
 unlisted-after : (c : Counts) (m : Marks) (v : Event) → HasNoTurns m → LawfulAt c m v → HasNoTurns (marks_after c.start m v)
-unlisted-after c m (EpochEnd epoch count cause turns) none e = record { kept = none.kept; sealed = nothing_more m.kept_turns turns none.kept e.unlisted }
+unlisted-after c m (EpochEnd epoch count cause turns) none e =
+    record { kept = none.kept; sealed = nothing_more m.kept_turns turns none.kept e.unlisted }
 unlisted-after c m (Commit epoch cycle overlapped) none h = record { kept = none.sealed; sealed = refl }
 unlisted-after c m (Cut index cycle) none h = none
 unlisted-after c m (Restart epoch count state) none h = record { kept = turns_of-unlisted m none epoch count; sealed = refl }
@@ -91,13 +93,15 @@ unlisted-after c m (Ended status count cycle state) none h = none
 
 -- ---- all
 
-pub to-counts : (c : Course) (m : Marks) (events : List Event) → c.harts ≡ 1 → HasNoTurns m → AllLawful c m events → AllLawfulAt (counts_of c) m events
+pub to-counts : (c : Course) (m : Marks) (events : List Event) → c.harts ≡ 1 → HasNoTurns m → AllLawful c m events
+    → AllLawfulAt (counts_of c) m events
 to-counts c m [] one none h = tt
 to-counts c m (v ∷ vs) one none h =
     let first = to-at c m one none v h.0 in
     (first, to-counts c (marks_after c.start m v) vs one (unlisted-after (counts_of c) m v none first) h.1)
 
-pub from-counts : (c : Course) (m : Marks) (events : List Event) → c.harts ≡ 1 → HasNoTurns m → AllLawfulAt (counts_of c) m events → AllLawful c m events
+pub from-counts : (c : Course) (m : Marks) (events : List Event) → c.harts ≡ 1 → HasNoTurns m → AllLawfulAt (counts_of c) m events
+    → AllLawful c m events
 from-counts c m [] one none h = tt
 from-counts c m (v ∷ vs) one none h =
     (from-at c m one none v h.0, from-counts c (marks_after c.start m v) vs one (unlisted-after (counts_of c) m v none h.0) h.1)
@@ -106,6 +110,7 @@ pub by-counts : OneHartGoesByCounts
 by-counts c m events one none = (to-counts c m events one none, from-counts c m events one none)
 
 -- lawful events of one hart, with more after them, are lawful
-pub AllLawfulAt-append : (c : Counts) (m : Marks) (vs ws : List Event) → AllLawfulAt c m vs → AllLawfulAt c (marks_from c.start m vs) ws → AllLawfulAt c m (vs ++ ws)
+pub AllLawfulAt-append : (c : Counts) (m : Marks) (vs ws : List Event) → AllLawfulAt c m vs → AllLawfulAt c (marks_from c.start m vs) ws
+    → AllLawfulAt c m (vs ++ ws)
 AllLawfulAt-append c m [] ws before more = more
 AllLawfulAt-append c m (v ∷ vs) ws before more = (before.0, AllLawfulAt-append c (marks_after c.start m v) vs ws before.1 more)

@@ -20,7 +20,11 @@ use Rattle.thy_thynvm_parts.proofs.ItemLemmas.{copied_is, issued_is}
 move_fails : (s : State) (from to : Place) (m n : Device) → FailsMove s.p from to (devices_of m s.dram) (devices_of n s.dram)
     → HasFailedToWrite (number_of s.p to) (reads s m from) m n
 move_fails s from to m n f = elim f.failed as (λ _. HasFailedToWrite (number_of s.p to) (reads s m from) m n) [
-  | inl r ↦ record { down = r.failed.down; no_more = λ x b h. no_more-with_queued m (number_of s.p to) (reads s m from) x b (r.failed.no_more x b h); counts = r.failed.counts }
+  | inl r ↦ record {
+    down = r.failed.down;
+    no_more = λ x b h. no_more-with_queued m (number_of s.p to) (reads s m from) x b (r.failed.no_more x b h);
+    counts = r.failed.counts;
+  }
   | inr w ↦ w.failed
 ]
 
@@ -45,24 +49,25 @@ no_copy s h = by_next (next_copy s) refl h where
   by_next None e is = e
   by_next (Some i) e is = cc
 
-pub copy_state : (s : State) (m : Device) (i : ℕ) → next_copy s ≡ Some i → after_next_copy (next_copy s) s m ≡ written_next s
-copy_state s m i found =
-    ap (λ (o : Option ℕ). after_next_copy o s m) found ∙ copied_is (block_listed i s) s m
-    ∙ sym (ap (λ (o : Option ℕ). written_by s o (next_page s)) found)
+module _ (s : State) (m : Device) where
+  pub copy_state : (i : ℕ) → next_copy s ≡ Some i → after_next_copy (next_copy s) s m ≡ written_next s
+  copy_state i found =
+      ap (λ (o : Option ℕ). after_next_copy o s m) found ∙ copied_is (block_listed i s) s m
+      ∙ sym (ap (λ (o : Option ℕ). written_by s o (next_page s)) found)
 
-pub copy_device : (s : State) (m : Device) (i : ℕ) → next_copy s ≡ Some i → devices_after_copy (next_copy s) s m ≡ after m.writes (action_next s m) m
-unfolding devices_copied
-copy_device s m i found =
-    let b : ℕ = block_listed i s in
-    let y : Place = target (cell_of s b) in
-    ap (λ (o : Option ℕ). devices_after_copy o s m) found
-    ∙ written-nvm (in_dram y) (number_of s.p y) (reads s m (last (cell_of s b))) (devices_of m s.dram) (target-in_nvm s b)
-    ∙ sym (ap (λ (o : Option ℕ). device_by s m o (next_page s)) found)
+  pub copy_device : (i : ℕ) → next_copy s ≡ Some i → devices_after_copy (next_copy s) s m ≡ after m.writes (action_next s m) m
+  unfolding devices_copied
+  copy_device i found =
+      let b : ℕ = block_listed i s in
+      let y : Place = target (cell_of s b) in
+      ap (λ (o : Option ℕ). devices_after_copy o s m) found
+      ∙ written-nvm (in_dram y) (number_of s.p y) (reads s m (last (cell_of s b))) (devices_of m s.dram) (target-in_nvm s b)
+      ∙ sym (ap (λ (o : Option ℕ). device_by s m o (next_page s)) found)
 
-pub copy_fails : (s : State) (m n : Device) → FailsNextCopy s m n → FailsTo (action_next s m) m n
-copy_fails s m n f =
-    let b : ℕ = block_listed f.entry s in
-    subst (λ (o : Option ℕ). FailsBy s m n o (next_page s)) (sym f.next) (move_fails s (last (cell_of s b)) (target (cell_of s b)) m n f.fails)
+  pub copy_fails : (n : Device) → FailsNextCopy s m n → FailsTo (action_next s m) m n
+  copy_fails n f =
+      let b : ℕ = block_listed f.entry s in
+      subst (λ (o : Option ℕ). FailsBy s m n o (next_page s)) (sym f.next) (move_fails s (last (cell_of s b)) (target (cell_of s b)) m n f.fails)
 
 -- ---- a block of a page
 
@@ -72,7 +77,8 @@ some_page s k none next = by_next (next_page s) refl (sym (ap (λ (o : Option �
   by_next None e is = cc
   by_next (Some j) e is = (j, e)
 
-pub page_state : (s : State) (m : Device) (j : ℕ) → next_copy s ≡ None → next_page s ≡ Some j → after_next_write (next_page s) s m ≡ written_next s
+pub page_state : (s : State) (m : Device) (j : ℕ) → next_copy s ≡ None → next_page s ≡ Some j
+    → after_next_write (next_page s) s m ≡ written_next s
 page_state s m j none found =
     ap (λ (o : Option ℕ). after_next_write o s m) found ∙ issued_is (block_to_write j s) s m
     ∙ sym (ap (λ (o : Option ℕ). written_by s o (next_page s)) none ∙ ap (λ (o : Option ℕ). written_by s None o) found)
@@ -91,4 +97,5 @@ pub page_fails : (s : State) (m n : Device) → next_copy s ≡ None → FailsNe
 page_fails s m n none f =
     let b : ℕ = block_to_write f.entry s in
     subst (λ (o : Option ℕ). FailsBy s m n o (next_page s)) (sym none)
-    (subst (λ (o : Option ℕ). FailsBy s m n None o) (sym f.next) (move_fails s (frame_at (seat_of (cell_of s b))) (target (cell_of s b)) m n f.fails))
+    (subst (λ (o : Option ℕ). FailsBy s m n None o) (sym f.next)
+    (move_fails s (frame_at (seat_of (cell_of s b))) (target (cell_of s b)) m n f.fails))

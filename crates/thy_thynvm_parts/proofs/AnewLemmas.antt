@@ -87,7 +87,8 @@ module _ (p : Parameters) (commit : Block) (slot : List Block) (older : IsOlder 
   behind_memory k = omega (arith, slot_behind p (epoch % 2) k, place_is)
 
   pub slots_apart : (i k : ℕ) → i < blocks_of_slot (version_of scheme_number p commit) p
-      → place_of_slot (version_of scheme_number p commit) p (epoch % 2) + i ≢ place_of_slot (version_of scheme_number p (anew commit)) p (epoch_of (anew commit) % 2) + k
+      → place_of_slot (version_of scheme_number p commit) p (epoch % 2) + i ≢ place_of_slot (version_of scheme_number p (anew commit)) p
+      (epoch_of (anew commit) % 2) + k
   slots_apart i k inside e =
       let old : i < blocks_of_slot VersionOne p = subst (λ (v : LayoutVersion). i < blocks_of_slot v p) older.version inside in
       let before = old_slot_before p (epoch % 2) i (half epoch) old in
@@ -97,7 +98,8 @@ module _ (p : Parameters) (commit : Block) (slot : List Block) (older : IsOlder 
 
 -- ---- what the controller has of it
 
-module _ (c : State) (commit : Block) (slot : List Block) (older : IsOlder (thynvm_layouts c.p) c.p commit slot) (listed : ListsSlot commit slot c) where
+module _ (c : State) (commit : Block) (slot : List Block) (older : IsOlder (thynvm_layouts c.p) c.p commit slot)
+    (listed : ListsSlot commit slot c) where
   lists_anew : ListsSlot (anew commit) (slot_anew (thynvm_layouts c.p) commit slot) c
   lists_anew = record {
     tables = listed.tables;
@@ -140,20 +142,24 @@ module _ (c : State) (commit : Block) (slot : List Block) (older : IsOlder (thyn
 
 -- ---- all of it
 
-older_at : (p q : Parameters) (commit : Block) (slot : List Block) → q ≡ p → IsOlder (thynvm_layouts p) p commit slot → IsOlder (thynvm_layouts q) q commit slot
+older_at : (p q : Parameters) (commit : Block) (slot : List Block) → q ≡ p → IsOlder (thynvm_layouts p) p commit slot
+    → IsOlder (thynvm_layouts q) q commit slot
 older_at p q commit slot same older = subst (λ (r : Parameters). IsOlder (thynvm_layouts r) r commit slot) (sym same) older
 
-pub renewed_is_the_same : (p : Parameters) (commit : Block) (slot : List Block) → IsOlder (thynvm_layouts p) p commit slot → IsTheSame filling_thynvm p commit slot
+pub renewed_is_the_same : (p : Parameters) (commit : Block) (slot : List Block) → IsOlder (thynvm_layouts p) p commit slot
+    → IsTheSame filling_thynvm p commit slot
 renewed_is_the_same p commit slot older = record {
   faultless = faultless_anew p commit slot older;
   cpu = (means_the_same p commit slot older).cpu_same;
-  places = ap (λ (t : Tables). map (λ b. number_of p (place_of t b)) (range_with_len 0 (memory_blocks p))) (means_the_same p commit slot older).tables_same;
+  places = ap (λ (t : Tables). map (λ b. number_of p (place_of t b)) (range_with_len 0 (memory_blocks p)))
+      (means_the_same p commit slot older).tables_same;
   apart = λ i k inside there. slots_apart p commit slot older i k inside;
   lists = λ c same listed.
       subst (λ (q : Parameters). ListsSlot (anew commit) (slot_anew (thynvm_layouts q) commit slot) c) same
       (lists_anew c commit slot (older_at p c.p commit slot same older) listed);
   still = λ c n m same listed sized alike holds.
       let mine : IsOlder (thynvm_layouts c.p) c.p commit slot = older_at p c.p commit slot same older in
-      let over : ReadsAlike (thynvm_layouts c.p) (anew commit) n m = subst (λ (q : Parameters). ReadsAlike (thynvm_layouts q) (anew commit) n m) (sym same) alike in
+      let over : ReadsAlike (thynvm_layouts c.p) (anew commit) n m =
+      subst (λ (q : Parameters). ReadsAlike (thynvm_layouts q) (anew commit) n m) (sym same) alike in
       (still c commit slot mine listed n m over holds, loads_alike c commit slot mine listed n m over);
 }

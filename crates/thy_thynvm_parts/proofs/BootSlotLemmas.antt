@@ -36,9 +36,11 @@ pub size_of_btt : (p : Parameters) (slot : List Block) → length (tables_in p s
 size_of_btt p slot = length-entries_in slot (8 * record_blocks p) p.btt
 
 -- if it has no fault, its counts have none
-pub counts_fit : (version : LayoutVersion) (p : Parameters) (ceiling epoch : ℕ) (slot : List Block) → slot_fault version p ceiling epoch slot ≡ None
+pub counts_fit : (version : LayoutVersion) (p : Parameters) (ceiling epoch : ℕ) (slot : List Block)
+    → slot_fault version p ceiling epoch slot ≡ None
     → count_fault version p slot ≡ None
-counts_fit version p ceiling epoch slot h = (none_of_two (count_fault version p slot) (second_fault p slot) (slot_parts version p ceiling epoch slot h).3).0
+counts_fit version p ceiling epoch slot h =
+    (none_of_two (count_fault version p slot) (second_fault p slot) (slot_parts version p ceiling epoch slot h).3).0
 
 -- a controller that lists nothing lists none of its tables
 pub ListsUpTo-empty : (p : Parameters) (slot : List Block) (c : State) → c.p ≡ p → IsEmpty c → ListsUpTo 0 0 (tables_in p slot) c
@@ -55,19 +57,23 @@ ListsUpTo-empty p slot c same e = record {
 }
 
 -- a controller with a slot's tables listed counts nothing yet
-pub no_counts-listed : (p : Parameters) (t : Tables) (c d : State) → c.p ≡ p → IsEmpty c → AsListed p.btt p.ptt t c d → d.counts.lasts ≡ replicate p.pages 0
+pub no_counts-listed : (p : Parameters) (t : Tables) (c d : State) → c.p ≡ p → IsEmpty c → AsListed p.btt p.ptt t c d
+    → d.counts.lasts ≡ replicate p.pages 0
 no_counts-listed p t c d same e l =
     ap (λ (x : State). x.counts.lasts) l.same ∙ e.fresh.no_counts ∙ ap (λ (q : Parameters). replicate q.pages 0) same
 
 -- tables of which all entries are listed are these tables
 all_listed : (i j : ℕ) (t u : Tables) → length t.btt ≡ i → length t.ptt ≡ j → HaveFirst i j t u → u ≡ t
 all_listed i j t u bi pj h =
-    ap (λ (x : List (Option ℕ)). record u { btt = x }) (ext_get_or None u.btt t.btt h.btt_length (λ k l. h.blocks k (omega (arith, l, h.btt_length, bi))))
-    ∙ ap (λ (x : List (Option ℕ)). record t { ptt = x }) (ext_get_or None u.ptt t.ptt h.ptt_length (λ k l. h.pages k (omega (arith, l, h.ptt_length, pj))))
+    ap (λ (x : List (Option ℕ)). record u { btt = x })
+    (ext_get_or None u.btt t.btt h.btt_length (λ k l. h.blocks k (omega (arith, l, h.btt_length, bi))))
+    ∙ ap (λ (x : List (Option ℕ)). record t { ptt = x })
+    (ext_get_or None u.ptt t.ptt h.ptt_length (λ k l. h.pages k (omega (arith, l, h.ptt_length, pj))))
 
 -- a controller with the tables and the counts of a slot lists it
 pub lists_on : (p : Parameters) (commit : Block) (slot : List Block) (c d e : State) → c.p ≡ p → AsListed p.btt p.ptt (tables_in p slot) c d
-    → e ≡ with_lasts (counts_in (version_of scheme_number p commit) p slot) d → IsBooting e → AreSoundTables e → ListsOn filling_thynvm commit slot c e
+    → e ≡ with_lasts (counts_in (version_of scheme_number p commit) p slot) d → IsBooting e → AreSoundTables e
+    → ListsOn filling_thynvm commit slot c e
 lists_on p commit slot c d e same l counted booting tables =
     let same_p : e.p ≡ c.p = ap (λ (x : State). x.p) counted ∙ ap (λ (x : State). x.p) l.same in
     let same_dram : e.dram ≡ c.dram = ap (λ (x : State). x.dram) counted ∙ ap (λ (x : State). x.dram) l.same in
@@ -95,12 +101,14 @@ lists_on p commit slot c d e same l counted booting tables =
 -- ---- its counts, given to the controller page by page
 
 -- without a fault a count is not past 63
-pub count_within : (p : Parameters) (slot : List Block) (i : ℕ) → count_fault VersionTwo p slot ≡ None → i < p.pages → count_byte p slot i ≤ 63
+pub count_within : (p : Parameters) (slot : List Block) (i : ℕ) → count_fault VersionTwo p slot ≡ None → i < p.pages
+    → count_byte p slot i ≤ 63
 count_within p slot i none inside =
     let n = 64 * count_blocks p in
     let found = none_of_map Count (position (is_bad_count p slot) (range_with_len 0 n)) none in
     by_test (nat_lt 63 (count_byte p slot i)) refl (none_passes (is_bad_count p slot) n found i (omega arith)) where
-      by_test : (t : Bool) → nat_lt 63 (count_byte p slot i) ≡ t → (t || (nat_le p.pages i && not (count_byte p slot i == 0))) ≡ false → count_byte p slot i ≤ 63
+      by_test : (t : Bool) → nat_lt 63 (count_byte p slot i) ≡ t → (t || (nat_le p.pages i && not (count_byte p slot i == 0))) ≡ false
+          → count_byte p slot i ≤ 63
       by_test true e h = cc
       by_test false e h = ltb-false 63 (count_byte p slot i) e
 
@@ -125,6 +133,8 @@ HasFirstCounts-more p slot n old new next inside h is booting =
     }
 
 -- a controller with the first n counts of a slot has all of them, if memory has at most n pages
-pub all_counts : (p : Parameters) (slot : List Block) (n : ℕ) (old new : State) → p.pages ≤ n → HasFirstCounts p slot n old new → new ≡ with_lasts (counts_in VersionTwo p slot) old
+pub all_counts : (p : Parameters) (slot : List Block) (n : ℕ) (old new : State) → p.pages ≤ n → HasFirstCounts p slot n old new
+    → new ≡ with_lasts (counts_in VersionTwo p slot) old
 all_counts p slot n old new all h =
-    h.same ∙ ap (λ (xs : List ℕ). with_lasts xs old) (fill_by_all (count_byte p slot) new.counts.lasts p.pages 0 h.long (λ k l. h.each k (omega (arith, l, all))))
+    h.same ∙ ap (λ (xs : List ℕ). with_lasts xs old)
+    (fill_by_all (count_byte p slot) new.counts.lasts p.pages 0 h.long (λ k l. h.each k (omega (arith, l, all))))

@@ -68,7 +68,8 @@ restored_is_booted o g n b c origin sound is =
     let state : state_from p cpu (loads c n) ≡ at o m.count
     = ap (λ (q : Parameters). state_from q cpu (loads c n)) (sym sound.geometry) ∙ kept.4 in
     let fits : cpu_fault p ceiling slot ≡ None
-    = subst (λ (q : Parameters). cpu_fault q ceiling slot ≡ None) sound.geometry (thynvm_are_layouts.cpu b.p ceiling b.commit slot f.listed.slot_fits) in
+    = subst (λ (q : Parameters). cpu_fault q ceiling slot ≡ None) sound.geometry
+    (thynvm_are_layouts.cpu b.p ceiling b.commit slot f.listed.slot_fits) in
     let fit = fits_cpu p b.p ceiling slot fits in
     let lasts : counts_in version p (slot_in p g.before) ≡ c.counts.lasts
     = ap (λ (q : Parameters). counts_in version q (slot_in q g.before)) (sym sound.geometry)

@@ -46,7 +46,8 @@ module _ (e : Progress) (s : State) where
   abbrev after : Item → ℕ
   after i = left (next_after filling_thynvm items_thynvm e i) (control_after items_thynvm i s)
 
-  counts-round : (r : Round) → IsInRound (slot_blocks filling_thynvm e) r → after (RoundItem r) + 1 ≡ round_left (slot_blocks filling_thynvm e) r
+  counts-round : (r : Round) → IsInRound (slot_blocks filling_thynvm e) r
+      → after (RoundItem r) + 1 ≡ round_left (slot_blocks filling_thynvm e) r
   counts-round (Write k) inside =
       next_by (λ (q : Round). left (InRound q) s + 1 ≡ round_left (slot_blocks filling_thynvm e) (Write k)) k (slot_blocks filling_thynvm e)
       (λ more. omega (arith, more)) (λ last. omega (arith, last, inside))
@@ -60,7 +61,8 @@ module _ (e : Progress) (s : State) where
       omega (arith, first, none)
   counts-body (Some k) next at = let one = counts_by s at (next_copy s) (next_page s) k refl refl next in omega (arith, one)
 
-  counts : (q : EngineStage) → ((r : Round) → q ≡ InRound r → IsInRound (slot_blocks filling_thynvm e) r) → items_thynvm.stands (phase_of q) s → is_under_way q ≡ true
+  counts : (q : EngineStage) → ((r : Round) → q ≡ InRound r → IsInRound (slot_blocks filling_thynvm e) r)
+      → items_thynvm.stands (phase_of q) s → is_under_way q ≡ true
       → after (item items_thynvm q s) + 1 ≡ left q s
   counts Idle inside stands way = cc
   counts (Body from) inside stands way = let body = counts-body (next_position s) refl stands in omega (arith, body)

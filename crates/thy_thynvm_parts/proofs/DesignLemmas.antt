@@ -177,7 +177,8 @@ same_versions s n hold = record { penult_same = λ b l. refl; last_same = λ b l
 
 -- ---- a write of the slot's own, or of the commit block, and devices
 
-own_carried : (e : Progress) (s : State) (n : Device) (x : ℕ) (block : Block) → IsMoment thynvm_design Made e.epoch s n → s.p ≡ e.p → IsOwn thynvm_design e x
+own_carried : (e : Progress) (s : State) (n : Device) (x : ℕ) (block : Block) → IsMoment thynvm_design Made e.epoch s n → s.p ≡ e.p
+    → IsOwn thynvm_design e x
     → Carries thynvm_design e.epoch Made s n Made s (written_to n x block)
 own_carried e s n x block moment same own =
     let sized : IsSized s n = record { nvm = moment.sized } in
@@ -211,7 +212,8 @@ tables_drained s t = record {
 }
 
 at_drained : (way : Bool) (s : State) → StandsAt way s → StandsAt way (after_drain s)
-at_drained way s at = record { tables = tables_drained s at.tables; way_is = at.way_is; promotes = λ p. record { no_work = (at.promotes p).no_work } }
+at_drained way s at =
+    record { tables = tables_drained s at.tables; way_is = at.way_is; promotes = λ p. record { no_work = (at.promotes p).no_work } }
 
 pub stands_drained : (phase : Phase) (s : State) → items_thynvm.stands phase s → items_thynvm.stands phase (after_drain s)
 stands_drained Resting s h = at_drained false s h
@@ -232,7 +234,8 @@ drain_carried phase epoch s n moment =
 
 module _ (s : State) (n : Device) (at : StandsAt true s) (sized : IsSized s n) (hold : HoldAll s n) where
   keeping_copied : (i : ℕ) → next_copy s ≡ Some i
-      → Keeping s n (with_copied (block_listed i s) s) (written_to n (number_of s.p (target (cell_of s (block_listed i s)))) (reads s n (last (cell_of s (block_listed i s)))))
+      → Keeping s n (with_copied (block_listed i s) s)
+      (written_to n (number_of s.p (target (cell_of s (block_listed i s)))) (reads s n (last (cell_of s (block_listed i s)))))
   unfolding devices_copied
   keeping_copied i found =
       let b : ℕ = block_listed i s in
@@ -243,7 +246,8 @@ module _ (s : State) (n : Device) (at : StandsAt true s) (sized : IsSized s n) (
       let nvm : (devices_copied b s n).nvm ≡ written_to n (number_of s.p (target c)) (reads s n (last c))
       = written-nvm (in_dram (target c)) (number_of s.p (target c)) (reads s n (last c)) (devices_of n s.dram) (target-in_nvm s b) in
       let all : KeepsAll s n (copied b s n) (devices_copied b s n).nvm =
-      subst (λ (o : Option ℕ). KeepsAll s n (after_next_copy o s n) (devices_after_copy o s n)) found (KeepsAll-next copy_keeps s n at.tables sized) in
+      subst (λ (o : Option ℕ). KeepsAll s n (after_next_copy o s n) (devices_after_copy o s n)) found
+      (KeepsAll-next copy_keeps s n at.tables sized) in
       let counts : KeepsCounts s (with_copied b s) = subst (λ (x : State). KeepsCounts s x) state (counts-copied b s n next.pending) in
       let now : KeepsAll s n (with_copied b s) (written_to n (number_of s.p (target c)) (reads s n (last c))) =
       coe 0 1 (i. KeepsAll s n (state i) (nvm i)) all in
@@ -256,8 +260,10 @@ module _ (s : State) (n : Device) (at : StandsAt true s) (sized : IsSized s n) (
           work_same = now.work.work_same;
           holds = now.holds hold;
         };
-        tables0_same = ap (λ (x : List (Option ℕ)). record (tables0 s) { btt = x }) (map-block (λ e. entry_lists e.v0 e.block) s b (after_copy c).entry listed refl);
-        tables1_same = ap (λ (x : List (Option ℕ)). record (tables1 s) { btt = x }) (map-block (λ e. entry_lists e.v1 e.block) s b (after_copy c).entry listed refl);
+        tables0_same = ap (λ (x : List (Option ℕ)). record (tables0 s) { btt = x })
+            (map-block (λ e. entry_lists e.v0 e.block) s b (after_copy c).entry listed refl);
+        tables1_same = ap (λ (x : List (Option ℕ)). record (tables1 s) { btt = x })
+            (map-block (λ e. entry_lists e.v1 e.block) s b (after_copy c).entry listed refl);
         lasts_same = refl;
         free = counts.free;
         owed = counts.owed;
@@ -294,8 +300,10 @@ module _ (s : State) (n : Device) (at : StandsAt true s) (sized : IsSized s n) (
           work_same = now.work.work_same;
           holds = held.holds;
         };
-        tables0_same = ap (λ (x : List (Option ℕ)). record (tables0 s) { ptt = x }) (map-page (λ e. page_lists e.place e.page) s b (page_issued c.page) listed refl);
-        tables1_same = ap (λ (x : List (Option ℕ)). record (tables1 s) { ptt = x }) (map-page (λ e. page_lists e.target e.page) s b (page_issued c.page) listed refl);
+        tables0_same = ap (λ (x : List (Option ℕ)). record (tables0 s) { ptt = x })
+            (map-page (λ e. page_lists e.place e.page) s b (page_issued c.page) listed refl);
+        tables1_same = ap (λ (x : List (Option ℕ)). record (tables1 s) { ptt = x })
+            (map-page (λ e. page_lists e.target e.page) s b (page_issued c.page) listed refl);
         lasts_same = refl;
         free = counts.free;
         owed = counts.owed;
@@ -317,7 +325,8 @@ module _ (s : State) (n : Device) (at : StandsAt true s) (sized : IsSized s n) (
   but_by None None k copy page is = cc
 
 body_carried : (epoch : ℕ) (s : State) (n : Device) (k : ℕ) → IsMoment thynvm_design (Making k) epoch s n → next_position s ≡ Some k
-    → Carries thynvm_design epoch (Making k) s n (Making (k + 1)) (written_next s) (written_to n (number_of s.p (target_next s)) (reads s n (source_next s)))
+    → Carries thynvm_design epoch (Making k) s n (Making (k + 1)) (written_next s)
+    (written_to n (number_of s.p (target_next s)) (reads s n (source_next s)))
 body_carried epoch s n k moment next =
     let x : ℕ = number_of s.p (target_next s) in
     let block : Block = reads s n (source_next s) in
@@ -354,46 +363,50 @@ record IsMoving (s : State) (b : ℕ) : Type 0 where
   inside : b < memory_blocks s.p
   moves : penult (cell_of s b) ≢ target (cell_of s b)
 
-moving_copied : (s : State) → AreSoundTables s → (b : ℕ) → IsNext s b → IsMoving s b
-moving_copied s t b next =
-    let c : Cell = cell_of s b in
-    let sound = t.cells b next.inside in
-    record {
-      inside = next.inside;
-      moves = versions_differ c.entry.v0 c.entry.v1 c.page.place c.page.target (seat_of c) (sound.pending_moves next.pending) (sound.pending_still next.pending) (sound.pending_home next.pending);
-    }
+module _ (s : State) (t : AreSoundTables s) where
+  moving_copied : (b : ℕ) → IsNext s b → IsMoving s b
+  moving_copied b next =
+      let c : Cell = cell_of s b in
+      let sound = t.cells b next.inside in
+      record {
+        inside = next.inside;
+        moves = versions_differ c.entry.v0 c.entry.v1 c.page.place c.page.target (seat_of c) (sound.pending_moves next.pending)
+            (sound.pending_still next.pending) (sound.pending_home next.pending);
+      }
 
-moving_issued : (s : State) → AreSoundTables s → (b : ℕ) → IsDue s b → IsMoving s b
-moving_issued s t b due =
-    let c : Cell = cell_of s b in
-    let sound = t.cells b due.inside in
-    let out : c.entry.v1 ≡ Out = sound.framed_out (busy-framed s.under_way c.page sound.of_page due.busy) (busy-old s.under_way c.page sound.of_page due.busy) in
-    record {
-      inside = due.inside;
-      moves = sites_apart c.entry.v0 c.entry.v1 c.page.place c.page.target (seat_of c) out (sound.of_page.busy_moves due.busy);
-    }
+  moving_issued : (b : ℕ) → IsDue s b → IsMoving s b
+  moving_issued b due =
+      let c : Cell = cell_of s b in
+      let sound = t.cells b due.inside in
+      let out : c.entry.v1 ≡ Out = sound.framed_out (busy-framed s.under_way c.page sound.of_page due.busy)
+      (busy-old s.under_way c.page sound.of_page due.busy) in
+      record {
+        inside = due.inside;
+        moves = sites_apart c.entry.v0 c.entry.v1 c.page.place c.page.target (seat_of c) out (sound.of_page.busy_moves due.busy);
+      }
 
-moving_by : (s : State) → AreSoundTables s → (i j : Option ℕ) (k : ℕ) → next_copy s ≡ i → next_page s ≡ j → position_by s i j ≡ Some k → IsMoving s (block_by s i j)
-moving_by s t (Some i) j k copy page is = moving_copied s t (block_listed i s) (IsNext-entry s t i copy)
-moving_by s t None (Some j) k copy page is = moving_issued s t (block_to_write j s) (IsDue-entry s t j page)
-moving_by s t None None k copy page is = cc
+  moving_by : (i j : Option ℕ) (k : ℕ) → next_copy s ≡ i → next_page s ≡ j → position_by s i j ≡ Some k → IsMoving s (block_by s i j)
+  moving_by (Some i) j k copy page is = moving_copied (block_listed i s) (IsNext-entry s t i copy)
+  moving_by None (Some j) k copy page is = moving_issued (block_to_write j s) (IsDue-entry s t j page)
+  moving_by None None k copy page is = cc
 
-unused : (s : State) → AreSoundTables s → (b : ℕ) → IsMoving s b → IsUnused s.p (tables0 s) (target (cell_of s b))
-unused s t b moving = record {
-  none = λ m l e.
-      let there : penult (cell_of s m) ≡ target (cell_of s b) = sym ((AreTablesOf-committed s t).same_place m l) ∙ e in
-      elim (cases_eq m b) as (λ _. ⊥) [
-        | inl same ↦ moving.moves (ap (λ (x : ℕ). penult (cell_of s x)) (sym same) ∙ there)
-        | inr ne ↦ owned-apart s m b (penult (cell_of s m)) (target (cell_of s b)) ne
-            (owned-penult s m (cell_of s m) (Owns-cell_of s m)) (owned-target s b (cell_of s b) (Owns-cell_of s b)) there
-      ];
-}
+  unused : (b : ℕ) → IsMoving s b → IsUnused s.p (tables0 s) (target (cell_of s b))
+  unused b moving = record {
+    none = λ m l e.
+        let there : penult (cell_of s m) ≡ target (cell_of s b) = sym ((AreTablesOf-committed s t).same_place m l) ∙ e in
+        elim (cases_eq m b) as (λ _. ⊥) [
+          | inl same ↦ moving.moves (ap (λ (x : ℕ). penult (cell_of s x)) (sym same) ∙ there)
+          | inr ne ↦ owned-apart s m b (penult (cell_of s m)) (target (cell_of s b)) ne
+              (owned-penult s m (cell_of s m) (Owns-cell_of s m)) (owned-target s b (cell_of s b) (Owns-cell_of s b)) there
+        ];
+  }
 
 free_place : (p : Parameters) (v : LayoutVersion) (kept : ℕ) (t : Tables) (x : Place) → IsUnused p t x → IsFree p v kept t (PlaceBlock x)
 free_place p VersionOne kept t x h = h
 free_place p VersionTwo kept t x h = h
 
-body_spares : (epoch : ℕ) (s : State) (n : Device) (k : ℕ) (g : List Block) → IsMoment thynvm_design (Making k) epoch s n → next_position s ≡ Some k
+body_spares : (epoch : ℕ) (s : State) (n : Device) (k : ℕ) (g : List Block) → IsMoment thynvm_design (Making k) epoch s n
+    → next_position s ≡ Some k
     → IsKeptBy (Making k) epoch s g → IsSpared thynvm_design s g (number_of s.p (target_next s))
 body_spares epoch s n k g moment next keeps =
     let b : ℕ = block_by s (next_copy s) (next_page s) in
@@ -407,12 +420,14 @@ body_spares epoch s n k g moment next keeps =
 
 -- ---- the commit
 
-commits_to : (epoch : ℕ) (s : State) (n : Device) → IsMoment thynvm_design Made epoch s n → Commits thynvm_design epoch s n Resting (committed_state s) n
+commits_to : (epoch : ℕ) (s : State) (n : Device) → IsMoment thynvm_design Made epoch s n
+    → Commits thynvm_design epoch s n Resting (committed_state s) n
 unfolding committed_state
 commits_to epoch s n moment =
     let at = moment.stands.at in
     let to = items_are.commits s moment.stands in
-    let versions : CommitsVersions s (committed_state s) n = Commits-committed s at.tables at.way_is moment.stands.copied commit_moves n moment.holds in
+    let versions : CommitsVersions s (committed_state s) n =
+    Commits-committed s at.tables at.way_is moment.stands.copied commit_moves n moment.holds in
     let tables = CommitsTables-committed s at.tables in
     record {
       moment = record { sound = to.stands.tables; sized = moment.sized; stands = to.stands; holds = versions.holds };
@@ -452,7 +467,8 @@ commits_to epoch s n moment =
 
 -- ---- the seal
 
-seals_to : (before epoch : ℕ) (s : State) (n : Device) → IsMoment thynvm_design Resting before s n → is_promoting s ≡ false → is_overlaid s ≡ false
+seals_to : (before epoch : ℕ) (s : State) (n : Device) → IsMoment thynvm_design Resting before s n → is_promoting s ≡ false
+    → is_overlaid s ≡ false
     → SealsTo thynvm_design before epoch s (sealed_state s) n
 unfolding sealed_state
 seals_to before epoch s n moment unpromoted uncovered =
@@ -461,7 +477,8 @@ seals_to before epoch s n moment unpromoted uncovered =
     let whole : IsWholeState s = IsWholeState-none s (none-left (promoted s.ptt) unpromoted) in
     let bare : IsBareState s = IsBareState-none s (none-left (overlays s) uncovered) in
     let now : AreSoundTables (sealed_state s) = AreSoundTables-sealed s t idle whole bare seal_keeps_sound seal_takes listing_keeps in
-    let versions : SealsVersions s (sealed_state s) n = Seals-sealed s t idle whole bare seal_keeps_sound seal_takes listing_keeps seal_moves n moment.holds in
+    let versions : SealsVersions s (sealed_state s) n =
+    Seals-sealed s t idle whole bare seal_keeps_sound seal_takes listing_keeps seal_moves n moment.holds in
     let idle_now : HasNoWork (sealed_state s) = HasNoWork-sealed seal_takes s t idle bare in
     record {
       moment = record {

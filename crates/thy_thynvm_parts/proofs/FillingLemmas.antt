@@ -51,7 +51,8 @@ pub record IsPosition (p : Parameters) (slot : List Block) (from k : ℕ) : Type
 
 pub IsPosition-next : (p : Parameters) (slot : List Block) (from k : ℕ) → next_position p slot from ≡ Some k → IsPosition p slot from k
 IsPosition-next p slot from k h = by_first (first_from is_some (from / 64) (tables_in p slot).ptt) refl h where
-  by_first : (o : Option ℕ) → first_from is_some (from / 64) (tables_in p slot).ptt ≡ o → position_in from o ≡ Some k → IsPosition p slot from k
+  by_first : (o : Option ℕ) → first_from is_some (from / 64) (tables_in p slot).ptt ≡ o → position_in from o ≡ Some k
+      → IsPosition p slot from k
   by_first None e h = cc
   by_first (Some j) e h =
       let first = first_from-first is_some None (tables_in p slot).ptt (from / 64) j e in
@@ -134,7 +135,8 @@ module _ (commit : Block) (slot : List Block) (c : State) (l : ListsSlot commit 
 -- ---- another content of the DRAM
 
 -- another DRAM of the same size leaves the tables sound
-pub AreSoundTables-dram : (c : State) (d : Contents) → length d.blocks ≡ length c.dram.blocks → AreSoundTables c → AreSoundTables (record c { dram = d })
+pub AreSoundTables-dram : (c : State) (d : Contents) → length d.blocks ≡ length c.dram.blocks → AreSoundTables c
+    → AreSoundTables (record c { dram = d })
 AreSoundTables-dram c d long t = search (rules, long ∙ t.dram_size)
 
 pub ListsSlot-dram : (commit : Block) (slot : List Block) (c : State) (d : Contents) → length d.blocks ≡ length c.dram.blocks
@@ -147,7 +149,8 @@ pub filled_is_framed : (k : ℕ) (c : State) (n : Device) → with_frame (k / 64
 unfolding with_frame
 filled_is_framed k c n = refl
 
-module _ (commit : Block) (slot : List Block) (c : State) (n : Device) (k : ℕ) (l : ListsSlot commit slot c) (next : next_position c.p slot k ≡ Some k)
+module _ (commit : Block) (slot : List Block) (c : State) (n : Device) (k : ℕ) (l : ListsSlot commit slot c)
+    (next : next_position c.p slot k ≡ Some k)
     (sized : length n.image ≡ image_blocks c.p) (law : FrameLoads) where
   abbrev d : State
   d = with_filled k (newest n (page_place c k)) c
@@ -193,7 +196,8 @@ module _ (commit : Block) (slot : List Block) (c : State) (n : Device) (k : ℕ)
 
 -- ---- with all filled
 
-module _ (c : State) (n : Device) (commit : Block) (slot : List Block) (from : ℕ) (l : ListsSlot commit slot c) (none : next_position c.p slot from ≡ None)
+module _ (c : State) (n : Device) (commit : Block) (slot : List Block) (from : ℕ) (l : ListsSlot commit slot c)
+    (none : next_position c.p slot from ≡ None)
     (settled : n.queue ≡ []) (is : slot_in (thynvm_layouts c.p) n.image ≡ slot) where
   held : filling_thynvm.filled c n from → HoldAll c n
   held filled = HoldAll-framed c n l.tables l.booting (filled_all commit slot c l n from none filled)

@@ -32,7 +32,8 @@ seal_fits e s cpu epoch fits tables idle = record {
 }
 
 -- a call that leaves the tables sound leaves the phase
-at_stays : (way : Bool) (s : State) (m : Device) (t : State) (n : Device) → AreSoundTables t → PromotesAtRest t → Stays s m t n → StandsAt way s → StandsAt way t
+at_stays : (way : Bool) (s : State) (m : Device) (t : State) (n : Device) → AreSoundTables t → PromotesAtRest t → Stays s m t n
+    → StandsAt way s → StandsAt way t
 at_stays way s m t n tables promotes stays at = record { tables = tables; way_is = stays.same_way ∙ at.way_is; promotes = promotes }
 
 phase_stays : (phase : Phase) (s : State) (m : Device) (t : State) (n : Device) → AreSoundTables t → PromotesAtRest t → Stays s m t n

@@ -57,7 +57,8 @@ pub but-copied : (b : ℕ) (s : State) (m : Device) → (cell_of s b).entry.pend
 unfolding copied
 but-copied b s m pending =
     let there = found_entry block_key new_entry s.btt b (cell_of s b).i (listed-pending b s pending) in
-    let is : (cell_of s b).entry ≡ there.0 = entry_for-some block_key new_entry s.btt b (cell_of s b).i there.0 (listed-pending b s pending) there.1 in
+    let is : (cell_of s b).entry ≡ there.0 =
+    entry_for-some block_key new_entry s.btt b (cell_of s b).i there.0 (listed-pending b s pending) there.1 in
     ap (λ (es : List (Option BttEntry)). record s.btt { entries = es })
     (map-set_same (option_and_then settled) s.btt.entries (cell_of s b).i (Some (after_copy (cell_of s b)).entry) None
     (ap settled is ∙ sym (ap (option_and_then settled) there.1)) there.3)
@@ -97,7 +98,8 @@ module _ {X Y : Type 0} (f : X → Y) (p : X → Bool) (q : Y → Bool) (d : X) 
   by_both true b h = let yes : b ≡ true = h refl in omega (arith, ap one_if yes)
 
   -- if what passes did so before, no more pass
-  count-implied : (xs : List X) → ((i : ℕ) → i < length xs → q (f (get_or xs i d)) ≡ true → p (get_or xs i d) ≡ true) → count_by q (map f xs) ≤ count_by p xs
+  count-implied : (xs : List X) → ((i : ℕ) → i < length xs → q (f (get_or xs i d)) ≡ true → p (get_or xs i d) ≡ true)
+      → count_by q (map f xs) ≤ count_by p xs
   count-implied [] h = omega arith
   count-implied (x ∷ xs) h = omega (
     arith,
@@ -108,7 +110,8 @@ module _ {X Y : Type 0} (f : X → Y) (p : X → Bool) (q : Y → Bool) (d : X) 
   )
 
   -- if what passed a test still passes, no fewer pass
-  count-implies : (xs : List X) → ((i : ℕ) → i < length xs → p (get_or xs i d) ≡ true → q (f (get_or xs i d)) ≡ true) → count_by p xs ≤ count_by q (map f xs)
+  count-implies : (xs : List X) → ((i : ℕ) → i < length xs → p (get_or xs i d) ≡ true → q (f (get_or xs i d)) ≡ true)
+      → count_by p xs ≤ count_by q (map f xs)
   count-implies [] h = omega arith
   count-implies (x ∷ xs) h = omega (
     arith,
@@ -160,7 +163,8 @@ counts-copied b s m pending =
     let marks : AreWorkCounts (copied b s m).ptt (copied b s m).btt (marks_of s) = AreWorkCounts-copied b s m (marks_of s) pending (are-marks s) in
     let same : free_count (copied b s m).btt ≡ free_count s.btt
     = count-set_same is_none s.btt.entries c.i (Some (after_copy c).entry) None there.3 (sym (ap is_none there.1)) in
-    let fewer = sum_by-set (λ (o : Option BttEntry). one_if (passes (λ (e : BttEntry). waits e.pend) o)) s.btt.entries c.i (Some (after_copy c).entry) None there.3 in
+    let fewer = sum_by-set (λ (o : Option BttEntry). one_if (passes (λ (e : BttEntry). waits e.pend) o)) s.btt.entries c.i
+    (Some (after_copy c).entry) None there.3 in
     record {
       free = omega (arith, same);
       owed = omega (arith, fewer);
@@ -175,7 +179,8 @@ unfilled-issued b s m busy =
     let listed = listed-busy b s busy in
     let there = found_entry page_key no_page s.ptt (page_of b) (cell_of s b).j listed in
     let is : (cell_of s b).page ≡ there.0 = entry_for-some page_key no_page s.ptt (page_of b) (cell_of s b).j there.0 listed there.1 in
-    unfilled-set s.ptt.entries (cell_of s b).j there.0 (page_issued (cell_of s b).page) there.3 there.1 (ap (λ (e : PttEntry). fills_left (Some e)) is)
+    unfilled-set s.ptt.entries (cell_of s b).j there.0 (page_issued (cell_of s b).page) there.3 there.1
+    (ap (λ (e : PttEntry). fills_left (Some e)) is)
 
 pub counts-issued : (b : ℕ) (s : State) (m : Device) → (cell_of s b).page.busy ≡ true → KeepsCounts s (issued b s m)
 unfolding issued
@@ -190,11 +195,13 @@ counts-issued b s m busy =
     }
 
 -- what a commit leaves of an entry waits as it did, and lies over a frame only if it did
-committed-waits : (v : Version) (w : Working) (e : BttEntry) → passes (λ (x : BttEntry). waits x.pend) (committed_by v w e) ≡ true → waits e.pend ≡ true
+committed-waits : (v : Version) (w : Working) (e : BttEntry) → passes (λ (x : BttEntry). waits x.pend) (committed_by v w e) ≡ true
+    → waits e.pend ≡ true
 committed-waits Out NoWork e h = cc
 committed-waits v w e h = h
 
-committed-lies : (pages : Listing PttEntry) (v : Version) (w : Working) (e : BttEntry) → passes (is_overlaid pages) (committed_by v w e) ≡ true → is_overlaid pages e ≡ true
+committed-lies : (pages : Listing PttEntry) (v : Version) (w : Working) (e : BttEntry)
+    → passes (is_overlaid pages) (committed_by v w e) ≡ true → is_overlaid pages e ≡ true
 committed-lies pages Out NoWork e h = cc
 committed-lies pages v w e h = h
 
@@ -203,12 +210,14 @@ committed-promoted : (leaving : Bool) (e : PttEntry) → passes is_promoted (pag
 committed-promoted true e h = cc
 committed-promoted false e h = h
 
-stays-promoted : (leaving : Bool) (e : PttEntry) → (leaving ≡ true → is_promoted e ≡ false) → is_promoted e ≡ true → passes is_promoted (page_committed_by leaving e) ≡ true
+stays-promoted : (leaving : Bool) (e : PttEntry) → (leaving ≡ true → is_promoted e ≡ false) → is_promoted e ≡ true
+    → passes is_promoted (page_committed_by leaving e) ≡ true
 stays-promoted true e none h = let no : is_promoted e ≡ false = none refl in cc
 stays-promoted false e none h = h
 
 -- a page that a commit leaves in promotion has the same number of blocks left
-fills-stay : (leaving : Bool) (e : PttEntry) → (leaving ≡ true → is_promoted e ≡ false) → fills_left (page_committed_by leaving e) ≡ fills_left (Some e)
+fills-stay : (leaving : Bool) (e : PttEntry) → (leaving ≡ true → is_promoted e ≡ false)
+    → fills_left (page_committed_by leaving e) ≡ fills_left (Some e)
 fills-stay true e none = sym (ap (λ (x : Bool). if x then page_blocks - e.filled else 0) (none refl))
 fills-stay false e none = refl
 
@@ -239,20 +248,23 @@ module _ (s : State) (tables : AreSoundTables s) where
 
   pub owed-committed : waiting (committed_state s).btt ≤ waiting s.btt
   unfolding committed_state
-  owed-committed = count-implied (option_and_then committed_entry) (passes waits_of) (passes waits_of) None s.btt.entries (λ i l. by_entry (entry_at s.btt i)) where
-    waits_of : BttEntry → Bool
-    waits_of e = waits e.pend
+  owed-committed = count-implied (option_and_then committed_entry) (passes waits_of) (passes waits_of) None s.btt.entries
+      (λ i l. by_entry (entry_at s.btt i)) where
+        waits_of : BttEntry → Bool
+        waits_of e = waits e.pend
 
-    by_entry : (o : Option BttEntry) → passes waits_of (option_and_then committed_entry o) ≡ true → passes waits_of o ≡ true
-    by_entry None h = h
-    by_entry (Some e) h = committed-waits e.v1 e.work e h
+        by_entry : (o : Option BttEntry) → passes waits_of (option_and_then committed_entry o) ≡ true → passes waits_of o ≡ true
+        by_entry None h = h
+        by_entry (Some e) h = committed-waits e.v1 e.work e h
 
   pub overlays-committed : overlays (committed_state s) ≤ overlays s
   unfolding committed_state
   overlays-committed =
-      count-implied (option_and_then committed_entry) (passes (is_overlaid s.ptt)) (passes (is_overlaid (committed_state s).ptt)) None s.btt.entries (λ i l. by_entry (entry_at s.btt i))
+      count-implied (option_and_then committed_entry) (passes (is_overlaid s.ptt))
+      (passes (is_overlaid (committed_state s).ptt)) None s.btt.entries (λ i l. by_entry (entry_at s.btt i))
     where
-      by_entry : (o : Option BttEntry) → passes (is_overlaid (committed_state s).ptt) (option_and_then committed_entry o) ≡ true → passes (is_overlaid s.ptt) o ≡ true
+      by_entry : (o : Option BttEntry) → passes (is_overlaid (committed_state s).ptt) (option_and_then committed_entry o) ≡ true
+          → passes (is_overlaid s.ptt) o ≡ true
       by_entry None h = h
       by_entry (Some e) h = overlaid-before e (committed-lies (committed_state s).ptt e.v1 e.work e h)
 
@@ -261,14 +273,16 @@ module _ (s : State) (tables : AreSoundTables s) where
   promoted-committed = omega (
     arith,
     count-implied (option_and_then committed_page) (passes is_promoted) (passes is_promoted) None s.ptt.entries (λ j l. fewer (entry_at s.ptt j)),
-    count-implies (option_and_then committed_page) (passes is_promoted) (passes is_promoted) None s.ptt.entries (λ j l. more j (entry_at s.ptt j) refl),
+    count-implies (option_and_then committed_page) (passes is_promoted) (passes is_promoted) None s.ptt.entries
+        (λ j l. more j (entry_at s.ptt j) refl),
   )
     where
       fewer : (o : Option PttEntry) → passes is_promoted (option_and_then committed_page o) ≡ true → passes is_promoted o ≡ true
       fewer None h = h
       fewer (Some e) h = committed-promoted e.leaving e h
 
-      more : (j : ℕ) (o : Option PttEntry) → entry_at s.ptt j ≡ o → passes is_promoted o ≡ true → passes is_promoted (option_and_then committed_page o) ≡ true
+      more : (j : ℕ) (o : Option PttEntry) → entry_at s.ptt j ≡ o → passes is_promoted o ≡ true
+          → passes is_promoted (option_and_then committed_page o) ≡ true
       more j None was h = h
       more j (Some e) was h = stays-promoted e.leaving e (leaving-framed j e was) h
 

@@ -136,7 +136,8 @@ pub record GoesOn (s t : State) : Type 0 where
 
 module _ (s : State) (at : StandsAt true s) where
   -- the controller after a position is that after a copy, or after the write of a block of a page
-  pub stands_by : (i j : Option ℕ) (k : ℕ) → next_copy s ≡ i → next_page s ≡ j → position_by s i j ≡ Some k → StandsAt true (written_by s i j)
+  pub stands_by : (i j : Option ℕ) (k : ℕ) → next_copy s ≡ i → next_page s ≡ j → position_by s i j ≡ Some k
+      → StandsAt true (written_by s i j)
   stands_by (Some i) j k copy page is = stands_copied s (block_listed i s) at (IsNext-entry s at.tables i copy)
   stands_by None (Some j) k copy page is = stands_issued s (block_to_write j s) at (IsDue-entry s at.tables j page)
   stands_by None None k copy page is = cc

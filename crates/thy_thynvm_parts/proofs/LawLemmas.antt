@@ -68,7 +68,8 @@ failures_write_nothing o pick m n new none c = record {
 
 -- ---- what a migration writes
 
-own-action : (b : Booting) (epoch : ℕ) (r : Round) → epoch_of b.commit ≡ epoch → epoch < 2 ^ 64 → IsInRound (renewing filling_thynvm b).blocks r
+own-action : (b : Booting) (epoch : ℕ) (r : Round) → epoch_of b.commit ≡ epoch → epoch < 2 ^ 64
+    → IsInRound (renewing filling_thynvm b).blocks r
     → IsOfMigration b.p epoch (round_action (renewing filling_thynvm b) r)
 own-action b epoch (Write k) is small inside =
     let version : version_of scheme_number b.p (anew b.commit) ≡ VersionTwo = version_of-commit_of scheme_number b.p (epoch_of b.commit) in
@@ -102,7 +103,8 @@ module _ (o : Origin) (g : BootImages) (n : Device) (b : Booting) (c : State) (s
   seen-kept kept m found is done =
       some_same m found (sym (ap (λ (k : Option Mark). (finding_view o.start.count k).done) is) ∙ done)
 
-  writes-at : (found : Mark) (q : Stage) → migrates_at q ≡ true → IsSoundAt filling_thynvm o q g n b c → (seen_at o g.kept q).done ≡ Some found
+  writes-at : (found : Mark) (q : Stage) → migrates_at q ≡ true → IsSoundAt filling_thynvm o q g n b c
+      → (seen_at o g.kept q).done ≡ Some found
       → (r : Round) × (q ≡ Migrates r) × MigratesFound o.geometry found.epoch b r
   writes-at found (Migrates r) migrates far done = (r, refl, migrates-found found r far (seen-kept g.kept far.m found far.kept done))
   writes-at found q migrates far done = absurd (none_migrates migrates)
@@ -130,7 +132,8 @@ module _ (o : Origin) (g : BootImages) (n : Device) (b : Booting) (c : State) (s
       ∙ far.version in
       one_is_not_two (sym old ∙ two)
 
-  stays-at : (r : Round) → IsKeeping o (layout_of o) (standing_in_boot o (Migrates r) g n) → IsMigrating filling_thynvm o r g n b c → r ≡ Confirm
+  stays-at : (r : Round) → IsKeeping o (layout_of o) (standing_in_boot o (Migrates r) g n) → IsMigrating filling_thynvm o r g n b c
+      → r ≡ Confirm
   stays-at Commit keeps far = absurd (not-kept Commit far keeps.saved.kept.commit)
   stays-at Confirm keeps far = refl
   stays-at r keeps far = absurd (not-kept r far keeps.saved.commit)
@@ -164,7 +167,8 @@ no_tail : (q : EngineStage) (c : State) → items_thynvm.stands (phase_of q) c �
 no_tail (Tail from) c stands = absurd stands
 no_tail q c stands = refl
 
-pub applies_nothing : (o : Origin) (k : CheckpointMarks) (s : Composed State) (n : Device) → Stands thynvm_scheme o k s n → thynvm_scheme.applies s ≡ false
+pub applies_nothing : (o : Origin) (k : CheckpointMarks) (s : Composed State) (n : Device) → Stands thynvm_scheme o k s n
+    → thynvm_scheme.applies s ≡ false
 applies_nothing o k s n stands = no_tail s.engine.stage s.control stands.sound.held.fits.stands
 
 -- the hart is always free to run
@@ -194,5 +198,6 @@ boots_are_short p =
     let z : ℕ = slot_blocks p in
     let w : ℕ = most_migration (thynvm_layouts p) p in
     let few : w ≤ z + 3 = migrates-few (knows_version_one scheme_number p) z in
-    let most = max-least (round_left (m + z + 1) (Write 0)) (1 + z + 64 * p.ptt + w) (m + 2 * z + 64 * p.ptt + 4) (omega arith) (omega (arith, few)) in
+    let most = max-least (round_left (m + z + 1) (Write 0)) (1 + z + 64 * p.ptt + w) (m + 2 * z + 64 * p.ptt + 4) (omega arith)
+    (omega (arith, few)) in
     omega (arith, most)

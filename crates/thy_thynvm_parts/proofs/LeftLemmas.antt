@@ -111,7 +111,8 @@ module _ (t : State) (tables : AreSoundTables t) where
       let listed = lists-key page_key e.page (entry_at t.ptt j) e was refl in
       let inside = tables.ptt_once.inside j e.page listed in
       let of_page : page_of (64 * e.page) ≡ e.page = omega arith in
-      let found : index_of page_key (page_of (64 * e.page)) t.ptt ≡ Some j = ap (λ (n : ℕ). index_of page_key n t.ptt) of_page ∙ tables.ptt_once.found j e.page listed in
+      let found : index_of page_key (page_of (64 * e.page)) t.ptt ≡ Some j =
+      ap (λ (n : ℕ). index_of page_key n t.ptt) of_page ∙ tables.ptt_once.found j e.page listed in
       record {
         inside = omega (arith, inside, tables.ptt_numbers);
         page = entry_for-some page_key no_page t.ptt (page_of (64 * e.page)) j e found was;
@@ -143,7 +144,8 @@ module _ (s : State) (m : Device) (t : State) (n : Device) (old : AreSoundTables
   pending-counts : (b : ℕ) → (cell_of s b).entry.pend ≢ Settled → 1 ≤ all_at block_key copy_weight refl s.btt.entries b
   pending-counts b pending =
       let there = found_entry block_key new_entry s.btt b (cell_of s b).i (listed-pending b s pending) in
-      let is : (cell_of s b).entry ≡ there.0 = entry_for-some block_key new_entry s.btt b (cell_of s b).i there.0 (listed-pending b s pending) there.1 in
+      let is : (cell_of s b).entry ≡ there.0 =
+      entry_for-some block_key new_entry s.btt b (cell_of s b).i there.0 (listed-pending b s pending) there.1 in
       let counts : copy_weight (Some there.0) ≡ 1
       = ap one_if (ap needs_copy (sym is) ∙ is_pending-not (cell_of s b).entry.pend pending) in
       omega (
@@ -153,7 +155,8 @@ module _ (s : State) (m : Device) (t : State) (n : Device) (old : AreSoundTables
         ap (all_at block_key copy_weight refl s.btt.entries) there.2,
       )
 
-  copy-was : (i : ℕ) (e : BttEntry) → entry_at t.btt i ≡ Some e → copy_weight (Some e) ≤ all_at block_key copy_weight refl s.btt.entries e.block
+  copy-was : (i : ℕ) (e : BttEntry) → entry_at t.btt i ≡ Some e
+      → copy_weight (Some e) ≤ all_at block_key copy_weight refl s.btt.entries e.block
   copy-was i e was = by_test (needs_copy e) refl where
     by_test : (x : Bool) → needs_copy e ≡ x → copy_weight (Some e) ≤ all_at block_key copy_weight refl s.btt.entries e.block
     by_test false h = omega (arith, ap one_if h)
@@ -170,10 +173,12 @@ module _ (s : State) (m : Device) (t : State) (n : Device) (old : AreSoundTables
       (blocks-below s s.p refl old) (blocks-below t s.p stays.same_p new) copy-was
 
   -- the blocks of a busy page that are still to be written are counted at its number
-  page-counts : (b : ℕ) → (cell_of s b).page.busy ≡ true → page_blocks - (cell_of s b).page.issued ≤ all_at page_key issues_left refl s.ptt.entries (page_of b)
+  page-counts : (b : ℕ) → (cell_of s b).page.busy ≡ true
+      → page_blocks - (cell_of s b).page.issued ≤ all_at page_key issues_left refl s.ptt.entries (page_of b)
   page-counts b busy =
       let there = found_entry page_key no_page s.ptt (page_of b) (cell_of s b).j (listed-busy b s busy) in
-      let is : (cell_of s b).page ≡ there.0 = entry_for-some page_key no_page s.ptt (page_of b) (cell_of s b).j there.0 (listed-busy b s busy) there.1 in
+      let is : (cell_of s b).page ≡ there.0 =
+      entry_for-some page_key no_page s.ptt (page_of b) (cell_of s b).j there.0 (listed-busy b s busy) there.1 in
       let counts : issues_left (Some there.0) ≡ page_blocks - (cell_of s b).page.issued
       = ap (λ (e : PttEntry). issues_left (Some e)) (sym is) ∙ ap (λ (x : Bool). if x then page_blocks - (cell_of s b).page.issued else 0) busy in
       omega (
@@ -183,7 +188,8 @@ module _ (s : State) (m : Device) (t : State) (n : Device) (old : AreSoundTables
         ap (all_at page_key issues_left refl s.ptt.entries) there.2,
       )
 
-  page-was : (j : ℕ) (e : PttEntry) → entry_at t.ptt j ≡ Some e → issues_left (Some e) ≤ all_at page_key issues_left refl s.ptt.entries e.page
+  page-was : (j : ℕ) (e : PttEntry) → entry_at t.ptt j ≡ Some e
+      → issues_left (Some e) ≤ all_at page_key issues_left refl s.ptt.entries e.page
   page-was j e was = by_test e.busy refl where
     by_test : (x : Bool) → e.busy ≡ x → issues_left (Some e) ≤ all_at page_key issues_left refl s.ptt.entries e.page
     by_test false h = omega (arith, ap (λ (x : Bool). if x then page_blocks - e.issued else 0) h)

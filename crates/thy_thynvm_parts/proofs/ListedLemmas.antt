@@ -107,7 +107,10 @@ module _ {E : Type 0} (key : E → ℕ) (weight : Option E → ℕ) (free : weig
             | inr ne ↦ ap (lists key n) (get_or-set_other t.entries i k None None ne) ∙ by_test k ne (lists key n (entry_at t k)) refl
           ]) in
           omega (arith, others, sum_by-set (weight_at n) t.entries i None None l, by_entry i (entry_at t i) refl)
-      | inr l ↦ omega (arith, none_counts t.entries (λ k less. by_test k (λ e. absurd (omega (arith, e, less, l))) (lists key n (entry_at t k)) refl))
+      | inr l ↦ omega (
+        arith,
+        none_counts t.entries (λ k less. by_test k (λ e. absurd (omega (arith, e, less, l))) (lists key n (entry_at t k)) refl),
+      )
     ] where
       by_test : (k : ℕ) → k ≢ i → (x : Bool) → lists key n (entry_at t k) ≡ x → lists key n (entry_at t k) ≡ false
       by_test k ne false e = e
@@ -115,7 +118,8 @@ module _ {E : Type 0} (key : E → ℕ) (weight : Option E → ℕ) (free : weig
 
   -- if what counts rises at no number, the sum does not rise
   pub sum-most : (s t : Listing E) → IsListing key t → (numbers : ℕ) → AreBelow key numbers s.entries → AreBelow key numbers t.entries
-      → ((i : ℕ) (e : E) → entry_at t i ≡ Some e → weight (Some e) ≤ all_at s.entries (key e)) → sum_by weight t.entries ≤ sum_by weight s.entries
+      → ((i : ℕ) (e : E) → entry_at t i ≡ Some e → weight (Some e) ≤ all_at s.entries (key e))
+      → sum_by weight t.entries ≤ sum_by weight s.entries
   sum-most s t once numbers old new each = omega (
     arith,
     sum-total s.entries numbers old,

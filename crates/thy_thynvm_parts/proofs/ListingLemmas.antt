@@ -12,7 +12,8 @@ use Rattle.thy_control.specs.Boot.{MayListBlock, MayListPage, TablesMayListBlock
 use Rattle.thy_thynvm_parts.specs.Listed.{HaveFirst, ListsUpTo, AsListed}
 
 -- a list that has the first entries of another, and none after them, lists no more
-lists_first : (xs ys : List (Option ℕ)) (i : ℕ) → ((k : ℕ) → k < i → entry_at ys k ≡ entry_at xs k) → ((k : ℕ) → i ≤ k → entry_at ys k ≡ None)
+lists_first : (xs ys : List (Option ℕ)) (i : ℕ) → ((k : ℕ) → k < i → entry_at ys k ≡ entry_at xs k)
+    → ((k : ℕ) → i ≤ k → entry_at ys k ≡ None)
     → (k n : ℕ) → Lists ys k n → Lists xs k n
 lists_first xs ys i before behind k n l = elim (cases_lt k i) as (λ _. Lists xs k n) [
   | inl below ↦ record { is = sym (before k below) ∙ l.is }
@@ -36,7 +37,8 @@ IsTables-first p i j t u v h = record {
   page k n l = lists_first t.ptt u.ptt j h.pages h.no_pages k n l
 
 -- one entry more of a list
-module _ (xs ys : List (Option ℕ)) (i : ℕ) (before : (k : ℕ) → k < i → entry_at ys k ≡ entry_at xs k) (behind : (k : ℕ) → i ≤ k → entry_at ys k ≡ None)
+module _ (xs ys : List (Option ℕ)) (i : ℕ) (before : (k : ℕ) → k < i → entry_at ys k ≡ entry_at xs k)
+    (behind : (k : ℕ) → i ≤ k → entry_at ys k ≡ None)
     (n : ℕ) (inside : i < length ys) (is : entry_at xs i ≡ Some n) where
   before_some : (k : ℕ) → k < i + 1 → entry_at (slice_set ys i (Some n)) k ≡ entry_at xs k
   before_some k l = elim (cases_eq k i) as (λ _. entry_at (slice_set ys i (Some n)) k ≡ entry_at xs k) [
@@ -74,7 +76,8 @@ module _ (i j : ℕ) (t u : Tables) (h : HaveFirst i j t u) where
 
 -- ---- the calls
 
-module _ (p : Parameters) (i j : ℕ) (t : Tables) (c : State) (same : c.p ≡ p) (v : IsTables p t) (l : ListsUpTo i j t c) (sound : AreSoundTables c) where
+module _ (p : Parameters) (i j : ℕ) (t : Tables) (c : State) (same : c.p ≡ p) (v : IsTables p t) (l : ListsUpTo i j t c)
+    (sound : AreSoundTables c) where
   valid_in : (u : Tables) (k m : ℕ) → HaveFirst k m t u → IsTables c.p u
   valid_in u k m h = subst (λ (q : Parameters). IsTables q u) (sym same) (IsTables-first p k m t u v h)
 

@@ -34,10 +34,12 @@ live_in_tables c booting j =
     by_entry (live_at c.ptt j) refl
     ∙ ap is_some (sym (get_or-map (option_and_then (λ (e : PttEntry). page_lists e.place e.page)) c.ptt.entries j None))
   where
-    by_entry : (o : Option PttEntry) → live_at c.ptt j ≡ o → is_some (live_at c.ptt j) ≡ is_some (option_and_then (λ (e : PttEntry). page_lists e.place e.page) (live_at c.ptt j))
+    by_entry : (o : Option PttEntry) → live_at c.ptt j ≡ o
+        → is_some (live_at c.ptt j) ≡ is_some (option_and_then (λ (e : PttEntry). page_lists e.place e.page) (live_at c.ptt j))
     by_entry None s = ap is_some s ∙ sym (ap (λ (x : Option PttEntry). is_some (option_and_then (λ (e : PttEntry). page_lists e.place e.page) x)) s)
     by_entry (Some e) s =
-        ap is_some s ∙ sym (ap is_some (ap (λ (q : PttEntry). page_lists q.place q.page) (booting.pages j e s))) ∙ sym (ap (λ (x : Option PttEntry). is_some (option_and_then (λ (q : PttEntry). page_lists q.place q.page) x)) s)
+        ap is_some s ∙ sym (ap is_some (ap (λ (q : PttEntry). page_lists q.place q.page) (booting.pages j e s)))
+        ∙ sym (ap (λ (x : Option PttEntry). is_some (option_and_then (λ (q : PttEntry). page_lists q.place q.page) x)) s)
 
 -- a new controller lists nothing
 pub IsFresh-new : (p : Parameters) (dram : Contents) → IsFresh (new_state p dram)

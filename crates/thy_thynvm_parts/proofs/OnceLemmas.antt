@@ -58,7 +58,8 @@ listing_once {E} t u entries numbers =
 
 -- ---- the controller
 
-module _ (d e : State) (commit : Block) (slot : List Block) (a : ListsSlot commit slot d) (b : ListsSlot commit slot e) (same : d.p ≡ e.p) where
+module _ (d e : State) (commit : Block) (slot : List Block) (a : ListsSlot commit slot d) (b : ListsSlot commit slot e)
+    (same : d.p ≡ e.p) where
   tables : tables0 d ≡ tables0 e
   tables = a.are ∙ ap (λ (p : Parameters). tables_in p slot) same ∙ sym b.are
 

@@ -56,7 +56,8 @@ overlays_none s none some =
 -- ---- a merge
 
 -- the tables are sound after it
-merged_sound : (s : State) → AreSoundTables s → s.under_way ≡ false → (i : ℕ) → next_merge s ≡ Some i → AreSoundTables (after_merge (Some i) s)
+merged_sound : (s : State) → AreSoundTables s → s.under_way ≡ false → (i : ℕ) → next_merge s ≡ Some i
+    → AreSoundTables (after_merge (Some i) s)
 unfolding merged_block
 merged_sound s t idle i found =
     let b : ℕ = block_listed i s in
@@ -157,7 +158,8 @@ module _ (epoch : ℕ) (s : State) (n : Device) (moment : IsMoment thynvm_design
 
 -- ---- a promotion
 
-filled_sound : (s : State) (n : Device) → AreSoundTables s → IsSized s n → (j : ℕ) → next_promotion s ≡ Some j → AreSoundTables (after_promotion (Some j) s n)
+filled_sound : (s : State) (n : Device) → AreSoundTables s → IsSized s n → (j : ℕ) → next_promotion s ≡ Some j
+    → AreSoundTables (after_promotion (Some j) s n)
 unfolding block_filled
 filled_sound s n t sized j found =
     let b : ℕ = block_to_fill j s in
@@ -168,7 +170,8 @@ filled_sound s n t sized j found =
     (IsListing-set page_key s.ptt t.ptt_once c.j page
     (ap (λ (k : ℕ). lists page_key k (entry_at s.ptt c.j)) (page-cell_of s b) ∙ index_of-lists page_key s.ptt (page_of b) c.j (listed-fresh b s f.fresh)))
 
-module _ (phase : Phase) (epoch : ℕ) (s : State) (n : Device) (moment : IsMoment thynvm_design phase epoch s n) (some : is_promoting s ≡ true) where
+module _ (phase : Phase) (epoch : ℕ) (s : State) (n : Device) (moment : IsMoment thynvm_design phase epoch s n)
+    (some : is_promoting s ≡ true) where
   abbrev u : State
   u = after_promotion (next_promotion s) s n
 
@@ -260,7 +263,8 @@ module _ (phase : Phase) (epoch : ℕ) (s : State) (n : Device) (moment : IsMome
 pub is_paging : IsPaging thynvm_design
 is_paging = record {
   merges = λ epoch s n moment some.
-      let is : merged_idle s ≡ after_merge (next_merge s) s = ap (λ (w : Bool). if w then s else after_merge (next_merge s) s) moment.stands.way_is in
+      let is : merged_idle s ≡ after_merge (next_merge s) s =
+      ap (λ (w : Bool). if w then s else after_merge (next_merge s) s) moment.stands.way_is in
       subst (λ (t : State). WritesOne thynvm_design Resting epoch s n t × (overlays t + 1 ≡ overlays s)) (sym is) (merges epoch s n moment some);
   promotes = promotes;
 }

@@ -65,7 +65,8 @@ module _ (c : State) (n : Device) (tables : AreSoundTables c) (settled : n.queue
   penult_stands b l =
       let x : Cell = cell_of c b in
       let there : Place = penult x in
-      ap (λ (z : Bool). if z then block_at c.dram.blocks (number_of c.p there) else newest n (number_of c.p there)) (placed-in_nvm x.entry.v0 x.page.place (seat_of x))
+      ap (λ (z : Bool). if z then block_at c.dram.blocks (number_of c.p there) else newest n (number_of c.p there))
+      (placed-in_nvm x.entry.v0 x.page.place (seat_of x))
       ∙ newest-empty n (number_of c.p there) settled
       ∙ ap (λ (y : Place). block_at n.image (number_of c.p y)) (sym ((AreTablesOf-committed c tables).same_place b l))
 
@@ -75,12 +76,14 @@ module _ (c : State) (n : Device) (tables : AreSoundTables c) (settled : n.queue
       let num : ℕ → ℕ = λ b. number_of c.p (place_in (tables0 c) b) in
       let size_a : length (penults c n) ≡ size = length-map (range_with_len 0 size) (penult_of c n) ∙ length-range_with_len 0 size in
       let size_n : length (memory_numbers c.p (tables0 c)) ≡ size = length-map (range_with_len 0 size) num ∙ length-range_with_len 0 size in
-      let size_b : length (blocks_at n.image (memory_numbers c.p (tables0 c))) ≡ size = length-map (memory_numbers c.p (tables0 c)) (block_at n.image) ∙ size_n in
+      let size_b : length (blocks_at n.image (memory_numbers c.p (tables0 c))) ≡ size =
+      length-map (memory_numbers c.p (tables0 c)) (block_at n.image) ∙ size_n in
       ext_get_or zero_block (penults c n) (blocks_at n.image (memory_numbers c.p (tables0 c))) (size_a ∙ sym size_b)
       (λ i l.
       let inside : i < size = omega (arith, l, size_a) in
       get_or-map-range_with_len (penult_of c n) 0 size i i zero_block inside (omega arith) ∙ penult_stands i inside
-      ∙ sym (get_or-map (block_at n.image) (memory_numbers c.p (tables0 c)) i 0 zero_block (omega (arith, inside, size_n)) ∙ ap (block_at n.image) (get_or-map-range_with_len num 0 size i i 0 inside (omega arith))))
+      ∙ sym (get_or-map (block_at n.image) (memory_numbers c.p (tables0 c)) i 0 zero_block (omega (arith, inside, size_n))
+      ∙ ap (block_at n.image) (get_or-map-range_with_len num 0 size i i 0 inside (omega arith))))
 
   -- a load gives the memory of the committed checkpoint
   penults-loads : IsBooting c → HoldAll c n → penults c n ≡ loads c n
@@ -123,8 +126,10 @@ new_empty p dram range is = record {
 -- ---- the end of a boot
 
 -- a controller as a boot has it is at rest
-ends : (c : State) (n : Device) (g : List Block) → AreSoundTables c → IsBooting c → HoldAll c n → n.queue ≡ [] → length n.image ≡ image_blocks c.p
-    → (version : LayoutVersion) (kept : ℕ) → HoldsCheckpoint c.p g version kept (tables0 c) → counts_in version c.p (slot_in c.p g) ≡ c.counts.lasts
+ends : (c : State) (n : Device) (g : List Block) → AreSoundTables c → IsBooting c → HoldAll c n → n.queue ≡ []
+    → length n.image ≡ image_blocks c.p
+    → (version : LayoutVersion) (kept : ℕ) → HoldsCheckpoint c.p g version kept (tables0 c)
+    → counts_in version c.p (slot_in c.p g) ≡ c.counts.lasts
     → EndsBoot thynvm_design Resting c n g
 ends c n g tables boot holds settled sized version kept meant counted = record {
   moment = λ epoch. record {
@@ -141,7 +146,8 @@ ends c n g tables boot holds settled sized version kept meant counted = record {
 }
 
 -- a checkpoint was restored, of either version
-restored : (c : State) (n : Device) (b : Booting) → c.p ≡ b.p → n.queue ≡ [] → length n.image ≡ image_blocks b.p → IsRestored filling_thynvm n b c
+restored : (c : State) (n : Device) (b : Booting) → c.p ≡ b.p → n.queue ≡ [] → length n.image ≡ image_blocks b.p
+    → IsRestored filling_thynvm n b c
     → EndsBoot thynvm_design Resting c n n.image
 restored c n b same settled sized f =
     let slot : List Block = slot_read filling_thynvm b in
@@ -161,7 +167,8 @@ restored c n b same settled sized f =
     (subst (λ (q : Parameters). counts_in version q (slot_in q n.image) ≡ c.counts.lasts) (sym same) lasts)
 
 -- the program is loaded
-loaded : (c : State) (n : Device) (g : List Block) (s : Plain) → IsEmpty c → n.queue ≡ [] → length n.image ≡ image_blocks c.p → CanStart c.p s
+loaded : (c : State) (n : Device) (g : List Block) (s : Plain) → IsEmpty c → n.queue ≡ [] → length n.image ≡ image_blocks c.p
+    → CanStart c.p s
     → block_at g 1 ≡ commit_of 0 → slot_in c.p g ≡ first_slot_of filling_thynvm c.p s → EndsBoot thynvm_design Resting c n g
 loaded c n g s empty settled sized can commit slot =
     let p : Parameters = c.p in

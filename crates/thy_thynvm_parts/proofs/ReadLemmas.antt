@@ -67,7 +67,8 @@ versions_read s n m t hold same =
 pub versions_apart : (s : State) (n : Device) (x : ℕ) (block : Block) → AreSoundTables s → IsSized s n → HoldAll s n → IsApart s.p x
     → KeepsVersions s n s (written_to n x block)
 versions_apart s n x block t sized hold apart = versions_read s n (written_to n x block) t hold (λ y there.
-    read_by (in_dram y) (block_at s.dram.blocks (number_of s.p y)) (newest (written_to n x block) (number_of s.p y)) (newest n (number_of s.p y)) (λ side.
+    read_by (in_dram y) (block_at s.dram.blocks (number_of s.p y)) (newest (written_to n x block) (number_of s.p y))
+    (newest n (number_of s.p y)) (λ side.
     let before : number_of s.p y < blocks_one s.p = (between_slots s.p y there side).1 in
     newest-written_to_other n x block (number_of s.p y) (λ e. apart_place s.p y x there side apart (sym e)) (omega (arith, before, sized.nvm))))
 

@@ -73,7 +73,8 @@ pub memory_is_last : (s : State) (n : Device) → AreSoundTables s → HoldAll s
 memory_is_last s n t hold done =
     let tables : Tables = tables1 s in
     let long = length-memory_read s.p tables n in
-    ext_get_or zero_block (memory_read s.p tables n) (lasts s n) (long ∙ sym (length-map-range_with_len (last_of s n) 0 (memory_blocks s.p))) (λ b inside.
+    ext_get_or zero_block (memory_read s.p tables n) (lasts s n)
+    (long ∙ sym (length-map-range_with_len (last_of s n) 0 (memory_blocks s.p))) (λ b inside.
     let l : b < memory_blocks s.p = omega (arith, inside, long) in
     let c : Cell = cell_of s b in
     let place : place_of tables b ≡ target c = (AreTablesOf-under_way s t).same_place b l in
@@ -127,7 +128,8 @@ byte_in-lasts lasts i =
     byte_of-block lasts (i / 64) (i % 64) (omega arith) ∙ ap (λ (x : ℕ). slice_index_or lasts x 0) whole
 
 -- the blocks of counts, read back page by page, are the counts
-pub lasts_read_back : (lasts : List ℕ) (pages : ℕ) → length lasts ≡ pages → map (byte_in (last_block_of lasts)) (range_with_len 0 pages) ≡ lasts
+pub lasts_read_back : (lasts : List ℕ) (pages : ℕ) → length lasts ≡ pages
+    → map (byte_in (last_block_of lasts)) (range_with_len 0 pages) ≡ lasts
 lasts_read_back lasts pages long =
     let left = length-map-range_with_len (byte_in (last_block_of lasts)) 0 pages in
     ext_get_or 0 (map (byte_in (last_block_of lasts)) (range_with_len 0 pages)) lasts (left ∙ sym long)
@@ -158,10 +160,13 @@ abbrev pub ApartOrMemory : Parameters → Tables → ℕ → Type 0
 ApartOrMemory p t x = IsApart p x ⊎ ((b : ℕ) × (b < memory_blocks p) × (number_of p (place_of t b) ≡ x))
 
 module _ (p : Parameters) (t : Tables) (x : ℕ) where
-  in_slot : (version : LayoutVersion) (r : ℕ) → r < 2 → Contains (range_with_len (place_of_slot version p r) (blocks_of_slot version p)) x → IsApart p x
+  in_slot : (version : LayoutVersion) (r : ℕ) → r < 2 → Contains (range_with_len (place_of_slot version p r) (blocks_of_slot version p)) x
+      → IsApart p x
   in_slot VersionOne r two (k, l, is) =
-      let inside : k < blocks_of_slot VersionOne p = omega (arith, l, length-range_with_len (place_of_slot VersionOne p r) (blocks_of_slot VersionOne p)) in
-      let at : place_of_slot VersionOne p r + k ≡ x = sym (get_or-range_with_len (place_of_slot VersionOne p r) (blocks_of_slot VersionOne p) k x inside) ∙ is in
+      let inside : k < blocks_of_slot VersionOne p =
+      omega (arith, l, length-range_with_len (place_of_slot VersionOne p r) (blocks_of_slot VersionOne p)) in
+      let at : place_of_slot VersionOne p r + k ≡ x =
+      sym (get_or-range_with_len (place_of_slot VersionOne p r) (blocks_of_slot VersionOne p) k x inside) ∙ is in
       let before = (old_slot_before p r k two inside).1 in
       inl (omega (arith, before, at))
   in_slot VersionTwo r two (k, l, is) =
@@ -202,7 +207,8 @@ module _ (p : Parameters) (t : Tables) (x : ℕ) where
         ]
       ]
 
-pub looked_cases : (p : Parameters) (image : List Block) (version : LayoutVersion) (epoch : ℕ) (t : Tables) (x : ℕ) → HoldsCheckpoint p image version epoch t
+pub looked_cases : (p : Parameters) (image : List Block) (version : LayoutVersion) (epoch : ℕ) (t : Tables) (x : ℕ)
+    → HoldsCheckpoint p image version epoch t
     → Contains (1 ∷ looked_by (thynvm_layouts p) image) x → ApartOrMemory p t x
 unfolding looked_by
 looked_cases p image version epoch t x meant inside = looked_by-zeros p t x image (is_zero (block_at image 1)) meant.tables inside
@@ -216,7 +222,8 @@ Spares-stays s m t n image version epoch tables stays meant = record {
   no_more = λ x inside. (elim (looked_cases s.p image version epoch (tables0 s) x meant inside) as (λ _. NoMoreAt x m n) [
     | inl apart ↦ stays.guarded.apart x apart
     | inr of ↦
-        let same : number_of s.p (penult (cell_of s of.0)) ≡ x = ap (number_of s.p) (sym ((AreTablesOf-committed s tables).same_place of.0 of.1)) ∙ of.2 in
+        let same : number_of s.p (penult (cell_of s of.0)) ≡ x =
+        ap (number_of s.p) (sym ((AreTablesOf-committed s tables).same_place of.0 of.1)) ∙ of.2 in
         subst (λ (y : ℕ). NoMoreAt y m n) same (stays.guarded.old of.0 of.1)
   ]).no_more;
 }
@@ -231,7 +238,8 @@ Spares-stays_next s m t n image version epoch tables stays copied meant = record
   no_more = λ x inside. (elim (looked_cases s.p image version epoch (tables1 s) x meant inside) as (λ _. NoMoreAt x m n) [
     | inl apart ↦ stays.guarded.apart x apart
     | inr of ↦
-        let same : number_of s.p (target (cell_of s of.0)) ≡ x = ap (number_of s.p) (sym ((AreTablesOf-under_way s tables).same_place of.0 of.1)) ∙ of.2 in
+        let same : number_of s.p (target (cell_of s of.0)) ≡ x =
+        ap (number_of s.p) (sym ((AreTablesOf-under_way s tables).same_place of.0 of.1)) ∙ of.2 in
         subst (λ (y : ℕ). NoMoreAt y m n) same (stays.guarded.next of.0 of.1 (IsPlaced-copied of.0 (cell_of s of.0) (copied of.0 of.1)))
   ]).no_more;
 }
@@ -241,16 +249,17 @@ Spares-stays_next s m t n image version epoch tables stays copied meant = record
 -- what follows the record is the same, counted from the record or from the slot's first block
 rest_same : (r t k : ℕ) (a b : ℕ → Block) → r ≤ k
     → (if nat_lt (k - r) t then a (k - r) else b (k - r - t)) ≡ (if nat_lt k (r + t) then a (k - r) else b (k - (r + t)))
-rest_same r t k a b l = elim (cases_lt (k - r) t) as (λ _. (if nat_lt (k - r) t then a (k - r) else b (k - r - t)) ≡ (if nat_lt k (r + t) then a (k - r) else b (k - (r + t)))) [
-  | inl less ↦
-      ap (λ (x : Bool). if x then a (k - r) else b (k - r - t)) (lt-ltb (k - r) t less)
-      ∙ sym (ap (λ (x : Bool). if x then a (k - r) else b (k - (r + t))) (lt-ltb k (r + t) (omega (arith, less, l))))
-  | inr more ↦
-      let at : k - r - t ≡ k - (r + t) = omega arith in
-      ap (λ (x : Bool). if x then a (k - r) else b (k - r - t)) (le-ltb (k - r) t more)
-      ∙ ap b at
-      ∙ sym (ap (λ (x : Bool). if x then a (k - r) else b (k - (r + t))) (le-ltb k (r + t) (omega (arith, more, l))))
-]
+rest_same r t k a b l = elim (cases_lt (k - r) t)
+    as (λ _. (if nat_lt (k - r) t then a (k - r) else b (k - r - t)) ≡ (if nat_lt k (r + t) then a (k - r) else b (k - (r + t)))) [
+      | inl less ↦
+          ap (λ (x : Bool). if x then a (k - r) else b (k - r - t)) (lt-ltb (k - r) t less)
+          ∙ sym (ap (λ (x : Bool). if x then a (k - r) else b (k - (r + t))) (lt-ltb k (r + t) (omega (arith, less, l))))
+      | inr more ↦
+          let at : k - r - t ≡ k - (r + t) = omega arith in
+          ap (λ (x : Bool). if x then a (k - r) else b (k - r - t)) (le-ltb (k - r) t more)
+          ∙ ap b at
+          ∙ sym (ap (λ (x : Bool). if x then a (k - r) else b (k - (r + t))) (le-ltb k (r + t) (omega (arith, more, l))))
+    ]
 
 block_same : (e : Progress) (s : State) (k : ℕ) → s.p ≡ e.p
     → slot_block items_thynvm e s k ≡ slot_block_of e.p e.cpu (tables1 s) (last_block_of s.counts.lasts) e.epoch k
@@ -263,7 +272,8 @@ block_same e s k same =
           (if nat_lt k (r + table_blocks e.p) then table_block_of (tables1 s) (k - r) else last_block_of s.counts.lasts (k - (r + table_blocks e.p)))) (lt-ltb k r less))
       | inr more ↦
           ap (λ (x : Bool). if x then cpu_block_of e.cpu e.epoch k else slot_rest s (k - r)) (le-ltb k r more)
-          ∙ ap (λ (p : Parameters). if nat_lt (k - r) (table_blocks p) then table_block_of (tables1 s) (k - r) else last_block_of s.counts.lasts (k - r - table_blocks p)) same
+          ∙ ap (λ (p : Parameters). if nat_lt (k - r) (table_blocks p) then table_block_of (tables1 s)
+          (k - r) else last_block_of s.counts.lasts (k - r - table_blocks p)) same
           ∙ rest_same r (table_blocks e.p) k (table_block_of (tables1 s)) (last_block_of s.counts.lasts) more
           ∙ sym (ap (λ (x : Bool). if x then cpu_block_of e.cpu e.epoch k else
           (if nat_lt k (r + table_blocks e.p) then table_block_of (tables1 s) (k - r) else last_block_of s.counts.lasts (k - (r + table_blocks e.p)))) (le-ltb k r more))
@@ -272,7 +282,8 @@ block_same e s k same =
 -- ---- what is free
 
 -- what is free for the kept image is spared by a write
-pub spared : (s : State) (g : List Block) (v : LayoutVersion) (kept : ℕ) (x : Target) → HoldsCheckpoint s.p g v kept (tables0 s) → IsTarget s.p x
+pub spared : (s : State) (g : List Block) (v : LayoutVersion) (kept : ℕ) (x : Target) → HoldsCheckpoint s.p g v kept (tables0 s)
+    → IsTarget s.p x
     → IsFree s.p v kept (tables0 s) x → target_number s.p x ≢ 0 → IsSpared thynvm_design s g (target_number s.p x)
 spared s g v kept x meant there free low inside =
     free_not_looked s.p g v kept (tables0 s) x meant there free

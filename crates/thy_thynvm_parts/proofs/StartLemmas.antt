@@ -59,7 +59,8 @@ place_of-none p b =
     (entry_of-absent (replicate p.ptt None) (page_of b) (λ i l. lists_none p.ptt i (page_of b) l))
 
 -- the blocks of tables that list nothing hold zeros
-pub table_block-none : (p : Parameters) (k : ℕ) → IsInRange p → k < table_blocks p → block_of (replicate 8 0) ≡ table_block_of (no_tables p) k
+pub table_block-none : (p : Parameters) (k : ℕ) → IsInRange p → k < table_blocks p
+    → block_of (replicate 8 0) ≡ table_block_of (no_tables p) k
 table_block-none p k r inside =
     let eights : p.btt % 8 ≡ 0 = btt_eights p r in
     let pages : p.ptt % 8 ≡ 0 = ptt_eights p r in
@@ -82,14 +83,16 @@ counts-none pages =
     ext_get_or 0 (map (byte_in no_counts) (range_with_len 0 pages)) (replicate pages 0) (left ∙ sym (length-replicate pages 0))
     (λ i below.
     let l : i < pages = omega (arith, left) in
-    get_or-map-range_with_len (byte_in no_counts) 0 pages i i 0 l (omega arith) ∙ zero_block-at (i % 64) ∙ sym (get_or-replicate {A = ℕ} pages i 0 0 l))
+    get_or-map-range_with_len (byte_in no_counts) 0 pages i i 0 l (omega arith) ∙ zero_block-at (i % 64)
+    ∙ sym (get_or-replicate {A = ℕ} pages i 0 0 l))
 
 zero_words : block_of (replicate 8 0) ≡ zero_block
 unfolding block_of number_bytes zero_block
 zero_words = refl
 
 -- block k of a start's slot after the record is zeros
-pub start_slot-zeros : (p : Parameters) (s : State) (k : ℕ) → IsInRange p → record_blocks p ≤ k → k < slot_blocks p → block_of (replicate 8 0) ≡ start_slot p s k
+pub start_slot-zeros : (p : Parameters) (s : State) (k : ℕ) → IsInRange p → record_blocks p ≤ k → k < slot_blocks p
+    → block_of (replicate 8 0) ≡ start_slot p s k
 start_slot-zeros p s k r past inside = elim (cases_lt (k - record_blocks p) (table_blocks p)) as (λ _. block_of (replicate 8 0) ≡ start_slot p s k) [
   | inl l ↦
       let e : record_blocks p + (k - record_blocks p) ≡ k = omega arith in

@@ -115,7 +115,8 @@ none_is k = elim (cases_eq k 0) as (λ _. not (nat_lt 0 k) ≡ (k == 0)) [
 ready_same : (s : State) (n : Device) → (holding_of thynvm_design s n).ready ≡ (held_by s n).ready
 ready_same s n = ap (λ (x : Bool). x && not n.down) (none_is (promoted s.ptt))
 
-held_as : (x : Stored) (b : ℕ) (block : Block) (s : State) (n : Device) (t : State) (m : Device) → HasStored x b block (held_by s n) (held_by t m)
+held_as : (x : Stored) (b : ℕ) (block : Block) (s : State) (n : Device) (t : State) (m : Device)
+    → HasStored x b block (held_by s n) (held_by t m)
     → HasStored x b block (holding_of thynvm_design s n) (holding_of thynvm_design t m)
 held_as Done b block s n t m h = record {
   blocks = h.blocks;
@@ -134,13 +135,18 @@ held_as CopyFirst b block s n t m h = record {
 
 -- ---- its action
 
--- both devices after a write at a place, as an action on the NVM
+-- both devices after a write at a place of the DRAM or of the NVM
+abbrev devices_with : Bool → ℕ → Block → Devices → Devices
+devices_with side x block d = if side then record d { dram = written d.dram x block } else record d { nvm = written_to d.nvm x block }
+
+-- this write as an action on the NVM
 acts_there : (side : Bool) (x : ℕ) (block : Block) (d : Devices)
-    → after d.nvm.writes (write_there side x block) d.nvm ≡ (if side then record d { dram = written d.dram x block } else record d { nvm = written_to d.nvm x block }).nvm
+    → after d.nvm.writes (write_there side x block) d.nvm ≡ (devices_with side x block d).nvm
 acts_there true x block d = refl
 acts_there false x block d = refl
 
-pub action_is : (b : ℕ) (block : Block) (s : State) (n : Device) → after n.writes (store_action b block s) n ≡ (devices_after b block s n).nvm
+pub action_is : (b : ℕ) (block : Block) (s : State) (n : Device)
+    → after n.writes (store_action b block s) n ≡ (devices_after b block s n).nvm
 unfolding devices_after
 action_is b block s n =
     let c : Cell = cell_before b s in
@@ -149,9 +155,9 @@ action_is b block s n =
     ap (λ (v : Block). after n.writes (write_there (in_dram x) (number_of s.p x) v) n) (put_by-reads r block s n c)
     ∙ acts_there (in_dram x) (number_of s.p x) (put_by r block (reads s n) c) (devices_of n s.dram)
 
-framed_there : (side : Bool) (x : ℕ) (block : Block) (d : Devices)
-    → IsFramed d.nvm (if side then record d { dram = written d.dram x block } else record d { nvm = written_to d.nvm x block }).nvm
-framed_there true x block d = record { blocks = refl; left = refl; picks = refl; queue_room = refl; left_room = refl; fits = refl; lent = refl; whole = refl }
+framed_there : (side : Bool) (x : ℕ) (block : Block) (d : Devices) → IsFramed d.nvm (devices_with side x block d).nvm
+framed_there true x block d =
+    record { blocks = refl; left = refl; picks = refl; queue_room = refl; left_room = refl; fits = refl; lent = refl; whole = refl }
 framed_there false x block d = record {
   blocks = length-written_to d.nvm x block;
   left = refl;
@@ -163,20 +169,17 @@ framed_there false x block d = record {
   whole = refl;
 }
 
-writes_there : (side : Bool) (x : ℕ) (block : Block) (d : Devices)
-    → WritesBlock d.nvm (if side then record d { dram = written d.dram x block } else record d { nvm = written_to d.nvm x block }).nvm
-    d.dram (if side then record d { dram = written d.dram x block } else record d { nvm = written_to d.nvm x block }).dram
+writes_there : (side : Bool) (x : ℕ) (block : Block) (d : Devices) → WritesBlock d.nvm (devices_with side x block d).nvm
+    d.dram (devices_with side x block d).dram
 writes_there true x block d = inr (record { at = x; block = block; left = refl; nvm = refl })
 writes_there false x block d = inl (record { at = x; block = block; left = refl })
 
-dram_there : (side : Bool) (x : ℕ) (block : Block) (d : Devices)
-    → ActsOnDram d.nvm (if side then record d { dram = written d.dram x block } else record d { nvm = written_to d.nvm x block }).nvm
-    d.dram (if side then record d { dram = written d.dram x block } else record d { nvm = written_to d.nvm x block }).dram
+dram_there : (side : Bool) (x : ℕ) (block : Block) (d : Devices) → ActsOnDram d.nvm (devices_with side x block d).nvm
+    d.dram (devices_with side x block d).dram
 dram_there true x block d = inr (record { at = x; block = block; left = refl; nvm = refl })
 dram_there false x block d = inl refl
 
-room_there : (side : Bool) (x : ℕ) (block : Block) (d : Devices)
-    → (if side then record d { dram = written d.dram x block } else record d { nvm = written_to d.nvm x block }).dram.room ≡ d.dram.room
+room_there : (side : Bool) (x : ℕ) (block : Block) (d : Devices) → (devices_with side x block d).dram.room ≡ d.dram.room
 room_there true x block d = refl
 room_there false x block d = refl
 
@@ -188,7 +191,8 @@ access_there false x block behind = λ e. let low : 2 ≤ x = behind refl in abs
 pub access : (b : ℕ) (block : Block) (s : State) → IsAccess (store_action b block s)
 access b block s =
     let x : Place = store_place (rule_for b s) (cell_before b s) in
-    access_there (in_dram x) (number_of s.p x) (put_by (rule_for b s) block (λ y. block_at s.dram.blocks (number_of s.p y)) (cell_before b s)) (λ side.
+    access_there (in_dram x) (number_of s.p x)
+    (put_by (rule_for b s) block (λ y. block_at s.dram.blocks (number_of s.p y)) (cell_before b s)) (λ side.
     let behind : first_home s.p ≤ number_of s.p x = behind_slots s.p x side in omega (arith, behind))
 
 -- ---- a store
@@ -284,7 +288,8 @@ module _ (b : ℕ) (block : Block) (s : State) (n : Device) (can : CanStore thyn
   makes = subst (λ (m : Device). MakesStore thynvm_design b block s n t m) (sym (action_is b block s n)) makes_device
 
   -- a write of a store that failed
-  fails_there : (side : Bool) (x : ℕ) (v : Block) (m : Device) → FailsTo (write_there side x v) n m → (side ≡ false) × HasFailedToWrite x v n m
+  fails_there : (side : Bool) (x : ℕ) (v : Block) (m : Device) → FailsTo (write_there side x v) n m
+      → (side ≡ false) × HasFailedToWrite x v n m
   fails_there true x v m failed = absurd failed
   fails_there false x v m failed = (refl, failed)
 
@@ -315,7 +320,8 @@ load_stays s n m failed framed = record {
 
 -- ---- what stays, over any number of calls
 
-on_stays : (a : State) (l : Device) (b : State) (m : Device) (c : State) (n : Device) → StaysThynvm a l b m → StaysThynvm b m c n → StaysThynvm a l c n
+on_stays : (a : State) (l : Device) (b : State) (m : Device) (c : State) (n : Device) → StaysThynvm a l b m → StaysThynvm b m c n
+    → StaysThynvm a l c n
 on_stays a l b m c n first second = record {
   control = stays_on a l b m c n first.control second.control;
   room = second.room ∙ first.room;
@@ -366,7 +372,8 @@ at_stays way s n t m stays at = record {
   promotes = λ p. let on : PromotesOn s t = stays.promotes p in work_same s t on.blocks (at.promotes on.before);
 }
 
-stands_stays : (phase : Phase) (s : State) (n : Device) (t : State) (m : Device) → StaysThynvm s n t m → items_thynvm.stands phase s → items_thynvm.stands phase t
+stands_stays : (phase : Phase) (s : State) (n : Device) (t : State) (m : Device) → StaysThynvm s n t m → items_thynvm.stands phase s
+    → items_thynvm.stands phase t
 stands_stays Resting s n t m stays h = at_stays false s n t m stays h
 stands_stays (Making from) s n t m stays h = at_stays true s n t m stays h
 stands_stays Made s n t m stays h = record { at = at_stays true s n t m stays h.at; copied = copied_stays s n t m stays.control h.copied }
@@ -398,8 +405,10 @@ module _ (epoch : ℕ) (s : State) (n : Device) (t : State) (m : Device) (stays 
     slot_reads k l =
         let version : version_of scheme_number s.p (commit_of epoch) ≡ VersionTwo = version_of-commit_of scheme_number s.p epoch in
         let r : ℕ = epoch_of (commit_of epoch) % 2 in
-        let blocks : (thynvm_layouts s.p).slot_blocks (commit_of epoch) ≡ slot_blocks s.p = ap (λ (v : LayoutVersion). blocks_of_slot v s.p) version in
-        let place : slot_place s.p r + k ≡ (thynvm_layouts s.p).slot_place (commit_of epoch) + k = ap (λ (v : LayoutVersion). place_of_slot v s.p r + k) (sym version) in
+        let blocks : (thynvm_layouts s.p).slot_blocks (commit_of epoch) ≡ slot_blocks s.p =
+        ap (λ (v : LayoutVersion). blocks_of_slot v s.p) version in
+        let place : slot_place s.p r + k ≡ (thynvm_layouts s.p).slot_place (commit_of epoch) + k =
+        ap (λ (v : LayoutVersion). place_of_slot v s.p r + k) (sym version) in
         let behind = slot_behind s.p r k in
         subst (λ (x : ℕ). newest m x ≡ newest n x) place
         (now.apart_reads (slot_place s.p r + k) (inr behind) (slot_inside r k (omega arith) (omega (arith, l, blocks))))

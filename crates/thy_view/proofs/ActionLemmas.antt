@@ -76,7 +76,8 @@ access-leaves Barrier n access = absurd access
 access-leaves Drain n access = absurd access
 
 -- two devices that an action left are one, if they have one count
-counted-once : (w : Wear) (n : Device) (count other : ℕ) → says w ≡ true → CountsBy w n.writes (own_count n) count → CountsBy w n.writes (own_count n) other → count ≡ other
+counted-once : (w : Wear) (n : Device) (count other : ℕ) → says w ≡ true → CountsBy w n.writes (own_count n) count
+    → CountsBy w n.writes (own_count n) other → count ≡ other
 counted-once Plain n count other said a b = a ∙ sym b
 counted-once (Levels every since moves) n count other said a b = a ∙ sym b
 counted-once Unsaid n count other said a b = absurd (true≢false (sym said))

@@ -41,5 +41,6 @@ goes_on_after_fault K laws o k pick m stopped next n new tear g wear at leaves f
       up = refl;
       settled = refl;
       blocks = crash.same_length ∙ (framed.blocks ∙ laws.sized o k m n at);
-      means = sealed_in o (is_commit_write leaves.acted.failed.action || v.written) v.done v.sealed (K.decode o.geometry ceiling g) (leaves.safe g crash);
+      means = sealed_in o (is_commit_write leaves.acted.failed.action || v.written) v.done v.sealed (K.decode o.geometry ceiling g)
+          (leaves.safe g crash);
     })

@@ -28,7 +28,8 @@ issuing_begins image_blocks parts n sized = record {
   slot = record { each = λ i l. absurd (omega arith) };
 }
 
-module _ (image_blocks : ℕ) (parts : CheckpointParts) (old new : Device) (memory : List Block) (k : ℕ) (placed : ArePlaced image_blocks parts)
+module _ (image_blocks : ℕ) (parts : CheckpointParts) (old new : Device) (memory : List Block) (k : ℕ)
+    (placed : ArePlaced image_blocks parts)
     (h : AreIssued image_blocks parts old memory k) where
   memory_over : (x : ℕ) (block : Block) → ¬ Contains parts.memory x → new ≡ written_to old x block → map (newest new) parts.memory ≡ memory
   memory_over x block other is =
@@ -42,7 +43,8 @@ module _ (image_blocks : ℕ) (parts : CheckpointParts) (old new : Device) (memo
   length_over : (x : ℕ) (block : Block) → new ≡ written_to old x block → length new.image ≡ image_blocks
   length_over x block is = ap (λ (n : Device). length n.image) is ∙ length-written_to old x block ∙ h.sized
 
-  pub slot_goes_on : k < parts.slot_blocks → new ≡ written_to old (parts.slot_place + k) (parts.slot k) → AreIssued image_blocks parts new memory (k + 1)
+  pub slot_goes_on : k < parts.slot_blocks → new ≡ written_to old (parts.slot_place + k) (parts.slot k)
+      → AreIssued image_blocks parts new memory (k + 1)
   slot_goes_on l is =
       let within : parts.slot_place + k < length old.image = omega (arith, l, placed.slot_inside, h.sized) in
       record {
@@ -71,7 +73,8 @@ module _ (image_blocks : ℕ) (parts : CheckpointParts) (old new : Device) (memo
 
 -- ---- the whole checkpoint
 
-module _ (l : Layout) (ceiling : ℕ) (n : Device) (commit : Block) (parts : CheckpointParts) (memory : List Block) (of : ArePartsOf l commit parts)
+module _ (l : Layout) (ceiling : ℕ) (n : Device) (commit : Block) (parts : CheckpointParts) (memory : List Block)
+    (of : ArePartsOf l commit parts)
     (h : AreIssued l.image_blocks parts n memory parts.slot_blocks) (some : is_zero commit ≡ false) where
   abbrev image : List Block
   image = next_image n commit
@@ -145,7 +148,8 @@ module _ (l : Layout) (ceiling : ℕ) (n : Device) (commit : Block) (parts : Che
         ]
   ]
 
-  pub issued_is_checkpoint : fault_of l ceiling true (newest n 0) commit (slot_of parts) ≡ None → IsCheckpoint l ceiling n commit parts memory
+  pub issued_is_checkpoint : fault_of l ceiling true (newest n 0) commit (slot_of parts) ≡ None
+      → IsCheckpoint l ceiling n commit parts memory
   issued_is_checkpoint none =
       let committed : is_zero (block_at image 1) ≡ false = ap is_zero commit_is ∙ some in
       record {

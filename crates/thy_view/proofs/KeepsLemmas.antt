@@ -28,7 +28,8 @@ use Rattle.thy_layout.proofs.LayoutLemmas.{decode_by-copy}
 IsOf-copy : (o : Origin) (l : Layout) (h g : List Block) (m : Mark) → IsCopy (looked_by l) h g → IsOf o l h m → IsOf o l g m
 IsOf-copy o l h g m c is = record { decodes = decode_by-copy l ceiling h g c ∙ is.decodes; counted = is.counted }
 
-HasKept-copy : (o : Origin) (l : Layout) (h g : List Block) (kept : Option Mark) → IsCopy (looked_by l) h g → HasKept o l h kept → HasKept o l g kept
+HasKept-copy : (o : Origin) (l : Layout) (h g : List Block) (kept : Option Mark) → IsCopy (looked_by l) h g → HasKept o l h kept
+    → HasKept o l g kept
 HasKept-copy o l h g None c t = (decode_by-copy l ceiling h g c ∙ t.0, t.1)
 HasKept-copy o l h g (Some m) c is = IsOf-copy o l h g m c is
 
@@ -61,7 +62,8 @@ one_of_mark o kept doubt m d decodes counted which =
     subst (IsOneOf o kept doubt) (sym decodes)
     (subst (λ (k : ℕ). (kept ≡ Some (mark m.epoch k)) ⊎ (doubt ≡ Some (mark m.epoch k))) (sym counted) which, ap (at o) (sym counted))
 
-one_of_kept : (o : Origin) (l : Layout) (g : List Block) (kept doubt : Option Mark) → HasKept o l g kept → IsOneOf o kept doubt (decode_by l ceiling g)
+one_of_kept : (o : Origin) (l : Layout) (g : List Block) (kept doubt : Option Mark) → HasKept o l g kept
+    → IsOneOf o kept doubt (decode_by l ceiling g)
 one_of_kept o l g None doubt t = subst (IsOneOf o None doubt) (sym t.0) refl
 one_of_kept o l g (Some m) doubt is = one_of_mark o (Some m) doubt m (decode_by l ceiling g) is.decodes is.counted (inl refl)
 
@@ -90,18 +92,19 @@ Safe-sealed layouts o n s kept sealed k = safe_for_both layouts o n s kept seale
 pub at-start : (o : Origin) → at o o.start.count ≡ o.start
 at-start o = at-early o o.start.count (omega arith)
 
-IsOf-first : (o : Origin) (l : Layout) (g : List Block) (m : Mark) → m.count ≡ o.start.count → decode_by l ceiling g ≡ At m.epoch o.start → IsOf o l g m
-IsOf-first o l g m same decodes =
-    let start : at o m.count ≡ o.start = ap (at o) same ∙ at-start o in
-    record { decodes = decodes ∙ ap (At m.epoch) (sym start); counted = ap (λ s. s.count) start ∙ sym same }
+module _ (o : Origin) (l : Layout) (g : List Block) where
+  IsOf-first : (m : Mark) → m.count ≡ o.start.count → decode_by l ceiling g ≡ At m.epoch o.start → IsOf o l g m
+  IsOf-first m same decodes =
+      let start : at o m.count ≡ o.start = ap (at o) same ∙ at-start o in
+      record { decodes = decodes ∙ ap (At m.epoch) (sym start); counted = ap (λ s. s.count) start ∙ sym same }
 
-first_kept : (o : Origin) (l : Layout) (g : List Block) (kept : Option Mark)
-    → o.kept ≡ kept → StartsFrom kept o.start → decode_by l ceiling g ≡ found_first o kept → HasKept o l g kept
-first_kept o l g None is starts found = (found, is)
-first_kept o l g (Some m) is starts found = IsOf-first o l g m starts.0 found
+  first_kept : (kept : Option Mark) → o.kept ≡ kept → StartsFrom kept o.start → decode_by l ceiling g ≡ found_first o kept
+      → HasKept o l g kept
+  first_kept None is starts found = (found, is)
+  first_kept (Some m) is starts found = IsOf-first m starts.0 found
 
-pub HasKept-first : (o : Origin) (l : Layout) (g : List Block) → IsOrigin o → decode_by l ceiling g ≡ found_first o o.kept → HasKept o l g o.kept
-HasKept-first o l g origin found = first_kept o l g o.kept refl origin.starts found
+  pub HasKept-first : IsOrigin o → decode_by l ceiling g ≡ found_first o o.kept → HasKept o l g o.kept
+  HasKept-first origin found = first_kept o.kept refl origin.starts found
 
 pub finding_view-meant : (o : Origin) (l : Layout) (g : List Block) (kept : Option Mark) (count : ℕ)
     → HasKept o l g kept → view_of_image count (decode_by l ceiling g) ≡ finding_view count kept
@@ -191,7 +194,8 @@ Safe-moves layouts o a b k moves =
 
 -- ---- what a cycle's action spares
 
-pub Spares-action : (places : List ℕ) (action : Action) (n new : Device) → LeavesAlone places action → IsLeftBy action n new → Spares places n new
+pub Spares-action : (places : List ℕ) (action : Action) (n new : Device) → LeavesAlone places action → IsLeftBy action n new
+    → Spares places n new
 Spares-action places Rest n new alone left = Spares-same places n new left
 Spares-action places (ReadAt place) n new alone left = Spares-same places n new left
 Spares-action places (WriteAt place block) n new alone left = Spares-written places place block n new alone left

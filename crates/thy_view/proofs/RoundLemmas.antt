@@ -45,7 +45,8 @@ left_then blocks None = 0
 
 pub round_counts : (blocks : ℕ) (r : Round) → IsInRound blocks r → left_then blocks (next_round blocks r) + 1 ≤ round_left blocks r
 round_counts blocks (Write k) inside =
-    next_by (λ (q : Round). round_left blocks q + 1 ≤ round_left blocks (Write k)) k blocks (λ more. omega (arith, inside)) (λ last. omega (arith, inside))
+    next_by (λ (q : Round). round_left blocks q + 1 ≤ round_left blocks (Write k)) k blocks (λ more. omega (arith, inside))
+    (λ last. omega (arith, inside))
 round_counts blocks Settle inside = omega arith
 round_counts blocks Commit inside = omega arith
 round_counts blocks Confirm inside = omega arith
@@ -109,7 +110,8 @@ module _ (w : RoundWrites) where
   drain_keeps_written Confirm n h = (written_drained w.blocks n h.0, Reads-drained 1 w.commit n (drained n) h.1 refl)
 
   -- one block more of a round was written
-  written_more : (image_blocks k : ℕ) (n new : Device) → AreApart image_blocks w → length n.image ≡ image_blocks → k < w.blocks → HasWritten w k n
+  written_more : (image_blocks k : ℕ) (n new : Device) → AreApart image_blocks w → length n.image ≡ image_blocks → k < w.blocks
+      → HasWritten w k n
       → new ≡ written_to n (w.place k) (w.block k) → HasWritten w (k + 1) new
   written_more image_blocks k n new apart sized low h left =
       let inside = apart.inside k low in
@@ -124,7 +126,8 @@ module _ (w : RoundWrites) where
         ];
       }
 
-  pub rounds_write : (image_blocks : ℕ) (r : Round) (n new : Device) → AreApart image_blocks w → length n.image ≡ image_blocks → IsInRound w.blocks r
+  pub rounds_write : (image_blocks : ℕ) (r : Round) (n new : Device) → AreApart image_blocks w → length n.image ≡ image_blocks
+      → IsInRound w.blocks r
       → HasWrittenBefore w r n → IsLeftBy (round_action w r) n new → HasWrittenThen w (next_round w.blocks r) new
   rounds_write image_blocks (Write k) n new apart sized low h left =
       let wrote : HasWritten w (k + 1) new = written_more image_blocks k n new apart sized low h left in
@@ -144,7 +147,8 @@ module _ (w : RoundWrites) where
 -- ---- the slot of a checkpoint
 
 module _ (image_blocks : ℕ) (parts : CheckpointParts) (commit : Block) (placed : ArePlaced image_blocks parts) where
-  issued_settled : (k : ℕ) (n new : Device) (memory : List Block) → Settles n new → AreIssued image_blocks parts n memory k → AreIssued image_blocks parts new memory k
+  issued_settled : (k : ℕ) (n new : Device) (memory : List Block) → Settles n new → AreIssued image_blocks parts n memory k
+      → AreIssued image_blocks parts new memory k
   issued_settled k n new memory e h = record {
     sized = ap (λ (m : Device). length m.image) e ∙ length-settled new.writes n ∙ h.sized;
     memory_is = map-alike (newest new) (newest n) parts.memory
@@ -155,11 +159,14 @@ module _ (image_blocks : ℕ) (parts : CheckpointParts) (commit : Block) (placed
     slot = record { each = λ i l. Reads-settled (parts.slot_place + i) (parts.slot i) n new (h.slot.each i l) e };
   }
 
-  pub rounds_issue : (r : Round) (n new : Device) (memory : List Block) → IsInRound parts.slot_blocks r → AreIssuedBefore image_blocks parts commit r n memory
-      → IsLeftBy (round_action (slot_writes parts commit) r) n new → AreIssuedThen image_blocks parts commit (next_round parts.slot_blocks r) new memory
+  pub rounds_issue : (r : Round) (n new : Device) (memory : List Block) → IsInRound parts.slot_blocks r
+      → AreIssuedBefore image_blocks parts commit r n memory
+      → IsLeftBy (round_action (slot_writes parts commit) r) n new
+      → AreIssuedThen image_blocks parts commit (next_round parts.slot_blocks r) new memory
   rounds_issue (Write k) n new memory low h left =
       let wrote : AreIssued image_blocks parts new memory (k + 1) = slot_goes_on image_blocks parts n new memory k placed h low left in
-      next_by (λ (q : Round). IsInRound parts.slot_blocks q × AreIssuedBefore image_blocks parts commit q new memory) k parts.slot_blocks (λ more. (more, wrote))
+      next_by (λ (q : Round). IsInRound parts.slot_blocks q × AreIssuedBefore image_blocks parts commit q new memory) k parts.slot_blocks
+      (λ more. (more, wrote))
       (λ last.
       let all : k + 1 ≡ parts.slot_blocks = omega (arith, low, last) in
       (tt, subst (λ (j : ℕ). AreIssued image_blocks parts new memory j) all wrote))
@@ -181,7 +188,8 @@ module _ (image_blocks : ℕ) (parts : CheckpointParts) (commit : Block) (placed
 -- what says the same of each number of blocks says it before each action
 pub issued_over : (image_blocks : ℕ) (a b : CheckpointParts) (commit : Block) (r : Round) (n m : Device) (old new : List Block)
     → a.slot_blocks ≡ b.slot_blocks → IsInRound a.slot_blocks r
-    → ((k : ℕ) → k ≤ a.slot_blocks → AreIssued image_blocks a n old k → AreIssued image_blocks b m new k) → (Reads n 1 commit → Reads m 1 commit)
+    → ((k : ℕ) → k ≤ a.slot_blocks → AreIssued image_blocks a n old k → AreIssued image_blocks b m new k)
+    → (Reads n 1 commit → Reads m 1 commit)
     → AreIssuedBefore image_blocks a commit r n old → AreIssuedBefore image_blocks b commit r m new
 issued_over image_blocks a b commit (Write k) n m old new as_many low over read h = over k (omega (arith, low)) h
 issued_over image_blocks a b commit Settle n m old new as_many low over read h =

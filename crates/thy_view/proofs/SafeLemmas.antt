@@ -8,13 +8,13 @@ use Rattle.thy_block.specs.Marks.{mark}
 use Rattle.thy_view.specs.Origin.{Origin}
 use Rattle.thy_view.specs.Safe.{ceiling, Safe, IsOneOf, SameIsNoDoubt}
 
--- a call that failed makes nothing more possible, unless it was a write
-pub Safe-failed : (read : Reading) (o : Origin) (kept doubt : Option Mark) (old new : Device) → Safe read o kept doubt old → HasFailed old new → IsFramed old new → Safe read o kept doubt new
-Safe-failed read o kept doubt old new safe failed framed = λ g c. safe g (Crash-failed failed framed c)
+module _ (read : Reading) (o : Origin) (kept doubt : Option Mark) (old new : Device) (safe : Safe read o kept doubt old) where
+  -- a call that failed makes nothing more possible, unless it was a write
+  pub Safe-failed : HasFailed old new → IsFramed old new → Safe read o kept doubt new
+  Safe-failed failed framed = λ g c. safe g (Crash-failed failed framed c)
 
-pub Safe-unsettled : (read : Reading) (o : Origin) (kept doubt : Option Mark) (old new : Device) → Safe read o kept doubt old → HasFailedToSettle old new → IsFramed old new
-    → Safe read o kept doubt new
-Safe-unsettled read o kept doubt old new safe failed framed = λ g c. safe g (Crash-unsettled failed framed c)
+  pub Safe-unsettled : HasFailedToSettle old new → IsFramed old new → Safe read o kept doubt new
+  Safe-unsettled failed framed = λ g c. safe g (Crash-unsettled failed framed c)
 
 -- safe with no doubt is safe with any
 pub Safe-doubt : (read : Reading) (o : Origin) (kept doubt : Option Mark) (n : Device) → Safe read o kept None n → Safe read o kept doubt n

@@ -33,7 +33,8 @@ at-harts o k =
       crosses = λ s same. crossed-harts s ∙ same;
     }) refl k
 
-recordable_other : (p : Parameters) (a b : Option OtherHart) → IsOtherOf a → is_some a ≡ is_some b → IsOtherRecordable p b → IsOtherRecordable p a
+recordable_other : (p : Parameters) (a b : Option OtherHart) → IsOtherOf a → is_some a ≡ is_some b → IsOtherRecordable p b
+    → IsOtherRecordable p a
 recordable_other p None None there same h = h
 recordable_other p None (Some b) there same h = absurd (true≢false (sym same))
 recordable_other p (Some a) None there same h = absurd (true≢false same)
@@ -44,7 +45,8 @@ pub at-other : (o : Origin) (k : ℕ) → IsOrigin o → IsOtherRecordable o.geo
 at-other o k h =
     recordable_other o.geometry (at o k).other o.start.other (at-storable o k h).other (at-harts o k) h.recordable.other
 
-recordable_there : (p : Parameters) (cpu : CpuState) (memory : List Block) (size : ℕ) → IsStorable size (state_from p cpu memory) → IsOtherRecordable p cpu.other
+recordable_there : (p : Parameters) (cpu : CpuState) (memory : List Block) (size : ℕ) → IsStorable size (state_from p cpu memory)
+    → IsOtherRecordable p cpu.other
     → cpu.console_len ≤ console_room p → cpu.count < ceiling → IsRecordable p ceiling cpu
 unfolding state_from
 recordable_there p cpu memory size there other console count = record {

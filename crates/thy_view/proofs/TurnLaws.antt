@@ -87,24 +87,25 @@ turned-there : (p hart : ℕ) (turns : List ℕ) → get_or (turned p hart turns
 unfolding turned
 turned-there p hart turns = get_or_at (take p (turns ++ replicate p 0)) hart [] 0 p (length-padded turns p)
 
--- a run's turns up to a count, and this hart there
-pub with_turn : Origin → ℕ → ℕ → List ℕ
-with_turn o k hart = turned (k - o.start.count) hart o.turns
+module _ (o : Origin) (k hart : ℕ) where
+  -- a run's turns up to a count, and this hart there
+  pub with_turn : List ℕ
+  with_turn = turned (k - o.start.count) hart o.turns
 
-pub with_turn-agrees : (o : Origin) (k hart i : ℕ) → i ≤ k → AgreeBelow o (with_turn o k hart) i
-unfolding with_turn
-with_turn-agrees o k hart i le = λ j less. elim (cases_lt j o.start.count) as (λ _. turn_at (with_turns o (with_turn o k hart)) j ≡ turn_at o j) [
-  | inl early ↦ turn_early (with_turns o (with_turn o k hart)) j early ∙ sym (turn_early o j early)
-  | inr late ↦
-      turn_late (with_turns o (with_turn o k hart)) j late
-      ∙ turned-below (k - o.start.count) hart o.turns (j - o.start.count) (omega (arith, less, le, late))
-      ∙ sym (turn_late o j late)
-]
+  pub with_turn-agrees : (i : ℕ) → i ≤ k → AgreeBelow o with_turn i
+  unfolding with_turn
+  with_turn-agrees i le = λ j less. elim (cases_lt j o.start.count) as (λ _. turn_at (with_turns o with_turn) j ≡ turn_at o j) [
+    | inl early ↦ turn_early (with_turns o with_turn) j early ∙ sym (turn_early o j early)
+    | inr late ↦
+        turn_late (with_turns o with_turn) j late
+        ∙ turned-below (k - o.start.count) hart o.turns (j - o.start.count) (omega (arith, less, le, late))
+        ∙ sym (turn_late o j late)
+  ]
 
-pub with_turn-gives : (o : Origin) (k hart : ℕ) → o.start.count ≤ k → turn_at (with_turns o (with_turn o k hart)) k ≡ hart
-unfolding with_turn
-with_turn-gives o k hart late =
-    turn_late (with_turns o (with_turn o k hart)) k late ∙ turned-there (k - o.start.count) hart o.turns
+  pub with_turn-gives : o.start.count ≤ k → turn_at (with_turns o with_turn) k ≡ hart
+  unfolding with_turn
+  with_turn-gives late =
+      turn_late (with_turns o with_turn) k late ∙ turned-there (k - o.start.count) hart o.turns
 
 -- a turn that is listed last is the next count's
 pub last-with_turns : LastHasItsTurn
@@ -123,34 +124,38 @@ last-with_turns o turns hart k late many = (
 
 -- the turns reported as far as a count agree below it
 pub taken-agrees : (o : Origin) (turns : List ℕ) (k : ℕ) → AgreeBelow (with_turns o turns) (take (k - o.start.count) turns) k
-taken-agrees o turns k = λ j less. elim (cases_lt j o.start.count) as (λ _. turn_at (with_turns o (take (k - o.start.count) turns)) j ≡ turn_at (with_turns o turns) j) [
-  | inl early ↦ turn_early (with_turns o (take (k - o.start.count) turns)) j early ∙ sym (turn_early (with_turns o turns) j early)
-  | inr late ↦
-      turn_late (with_turns o (take (k - o.start.count) turns)) j late
-      ∙ get_or-take (k - o.start.count) turns (j - o.start.count) 0 (omega (arith, less, late))
-      ∙ sym (turn_late (with_turns o turns) j late)
-]
+taken-agrees o turns k = λ j less. elim (cases_lt j o.start.count)
+    as (λ _. turn_at (with_turns o (take (k - o.start.count) turns)) j ≡ turn_at (with_turns o turns) j) [
+      | inl early ↦ turn_early (with_turns o (take (k - o.start.count) turns)) j early ∙ sym (turn_early (with_turns o turns) j early)
+      | inr late ↦
+          turn_late (with_turns o (take (k - o.start.count) turns)) j late
+          ∙ get_or-take (k - o.start.count) turns (j - o.start.count) 0 (omega (arith, less, late))
+          ∙ sym (turn_late (with_turns o turns) j late)
+    ]
 
 -- turns that agree as far as they go, with the run's own turns from there on, agree everywhere
 pub joined-agrees : (o : Origin) (turns : List ℕ) (i k : ℕ) → length turns ≡ i - o.start.count → AgreeBelow o turns i
     → AgreeBelow o (turns ++ drop (i - o.start.count) o.turns) k
-joined-agrees o turns i k many agree = λ j less. elim (cases_lt j o.start.count) as (λ _. turn_at (with_turns o (turns ++ drop (i - o.start.count) o.turns)) j ≡ turn_at o j) [
-  | inl early ↦ turn_early (with_turns o (turns ++ drop (i - o.start.count) o.turns)) j early ∙ sym (turn_early o j early)
-  | inr late ↦ turn_late (with_turns o (turns ++ drop (i - o.start.count) o.turns)) j late ∙ joined_at j late
-]
+joined-agrees o turns i k many agree =
+    λ j less. elim (cases_lt j o.start.count) as (λ _. turn_at (with_turns o (turns ++ drop (i - o.start.count) o.turns)) j ≡ turn_at o j) [
+      | inl early ↦ turn_early (with_turns o (turns ++ drop (i - o.start.count) o.turns)) j early ∙ sym (turn_early o j early)
+      | inr late ↦ turn_late (with_turns o (turns ++ drop (i - o.start.count) o.turns)) j late ∙ joined_at j late
+    ]
   where
     joined_at : (j : ℕ) → o.start.count ≤ j → get_or (turns ++ drop (i - o.start.count) o.turns) (j - o.start.count) 0 ≡ turn_at o j
-    joined_at j late = elim (cases_lt (j - o.start.count) (length turns)) as (λ _. get_or (turns ++ drop (i - o.start.count) o.turns) (j - o.start.count) 0 ≡ turn_at o j) [
-      | inl low ↦
-          get_or_append_left turns (drop (i - o.start.count) o.turns) 0 (j - o.start.count) low
-          ∙ sym (turn_late (with_turns o turns) j late)
-          ∙ agree j (omega (arith, low, many, late))
-      | inr high ↦
-          get_or-append_right turns (drop (i - o.start.count) o.turns) (length turns) (j - o.start.count) 0 refl high
-          ∙ get_or-drop (i - o.start.count) o.turns (j - o.start.count - length turns) 0
-          ∙ ap (λ (n : ℕ). get_or o.turns n 0) (let e : i - o.start.count + (j - o.start.count - length turns) ≡ j - o.start.count = omega (arith, many, high) in e)
-          ∙ sym (turn_late o j late)
-    ]
+    joined_at j late = elim (cases_lt (j - o.start.count) (length turns))
+        as (λ _. get_or (turns ++ drop (i - o.start.count) o.turns) (j - o.start.count) 0 ≡ turn_at o j) [
+          | inl low ↦
+              get_or_append_left turns (drop (i - o.start.count) o.turns) 0 (j - o.start.count) low
+              ∙ sym (turn_late (with_turns o turns) j late)
+              ∙ agree j (omega (arith, low, many, late))
+          | inr high ↦
+              get_or-append_right turns (drop (i - o.start.count) o.turns) (length turns) (j - o.start.count) 0 refl high
+              ∙ get_or-drop (i - o.start.count) o.turns (j - o.start.count - length turns) 0
+              ∙ ap (λ (n : ℕ). get_or o.turns n 0)
+              (let e : i - o.start.count + (j - o.start.count - length turns) ≡ j - o.start.count = omega (arith, many, high) in e)
+              ∙ sym (turn_late o j late)
+        ]
 
 -- ---- steps
 
@@ -175,19 +180,19 @@ pub record IsKept (P : State → Type 0) (g : Setting) : Type 0 where
   pub steps : (s : State) → P s → P (step g s)
   pub crosses : (s : State) → P s → P (crossed s)
 
-step_of-keeps : (P : State → Type 0) (g : Setting) → IsKept P g → (hart : ℕ) (s : State) → P s → P (step_of g hart s)
-unfolding step_of
-step_of-keeps P g keeps zero s p = keeps.steps s p
-step_of-keeps P g keeps (suc hart) s p = keeps.crosses (step g (crossed s)) (keeps.steps (crossed s) (keeps.crosses s p))
+module _ (P : State → Type 0) (g : Setting) (keeps : IsKept P g) where
+  step_of-keeps : (hart : ℕ) (s : State) → P s → P (step_of g hart s)
+  unfolding step_of
+  step_of-keeps zero s p = keeps.steps s p
+  step_of-keeps (suc hart) s p = keeps.crosses (step g (crossed s)) (keeps.steps (crossed s) (keeps.crosses s p))
 
-pub by_turns-keeps : (P : State → Type 0) (g : Setting) → IsKept P g → (turns : List ℕ) (j k : ℕ) (s : State)
-    → j ≤ k → P (by_turns g turns j s) → P (by_turns g turns k s)
-unfolding by_turns
-by_turns-keeps P g keeps turns j zero s le p = subst (λ (i : ℕ). P (by_turns g turns i s)) (let e : j ≡ zero = omega arith in e) p
-by_turns-keeps P g keeps turns j (suc k) s le p = elim (cases_eq j (suc k)) as (λ _. P (step_of g (get_or turns k 0) (by_turns g turns k s))) [
-  | inl same ↦ subst (λ (i : ℕ). P (by_turns g turns i s)) same p
-  | inr other ↦ step_of-keeps P g keeps (get_or turns k 0) (by_turns g turns k s) (by_turns-keeps P g keeps turns j k s (omega (arith, other, le)) p)
-]
+  pub by_turns-keeps : (turns : List ℕ) (j k : ℕ) (s : State) → j ≤ k → P (by_turns g turns j s) → P (by_turns g turns k s)
+  unfolding by_turns
+  by_turns-keeps turns j zero s le p = subst (λ (i : ℕ). P (by_turns g turns i s)) (let e : j ≡ zero = omega arith in e) p
+  by_turns-keeps turns j (suc k) s le p = elim (cases_eq j (suc k)) as (λ _. P (step_of g (get_or turns k 0) (by_turns g turns k s))) [
+    | inl same ↦ subst (λ (i : ℕ). P (by_turns g turns i s)) same p
+    | inr other ↦ step_of-keeps (get_or turns k 0) (by_turns g turns k s) (by_turns-keeps turns j k s (omega (arith, other, le)) p)
+  ]
 
 -- ---- the plain machine at a count
 

@@ -71,7 +71,8 @@ module _ {S : Type 0} (K : SchemeOf S) (laws : IsLawful K) (o : Origin) (k : Che
       let holds : RunHolds K o k s n = laws.run_holds o k s n stands in
       let some : 0 < length n.queue = omega (arith, ap length e) in
       let rest : (drained n).queue ≡ ws = ap (drop 1) e in
-      let on : Settles K o k s (drained n) (landed_all (drained n)) = lands ws (drained n) rest (record { sound = holds.drained_sound some; up = stands.up }) in
+      let on : Settles K o k s (drained n) (landed_all (drained n)) =
+      lands ws (drained n) rest (record { sound = holds.drained_sound some; up = stands.up }) in
       subst (Settles K o k s n) (landed-on n w ws e) (record {
         sound = on.sound;
         keeps = Keeps-on K s n s (drained n) s (landed_all (drained n)) (holds.drained_keeps some) on.keeps;

@@ -12,7 +12,8 @@ use Rattle.thy_scheme.specs.Laws.{IsLawful, IsFound, BootsFound, BootHolds}
 use Rattle.thy_waiting_laws.specs.Waiting.{Waiting, barriers, left_booted}
 use Rattle.thy_waiting_laws.specs.Scheme.{IsPowered, waits_over}
 
-pub below-boots : {S : Type 0} (K : SchemeOf S) (o : Origin) (w : Waiting S) (n : Device) → IsBooting (waits_over K) o w n → IsBooting K o w.below n
+pub below-boots : {S : Type 0} (K : SchemeOf S) (o : Origin) (w : Waiting S) (n : Device) → IsBooting (waits_over K) o w n
+    → IsBooting K o w.below n
 below-boots K o w n booting = record { boots = booting.boots.below; up = booting.up }
 
 module _ {S : Type 0} (K : SchemeOf S) (laws : IsLawful K) where

@@ -64,7 +64,8 @@ owes-over K (Committed epoch) v n w new h = h
 abbrev pub over : {S : Type 0} → S → Waiting S → Waiting S
 over t w = record w { below = t }
 
-module _ {S : Type 0} (K : SchemeOf S) (laws : IsLawful K) (never : AppliesNothing K) (o : Origin) (k : CheckpointMarks) (w : Waiting S) (n : Device)
+module _ {S : Type 0} (K : SchemeOf S) (laws : IsLawful K) (never : AppliesNothing K) (o : Origin) (k : CheckpointMarks) (w : Waiting S)
+    (n : Device)
     (stands : Stands (waits_over K) o k w n) where
   lower : Stands K o k w.below n
   lower = below-stands K laws never o k w n stands
@@ -78,7 +79,8 @@ module _ {S : Type 0} (K : SchemeOf S) (laws : IsLawful K) (never : AppliesNothi
   pub merges-over : (t : S) → Merges K o k w.below n t → Merges (waits_over K) o k w n (over t w)
   merges-over t m = record {
     sound = record { below = m.sound; few = stands.sound.few; apart = stands.sound.apart };
-    keeps = keeps-over K laws never w n (over t w) n m.keeps (let same = same-come t n (record { sound = m.sound; up = stands.up }) in omega (arith, same));
+    keeps = keeps-over K laws never w n (over t w) n m.keeps
+        (let same = same-come t n (record { sound = m.sound; up = stands.up }) in omega (arith, same));
     owes = m.owes;
     writes = m.writes;
     queue = m.queue;
@@ -88,7 +90,8 @@ module _ {S : Type 0} (K : SchemeOf S) (laws : IsLawful K) (never : AppliesNothi
   pub drains-over : (t : S) → Drains K o k w.below n t → Drains (waits_over K) o k w n (over t w)
   drains-over t d = record {
     sound = record { below = d.sound; few = stands.sound.few; apart = stands.sound.apart };
-    keeps = keeps-over K laws never w n (over t w) n d.keeps (let same = same-come t n (record { sound = d.sound; up = stands.up }) in omega (arith, same));
+    keeps = keeps-over K laws never w n (over t w) n d.keeps
+        (let same = same-come t n (record { sound = d.sound; up = stands.up }) in omega (arith, same));
     owes = d.owes;
     dram = d.dram;
     queue = d.queue;
@@ -151,7 +154,8 @@ module _ {S : Type 0} (K : SchemeOf S) (laws : IsLawful K) (never : AppliesNothi
   engine-fails-over new f = record { step = f.step; acted = f.acted; safe = f.safe }
 
   -- a barrier
-  pub waits-on : (new : Device) → IsSettled n new → is_waiting w ≡ true → Engines (waits_over K) o k Barrier w n (record w { left = w.left - 1 }) new
+  pub waits-on : (new : Device) → IsSettled n new → is_waiting w ≡ true
+      → Engines (waits_over K) o k Barrier w n (record w { left = w.left - 1 }) new
   waits-on new left on =
       let some : 0 < w.left = ltb-true 0 w.left on in
       let idle : K.under_way w.below ≡ false

@@ -5,8 +5,10 @@ use Rattle.thy_answer.proofs.closing.close_stop.Goals as goal
 
 pub returns-in-Nvm : goal.returns-in-Nvm
 returns-in-Nvm g c =
-    subst (λ stop. Sent c.close.result (g.R.Sink.stream c.args.report.now) (g.R.Sink.stream c.close.new.report) (stop_line c.args.limit stop)) (sym c.in-Nvm.is) c.close.ensures
+    subst (λ stop. Sent c.close.result (g.R.Sink.stream c.args.report.now) (g.R.Sink.stream c.close.new.report)
+    (stop_line c.args.limit stop)) (sym c.in-Nvm.is) c.close.ensures
 
 pub returns-in-Terminal : goal.returns-in-Terminal
 returns-in-Terminal g c =
-    subst (λ stop. Sent c.close-in-Terminal.result (g.R.Sink.stream c.args.report.now) (g.R.Sink.stream c.close-in-Terminal.new.report) (stop_line c.args.limit stop)) (sym c.in-Terminal.is) c.close-in-Terminal.ensures
+    subst (λ stop. Sent c.close-in-Terminal.result (g.R.Sink.stream c.args.report.now) (g.R.Sink.stream c.close-in-Terminal.new.report)
+    (stop_line c.args.limit stop)) (sym c.in-Terminal.is) c.close-in-Terminal.ensures

@@ -28,7 +28,8 @@ pub returns-in-Journal : goal.returns-in-Journal
 returns-in-Journal c =
     let scheme : c.args.geometry.now.scheme ≡ Journal = sym (ap (λ (p : Parameters). p.scheme) c.numbers.ensures.same) ∙ c.in-Journal.is in
     subst (λ (x : SchemeName). IfOk c.state_of_image-in-Journal.result
-    (λ (m : MachState). HasState (layouts_by_scheme x c.args.geometry.now) c.args.image.now (state_of m))) (sym scheme) c.state_of_image-in-Journal.ensures
+    (λ (m : MachState). HasState (layouts_by_scheme x c.args.geometry.now) c.args.image.now (state_of m)))
+    (sym scheme) c.state_of_image-in-Journal.ensures
 
 pub state_of_image-requires-in-Shadow : goal.state_of_image-requires-in-Shadow
 state_of_image-requires-in-Shadow c =
@@ -39,4 +40,5 @@ pub returns-in-Shadow : goal.returns-in-Shadow
 returns-in-Shadow c =
     let scheme : c.args.geometry.now.scheme ≡ Shadow = sym (ap (λ (p : Parameters). p.scheme) c.numbers.ensures.same) ∙ c.in-Shadow.is in
     subst (λ (x : SchemeName). IfOk c.state_of_image-in-Shadow.result
-    (λ (m : MachState). HasState (layouts_by_scheme x c.args.geometry.now) c.args.image.now (state_of m))) (sym scheme) c.state_of_image-in-Shadow.ensures
+    (λ (m : MachState). HasState (layouts_by_scheme x c.args.geometry.now) c.args.image.now (state_of m)))
+    (sym scheme) c.state_of_image-in-Shadow.ensures

@@ -29,7 +29,8 @@ report_of_refusal-file (Memory x) not_memory = absurd (not_memory x refl)
 
 pub returns-in_default : goal.returns-in_default
 returns-in_default c =
-    let reported : report_of_refusal c.args.refusal ≡ (4, file_line c.in-File.error) = ap report_of_refusal c.in-File.is ∙ report_of_refusal-file c.in-File.error c.in_default.not-Memory in
+    let reported : report_of_refusal c.args.refusal ≡ (4, file_line c.in-File.error) =
+    ap report_of_refusal c.in-File.is ∙ report_of_refusal-file c.in-File.error c.in_default.not-Memory in
     record {
       status = sym (ap (λ (t : ℕ × List ℕ). t.0) reported);
       line = c.file_closing.ensures ∙ sym (ap (λ (t : ℕ × List ℕ). t.1) reported);

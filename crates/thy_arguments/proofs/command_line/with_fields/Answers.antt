@@ -5,7 +5,8 @@ use Rattle.thy_arguments.proofs.command_line.with_fields.Goals as goal
 
 pub loop-field-preserved : goal.loop-field-preserved
 loop-field-preserved c =
-    one_more c.args.commands (begun c.args.name.now c.args.first.now) (app_of c.loop-field.wider) _ c.fields-field-items.result.now c.loop-field.field-index _
+    one_more c.args.commands (begun c.args.name.now c.args.first.now)
+    (app_of c.loop-field.wider) _ c.fields-field-items.result.now c.loop-field.field-index _
     c.fields-field-items.ensures c.loop-field-test.true c.loop-field.invariant.app c.in_ok-wider.ensures
 
 pub returns : goal.returns

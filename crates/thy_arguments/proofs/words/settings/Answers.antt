@@ -41,7 +41,8 @@ usage_or_memory : (b : Bool) → Answers (Err Usage) (Err (cond b (Memory alloc_
 usage_or_memory true = tt
 usage_or_memory false = refl
 
-refused_answers : (k : ErrorKind) (ws : List Text) → (k ≡ OutOfMemory) ⊎ IsAmong k (fault_of program ws) → Answers (settings_of ws) (Err (refused k))
+refused_answers : (k : ErrorKind) (ws : List Text) → (k ≡ OutOfMemory) ⊎ IsAmong k (fault_of program ws)
+    → Answers (settings_of ws) (Err (refused k))
 refused_answers k ws (inl e) = subst (λ j. Answers (settings_of ws) (Err (refused j))) (sym e) tt
 refused_answers k ws (inr h) = subst (λ a. Answers a (Err (refused k))) (refused_with_fault k ws h) (usage_or_memory (is_out_of_memory k))
 
@@ -63,5 +64,6 @@ returns-in-Err-try_get_matches_from-clause-exact c =
     let ws = map string_bytes c.args.words.now in
     let app_is : app_of c.in-Ok.program ≡ program = c.in-Ok.ensures in
     let fails : HasKind (fault_of program ws) error =
-    subst (λ a. HasKind (fault_of a ws) error) app_is (c.in-Err-try_get_matches_from.ensures.kinds (ap is_simple_and_free app_is ∙ is_free_program)) in
+    subst (λ a. HasKind (fault_of a ws) error) app_is
+    (c.in-Err-try_get_matches_from.ensures.kinds (ap is_simple_and_free app_is ∙ is_free_program)) in
     subst (λ e. Answers (settings_of ws) (Err e)) (sym c.refused.ensures) (refused_answers (kind_of error) ws fails)

@@ -9,7 +9,8 @@ pub returns-then-from-size : goal.returns-then-from-size
 returns-then-from-size c =
     memory_block c.whole_block.result (bytes_of c.args.state.now.memory)
     (bytes_of c.args.state.now.console ++ replicate (console_room c.args.geometry.now - length (bytes_of c.args.state.now.console)) 0)
-    c.as_slice.result.now (64 * c.args.b) c.as_slice.ensures c.whole_block.ensures (omega (arith, c.requires.start.memory, c.program_size-size.ensures.size))
+    c.as_slice.result.now (64 * c.args.b) c.as_slice.ensures c.whole_block.ensures
+    (omega (arith, c.requires.start.memory, c.program_size-size.ensures.size))
     ∙ sym (block_at-start_blocks c.args.geometry.now (state_of c.args.state.now) c.args.b c.requires.place)
 
 pub returns-else-from-size : goal.returns-else-from-size

@@ -16,7 +16,10 @@ carry_out-requires-clause-shadow g c = reads_by _ Shadow (λ p ceiling image. re
 
 pub returns : goal.returns
 returns g c =
-    let before = around (g.H.Shelf.stock c.args.shelf.now) c.args.nvm.now (g.T.Sink.stream c.args.terminal.now) (g.R.Sink.stream c.args.report.now) in
-    let after = around (g.H.Shelf.stock c.carry_out.new.shelf) c.carry_out.new.nvm (g.T.Sink.stream c.carry_out.new.terminal) (g.R.Sink.stream c.carry_out.new.report) in
-    ClaimSeen-answered _ (nvm_of g.N.Nvm.device) g.O.Observer.has_seen g.O.Observer.has_seen_last _ before after c.carry_out.result c.carry_out.new.observer
+    let before = around (g.H.Shelf.stock c.args.shelf.now) c.args.nvm.now (g.T.Sink.stream c.args.terminal.now)
+    (g.R.Sink.stream c.args.report.now) in
+    let after = around (g.H.Shelf.stock c.carry_out.new.shelf) c.carry_out.new.nvm (g.T.Sink.stream c.carry_out.new.terminal)
+    (g.R.Sink.stream c.carry_out.new.report) in
+    ClaimSeen-answered _ (nvm_of g.N.Nvm.device) g.O.Observer.has_seen g.O.Observer.has_seen_last _ before after
+    c.carry_out.result c.carry_out.new.observer
     c.carry_out.ensures.0 c.carry_out.ensures.1

@@ -45,7 +45,8 @@ returns g c =
     let middle : Stock = g.H.Shelf.stock c.prepare.new.shelf in
     let same : middle ≡ old = stock_same old middle c.in-Ok.ensures.held c.in-Ok.ensures.calm in
     let before = around old c.args.nvm.now (g.T.Sink.stream c.args.terminal.now) (g.R.Sink.stream c.args.report.now) in
-    let after = around (g.H.Shelf.stock c.compare_plan.new.shelf) c.compare_plan.new.nvm (g.T.Sink.stream c.compare_plan.new.terminal) (g.R.Sink.stream c.compare_plan.new.report) in
+    let after = around (g.H.Shelf.stock c.compare_plan.new.shelf) c.compare_plan.new.nvm (g.T.Sink.stream c.compare_plan.new.terminal)
+    (g.R.Sink.stream c.compare_plan.new.report) in
     let begins = c.in-Ok.ensures.begins job (record { numbers = c.of-geometry.ensures; reads = sym c.as_deref.ensures.value }) in
     let plan = plan_with job.config c.of-geometry.result c.in-Ok.beginning.start job.digest in
     inr (

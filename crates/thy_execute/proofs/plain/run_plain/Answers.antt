@@ -47,10 +47,13 @@ returns-in-Ok-load g c = λ n job h.
     let closed = unsummed _ _ _ _ _ _ _ _ c.stopped.ensures.closes in
     let ran = IsPlainOf-ran c.args.name.now job (outside old n (g.T.Sink.stream c.args.terminal.now) (g.R.Sink.stream c.args.report.now))
     (outside new n (g.T.Sink.stream c.write_bytes-terminal_failed.new.terminal) (g.R.Sink.stream c.stopped.new.report))
-    c.in-Ok.program c.in-Ok-load.machine _ last _ _ c.write_bytes-terminal_failed.result c.write_end-report_failed.result c.plain_stop.result c.answer.result (g.R.Sink.stream c.write_end-report_failed.new.report)
+    c.in-Ok.program c.in-Ok-load.machine _ last _ _ c.write_bytes-terminal_failed.result c.write_end-report_failed.result
+    c.plain_stop.result c.answer.result (g.R.Sink.stream c.write_end-report_failed.new.report)
     program (stock_same old new c.in-Ok.ensures.held c.in-Ok.ensures.calm)
-    c.in-Ok-load.ensures.machine (ap (λ (x : Parameters). x.limit) c.numbers-limit.ensures.same) c.run-cycles.ensures.stops c.run-cycles.ensures.state c.state-state.ensures
-    (subst (Sent c.write_bytes-terminal_failed.result (g.T.Sink.stream c.args.terminal.now) (g.T.Sink.stream c.write_bytes-terminal_failed.new.terminal)) c.as_slice.ensures c.write_bytes-terminal_failed.ensures.bytes)
+    c.in-Ok-load.ensures.machine (ap (λ (x : Parameters). x.limit) c.numbers-limit.ensures.same) c.run-cycles.ensures.stops
+    c.run-cycles.ensures.state c.state-state.ensures
+    (subst (Sent c.write_bytes-terminal_failed.result (g.T.Sink.stream c.args.terminal.now)
+    (g.T.Sink.stream c.write_bytes-terminal_failed.new.terminal)) c.as_slice.ensures c.write_bytes-terminal_failed.ensures.bytes)
     (subst (λ d. Sent c.write_end-report_failed.result (g.R.Sink.stream c.args.report.now) (g.R.Sink.stream c.write_end-report_failed.new.report) (ended_lines d last.status last.count (bytes_of last.memory))) (sym h.digests) c.write_end-report_failed.ensures)
     c.plain_stop.ensures closed.0
     (ap (λ (a : Answer). a.events) c.answer.ensures ∙ ap of_run (c.stopped.ensures.events ∙ c.new.ensures))

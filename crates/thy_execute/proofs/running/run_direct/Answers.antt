@@ -16,7 +16,8 @@ fit-requires-clause-blocks g c =
 
 pub fit-requires-clause-start : goal.fit-requires-clause-start
 fit-requires-clause-start g c =
-    (fitted_for_plan g.M.Computer.kind g.met.M.Computer.lawful c.args.plan.now c.requires.reads c.args.blocks.items c.shape_of-shape.result (g.N.Nvm.device c.args.nvm.now) c.requires.can
+    (fitted_for_plan g.M.Computer.kind g.met.M.Computer.lawful c.args.plan.now c.requires.reads c.args.blocks.items c.shape_of-shape.result
+    (g.N.Nvm.device c.args.nvm.now) c.requires.can
     (ap (λ (s : Shape). s.blocks) c.shape_of-shape.ensures.shape)).fits
 
 pub returns-in-Err-clause-unfitted : goal.returns-in-Err-clause-unfitted
@@ -31,7 +32,8 @@ run_fitted-requires-clause-fitted g c = record {
   start = c.args.blocks.items;
   before = g.N.Nvm.device c.args.nvm.now;
   fits =
-      fitted_for_plan g.M.Computer.kind g.met.M.Computer.lawful c.args.plan.now c.requires.reads c.args.blocks.items c.shape_of-shape.result (g.N.Nvm.device c.args.nvm.now) c.requires.can
+      fitted_for_plan g.M.Computer.kind g.met.M.Computer.lawful c.args.plan.now c.requires.reads c.args.blocks.items c.shape_of-shape.result
+      (g.N.Nvm.device c.args.nvm.now) c.requires.can
       (ap (λ (s : Shape). s.blocks) c.shape_of-shape.ensures.shape);
   queue = ap (λ (s : Shape). s.queue) c.shape_of-shape.ensures.shape;
   cuts = ap (λ (s : Shape). s.cuts) c.shape_of-shape.ensures.shape;
@@ -43,9 +45,12 @@ returns-in-Ok-clause-runs g c = λ job names p.
     let K = g.M.Computer.kind in
     let n : Device = g.N.Nvm.device c.args.nvm.now in
     let before : Outside = outside (g.H.Shelf.stock c.args.shelf.now) n (g.T.Sink.stream c.args.terminal.now) (g.R.Sink.stream c.args.report.now) in
-    let after : Outside = outside (g.H.Shelf.stock c.run_fitted.new.shelf) (g.N.Nvm.device c.run_fitted.new.nvm) (g.T.Sink.stream c.run_fitted.new.terminal) (g.R.Sink.stream c.run_fitted.new.report) in
+    let after : Outside = outside (g.H.Shelf.stock c.run_fitted.new.shelf) (g.N.Nvm.device c.run_fitted.new.nvm)
+    (g.T.Sink.stream c.run_fitted.new.terminal) (g.R.Sink.stream c.run_fitted.new.report) in
     let none : job.config.gap ≡ 0 = ap (λ (x : Config). x.gap) (sym p.config) ∙ c.requires.direct in
     let fit : g.N.Nvm.device c.fit.new.self ≡ fitted (shape_for K job.config) c.args.blocks.items n =
-    c.in-Ok.ensures.ok ∙ ap (λ s. fitted s c.args.blocks.items n) (c.shape_of-shape.ensures.shape ∙ shape_planned K (named c.args.source) job before.shelf c.args.plan.now c.args.blocks.items p) in
-    RunOverSeen-seen K g.O.Observer.has_seen (named c.args.source) job before p.program after n after.device c.run_fitted.result c.run_fitted.new.observer (IsFoundAs-direct job.config.gap n) (IsLeftAs-direct job.config.gap after.device none)
+    c.in-Ok.ensures.ok ∙ ap (λ s. fitted s c.args.blocks.items n)
+    (c.shape_of-shape.ensures.shape ∙ shape_planned K (named c.args.source) job before.shelf c.args.plan.now c.args.blocks.items p) in
+    RunOverSeen-seen K g.O.Observer.has_seen (named c.args.source) job before p.program after n after.device c.run_fitted.result
+    c.run_fitted.new.observer (IsFoundAs-direct job.config.gap n) (IsLeftAs-direct job.config.gap after.device none)
     (c.run_fitted.ensures.runs job c.args.blocks.items n names p fit)

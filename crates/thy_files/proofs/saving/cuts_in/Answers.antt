@@ -9,11 +9,13 @@ loop-i-preserved c =
     let v = event_of c.get.result.now in
     elim c.if-is_cut.branch [
       | then-is_cut w ↦ record {
-        counted = w.count-is ∙ counted_more c.args.events.now c.loop-i.i c.loop-i.count v c.get.ensures c.loop-i.invariant.counted (sym c.is_cut.ensures ∙ w.if-is_cut.true);
+        counted = w.count-is ∙ counted_more c.args.events.now c.loop-i.i c.loop-i.count v c.get.ensures c.loop-i.invariant.counted
+            (sym c.is_cut.ensures ∙ w.if-is_cut.true);
         few = omega (arith, w.count-is, c.loop-i.invariant.few);
       }
       | else-is_cut w ↦ record {
-        counted = w.count-is ∙ counted_none c.args.events.now c.loop-i.i c.loop-i.count v c.get.ensures c.loop-i.invariant.counted (sym c.is_cut.ensures ∙ w.if-is_cut.false);
+        counted = w.count-is ∙ counted_none c.args.events.now c.loop-i.i c.loop-i.count v c.get.ensures c.loop-i.invariant.counted
+            (sym c.is_cut.ensures ∙ w.if-is_cut.false);
         few = omega (arith, w.count-is, c.loop-i.invariant.few);
       }
     ]

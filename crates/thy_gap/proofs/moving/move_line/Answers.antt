@@ -12,7 +12,8 @@ use Rattle.thy_gap.proofs.moving.move_line.Goals as goal
 
 pub returns-in_err-line-clause-err : goal.returns-in_err-line-clause-err
 returns-in_err-line-clause-err g c =
-    OnErr-of _ (failed_at_read c.args.registers.now (g.N.Nvm.device c.args.inner.now) (g.N.Nvm.device c.read.new.self) c.requires c.in_err-line.ensures.err)
+    OnErr-of _ (failed_at_read c.args.registers.now (g.N.Nvm.device c.args.inner.now)
+    (g.N.Nvm.device c.read.new.self) c.requires c.in_err-line.ensures.err)
 
 pub returns-in_err-put-clause-err : goal.returns-in_err-put-clause-err
 returns-in_err-put-clause-err g c =
@@ -23,7 +24,8 @@ returns-in_err-put-clause-err g c =
 pub returns-clause-err : goal.returns-clause-err
 returns-clause-err g c =
     on_err_weaker c.put-2.result
-    (λ failed. failed_at_registers c.args.registers.now (g.N.Nvm.device c.args.inner.now) (g.N.Nvm.device c.put.new.inner) (g.N.Nvm.device c.put-2.new.inner) c.in_ok-line.line c.requires
+    (λ failed. failed_at_registers c.args.registers.now (g.N.Nvm.device c.args.inner.now) (g.N.Nvm.device c.put.new.inner)
+    (g.N.Nvm.device c.put-2.new.inner) c.in_ok-line.line c.requires
     (c.in_ok-line.ensures.ok ∙ ap (newest (g.N.Nvm.device c.args.inner.now)) c.source.ensures)
     (rw (sym c.in_ok-line.ensures.same) c.in_ok-put.ensures.ok)
     (subst (λ (b : Block). HasFailedToPut (c.args.registers.now.lines + 1) b (g.N.Nvm.device c.put.new.inner) (g.N.Nvm.device c.put-2.new.inner))
@@ -33,7 +35,8 @@ returns-clause-err g c =
 pub returns-clause-ok : goal.returns-clause-ok
 returns-clause-ok g c =
     on_ok_weaker c.put-2.result
-    (λ done. move_done c.args.registers.now (g.N.Nvm.device c.args.inner.now) (g.N.Nvm.device c.put.new.inner) (g.N.Nvm.device c.put-2.new.inner) c.in_ok-line.line c.block.result
+    (λ done. move_done c.args.registers.now (g.N.Nvm.device c.args.inner.now) (g.N.Nvm.device c.put.new.inner)
+    (g.N.Nvm.device c.put-2.new.inner) c.in_ok-line.line c.block.result
     (c.in_ok-line.ensures.ok ∙ ap (newest (g.N.Nvm.device c.args.inner.now)) c.source.ensures)
     (c.block.ensures ∙ ap registers_block c.moved.ensures)
     (rw (sym c.in_ok-line.ensures.same) c.in_ok-put.ensures.ok) done)

@@ -11,7 +11,8 @@ use Rattle.thy_gap.proofs.moving.put.Goals as goal
 
 pub returns-in_err-write-clause-err : goal.returns-in_err-write-clause-err
 returns-in_err-write-clause-err g c =
-    OnErr-of _ (failed_to_write c.args.at c.args.block.now (g.N.Nvm.device c.args.inner.now) (g.N.Nvm.device c.write.new.self) c.in_err-write.ensures.err)
+    OnErr-of _ (failed_to_write c.args.at c.args.block.now (g.N.Nvm.device c.args.inner.now)
+    (g.N.Nvm.device c.write.new.self) c.in_err-write.ensures.err)
 
 pub returns-in_err-write-clause-plain : goal.returns-in_err-write-clause-plain
 returns-in_err-write-clause-plain g c = ap is_plain c.in_err-write.ensures.err.counts.wear
@@ -22,14 +23,16 @@ returns-in_err-write-clause-no_fewer g c = omega (arith, c.in_err-write.ensures.
 pub returns-clause-ok : goal.returns-clause-ok
 returns-clause-ok g c =
     on_ok_weaker c.barrier.result
-    (λ settled. put_done c.args.at c.args.block.now (g.N.Nvm.device c.args.inner.now) (g.N.Nvm.device c.write.new.self) (g.N.Nvm.device c.barrier.new.self)
+    (λ settled. put_done c.args.at c.args.block.now (g.N.Nvm.device c.args.inner.now) (g.N.Nvm.device c.write.new.self)
+    (g.N.Nvm.device c.barrier.new.self)
     c.in_ok-write.ensures.ok settled.device)
     c.barrier.ensures.ok
 
 pub returns-clause-err : goal.returns-clause-err
 returns-clause-err g c =
     on_err_weaker c.barrier.result
-    (λ failed. failed_to_put c.args.at c.args.block.now (g.N.Nvm.device c.args.inner.now) (g.N.Nvm.device c.write.new.self) (g.N.Nvm.device c.barrier.new.self)
+    (λ failed. failed_to_put c.args.at c.args.block.now (g.N.Nvm.device c.args.inner.now) (g.N.Nvm.device c.write.new.self)
+    (g.N.Nvm.device c.barrier.new.self)
     c.in_ok-write.ensures.ok failed)
     c.barrier.ensures.err
 

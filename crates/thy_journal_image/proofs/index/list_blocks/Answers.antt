@@ -16,7 +16,8 @@ list_block-requires-clause-long c =
 
 pub loop-i-preserved : goal.loop-i-preserved
 loop-i-preserved c =
-    block_listed c.args.geometry.now c.args.s (table_in c.args.geometry.now (blocks_of c.args.slot.now)) c.loop-i.i c.requires.table c.loop-i.index c.list_block.new.index
+    block_listed c.args.geometry.now c.args.s
+    (table_in c.args.geometry.now (blocks_of c.args.slot.now)) c.loop-i.i c.requires.table c.loop-i.index c.list_block.new.index
     c.loop-i.invariant
     (c.list_block.ensures ∙ ap (λ (e : Option ℕ). with_block c.args.geometry.now c.args.s c.loop-i.i e c.loop-i.index) c.listed_block.ensures)
 

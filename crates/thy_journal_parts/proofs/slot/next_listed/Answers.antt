@@ -21,7 +21,8 @@ loop-i-preserved c k above below =
     let p : Parameters = c.args.geometry.now in
     let table = table_in p (blocks_of c.args.slot.now) in
     elim (cases_eq k c.loop-i.i) as (λ _. is_some (get_or table k None) ≡ false) [
-      | inl e ↦ subst (λ (m : ℕ). is_some (get_or table m None) ≡ false) (sym e) (ap is_some (sym c.listed_block.ensures) ∙ sym c.is_some.ensures ∙ c.if-is_some.false)
+      | inl e ↦ subst (λ (m : ℕ). is_some (get_or table m None) ≡ false) (sym e)
+          (ap is_some (sym c.listed_block.ensures) ∙ sym c.is_some.ensures ∙ c.if-is_some.false)
       | inr ne ↦ c.loop-i.invariant k above (omega arith)
     ]
 

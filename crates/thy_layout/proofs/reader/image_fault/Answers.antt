@@ -14,12 +14,14 @@ first_block : (bytes : List ℕ) (b : Block) → 128 ≤ length bytes → b ≡ 
 first_block bytes b some is = is ∙ sym (block_at-blocks_of bytes 0 (omega arith))
 
 -- the header's test as the code makes it
-header_same : (l : Layout) (bytes : List ℕ) (b : Block) (long : Bool) → 128 ≤ length bytes → b ≡ block_in bytes 0 → long ≡ is_long_file l bytes
+header_same : (l : Layout) (bytes : List ℕ) (b : Block) (long : Bool) → 128 ≤ length bytes → b ≡ block_in bytes 0
+    → long ≡ is_long_file l bytes
     → header_bad l b long ≡ header_bad l (block_at (blocks_of bytes) 0) (is_long_file l bytes)
 header_same l bytes b long some is all = λ i. header_bad l (first_block bytes b some is i) (all i)
 
 -- the commit block's test as the code makes it
-commit_same : (bytes : List ℕ) (header commit : Block) (ceiling : ℕ) → 128 ≤ length bytes → header ≡ block_in bytes 0 → commit ≡ block_at (blocks_of bytes) 1
+commit_same : (bytes : List ℕ) (header commit : Block) (ceiling : ℕ) → 128 ≤ length bytes → header ≡ block_in bytes 0
+    → commit ≡ block_at (blocks_of bytes) 1
     → commit_fault header commit ceiling ≡ commit_fault (block_at (blocks_of bytes) 0) (block_at (blocks_of bytes) 1) ceiling
 commit_same bytes header commit ceiling some is named = λ i. commit_fault (first_block bytes header some is i) (named i) ceiling
 

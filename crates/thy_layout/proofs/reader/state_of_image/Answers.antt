@@ -27,7 +27,8 @@ fits_read : (l : Layout) (bytes : List ℕ) (b : Block) (slot : List Block) → 
 fits_read l bytes b slot has named at = coe 1 0 (i. Fits l (named i) (at i)) (IsFound-checked l bytes has).fits
 
 -- memory's places, which are all there
-places_read : (L : Layouts) (p : Parameters) (bytes : List ℕ) (b : Block) (slot : List Block) (places : List ℕ) → AreLayouts L → HasCheckpointOf (L p) bytes
+places_read : (L : Layouts) (p : Parameters) (bytes : List ℕ) (b : Block) (slot : List Block) (places : List ℕ) → AreLayouts L
+    → HasCheckpointOf (L p) bytes
     → b ≡ block_at (blocks_of bytes) 1 → slot ≡ slot_in (L p) (blocks_of bytes) → places ≡ memory_places (L p) b slot
     → AreInside (blocks_of bytes) places
 places_read L p bytes b slot places are has named at is =
@@ -35,7 +36,8 @@ places_read L p bytes b slot places are has named at is =
     (AreInside-memory (L p) b slot bytes (are.memory p b slot (fits_read (L p) bytes b slot has named at))
     (as_long (L p) bytes b (are.slot p b) (IsFound-checked (L p) bytes has).long named))
 
-as_many : (L : Layouts) (p : Parameters) (b : Block) (slot : List Block) (places : List ℕ) → AreLayouts L → places ≡ memory_places (L p) b slot
+as_many : (L : Layouts) (p : Parameters) (b : Block) (slot : List Block) (places : List ℕ) → AreLayouts L
+    → places ≡ memory_places (L p) b slot
     → length places ≡ memory_blocks p
 as_many L p b slot places are is =
     ap length is ∙ length-memory_places (L p) b slot ∙ ap (λ (q : Parameters). memory_blocks q) (are.of p)

@@ -6,4 +6,5 @@ use Rattle.thy_layout.proofs.table_faults.index_fault.Goals as goal
 
 pub returns : goal.returns
 returns c =
-    clash_none (index_rule c.args.before c.args.limit) (table_in c.args.table.now) c.loop-i.i (omega (arith, length-table_in c.args.table.now)) c.loop-i.invariant
+    clash_none (index_rule c.args.before c.args.limit) (table_in c.args.table.now) c.loop-i.i
+    (omega (arith, length-table_in c.args.table.now)) c.loop-i.invariant

@@ -8,4 +8,5 @@ pub returns : goal.returns
 returns c =
     let inside : c.next.result % (c.args.count + 1) < length (possible (device_of c.args.ring.now) c.args.at) = omega (arith, c.requires.count) in
     subst (λ b. Contains (possible (device_of c.args.ring.now) c.args.at) b) (sym c.choice.ensures)
-    (Contains-get_or (possible (device_of c.args.ring.now) c.args.at) (c.next.result % (c.args.count + 1)) (block_at c.args.ring.now.image c.args.at) inside)
+    (Contains-get_or (possible (device_of c.args.ring.now) c.args.at) (c.next.result % (c.args.count + 1))
+    (block_at c.args.ring.now.image c.args.at) inside)

@@ -16,7 +16,8 @@ places-preserved c =
     record {
       image =
           ap (λ (h : Held). take (x + 1) h.image ++ drawn c.draw_place.new.draws (x + 1) (drop (x + 1) h.image) h.queue) c.draw_place.ensures.ring
-          ∙ ap (λ d. take (x + 1) (slice_set r.image x block) ++ drawn d (x + 1) (drop (x + 1) (slice_set r.image x block)) r.queue) c.draw_place.ensures.draws
+          ∙ ap (λ d. take (x + 1) (slice_set r.image x block) ++ drawn d (x + 1)
+          (drop (x + 1) (slice_set r.image x block)) r.queue) c.draw_place.ensures.draws
           ∙ drawn-step r.image r.queue l.from x l.draws c.in-Some.ensures.lowest.not_below c.in-Some.ensures.place c.in-Some.ensures.lowest.others
           ∙ l.invariant.image;
       size = ap (λ (h : Held). length h.image) c.draw_place.ensures.ring ∙ length-set r.image x _ ∙ l.invariant.size;
@@ -35,4 +36,5 @@ returns c =
     let image = sym (take-append-drop l.from r.image)
     ∙ ap (λ bs. take l.from r.image ++ bs) (sym (drawn-none l.draws l.from (drop l.from r.image) r.queue c.in_default.ensures.lowest))
     ∙ l.invariant.image in
-    same_held r (record c.args.ring.now { image = drawn c.args.seed 0 c.args.ring.now.image c.args.ring.now.queue }) image l.invariant.queue l.invariant.room
+    same_held r (record c.args.ring.now { image = drawn c.args.seed 0 c.args.ring.now.image c.args.ring.now.queue }) image
+    l.invariant.queue l.invariant.room

@@ -13,4 +13,5 @@ pub returns-clause-made : goal.returns-clause-made
 returns-clause-made c = λ blocks inside made.
     let long : length c.args.block.now.0 ≡ 64 = omega arith in
     let long_from : length c.args.from.now.0 ≡ 64 = omega arith in
-    subst (IsMadeOf blocks) (sym (returns-clause-word c)) (IsMadeOf-put c.args.block.now c.args.from.now c.args.k long long_from c.requires blocks inside made)
+    subst (IsMadeOf blocks) (sym (returns-clause-word c))
+    (IsMadeOf-put c.args.block.now c.args.from.now c.args.k long long_from c.requires blocks inside made)

@@ -6,7 +6,8 @@ use Rattle.thy_nvm.proofs.pick.take_draws.Goals as goal
 
 pub returns-then-whole-clause-left : goal.returns-then-whole-clause-left
 returns-then-whole-clause-left c =
-    subst (Crash (landing c.args.whole c.args.ring.now)) (sym (ap (λ r. r.image) c.draw_places.ensures)) (Crash-drawn c.args.seed (landing c.args.whole c.args.ring.now))
+    subst (Crash (landing c.args.whole c.args.ring.now)) (sym (ap (λ r. r.image) c.draw_places.ensures))
+    (Crash-drawn c.args.seed (landing c.args.whole c.args.ring.now))
 
 pub returns-else-whole-clause-left : goal.returns-else-whole-clause-left
 returns-else-whole-clause-left c =

@@ -9,4 +9,5 @@ returns-in-0-clause-left c = Crash-image (landing c.args.whole c.args.ring.now)
 
 pub returns-in-1-clause-left : goal.returns-in-1-clause-left
 returns-in-1-clause-left c =
-    subst (Crash (landing c.args.whole c.args.ring.now)) (sym (ap (λ r. r.image) c.settle.ensures)) (Crash-applied (landing c.args.whole c.args.ring.now))
+    subst (Crash (landing c.args.whole c.args.ring.now)) (sym (ap (λ r. r.image) c.settle.ensures))
+    (Crash-applied (landing c.args.whole c.args.ring.now))

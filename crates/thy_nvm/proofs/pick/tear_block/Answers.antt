@@ -12,7 +12,8 @@ loop-k-init c = record {
   words = refl;
   state = refl;
   made = subst (λ b. IsMadeOf (possible (device_of c.args.ring.now) c.args.at) b) (sym c.choice-torn.ensures)
-      (IsMadeOf-one (possible (device_of c.args.ring.now) c.args.at) (block_at c.args.ring.now.image c.args.at) (Contains-stands (device_of c.args.ring.now) c.args.at));
+      (IsMadeOf-one (possible (device_of c.args.ring.now) c.args.at) (block_at c.args.ring.now.image c.args.at)
+      (Contains-stands (device_of c.args.ring.now) c.args.at));
 }
 
 pub loop-k-preserved : goal.loop-k-preserved
@@ -20,11 +21,15 @@ loop-k-preserved c =
     let l : c.loop-k.k < 8 = omega arith in
     record {
       words =
-          torn_on-step c.loop-k.k c.loop-k.draws c.draw_block-chosen.new.draws (block_at c.args.ring.now.image c.args.at) (queued_for c.args.ring.now.queue c.args.at)
-          c.draw_block-chosen.result c.loop-k.torn c.replace_word-torn.result l c.draw_block-chosen.ensures.block c.draw_block-chosen.ensures.draws c.replace_word-torn.ensures.word
+          torn_on-step c.loop-k.k c.loop-k.draws c.draw_block-chosen.new.draws (block_at c.args.ring.now.image c.args.at)
+          (queued_for c.args.ring.now.queue c.args.at)
+          c.draw_block-chosen.result c.loop-k.torn c.replace_word-torn.result l c.draw_block-chosen.ensures.block
+          c.draw_block-chosen.ensures.draws c.replace_word-torn.ensures.word
           ∙ c.loop-k.invariant.words;
-      state = after_draws-step c.loop-k.k c.loop-k.draws c.draw_block-chosen.new.draws l c.draw_block-chosen.ensures.draws ∙ c.loop-k.invariant.state;
-      made = c.replace_word-torn.ensures.made (possible (device_of c.args.ring.now) c.args.at) c.draw_block-chosen.ensures.one_of c.loop-k.invariant.made;
+      state = after_draws-step c.loop-k.k c.loop-k.draws c.draw_block-chosen.new.draws l c.draw_block-chosen.ensures.draws
+          ∙ c.loop-k.invariant.state;
+      made = c.replace_word-torn.ensures.made (possible (device_of c.args.ring.now) c.args.at) c.draw_block-chosen.ensures.one_of
+          c.loop-k.invariant.made;
     }
 
 pub returns-clause-block : goal.returns-clause-block

@@ -28,4 +28,5 @@ returns-else-count-gt0-clause-draws c =
 
 pub returns-else-count-gt0-clause-made : goal.returns-else-count-gt0-clause-made
 returns-else-count-gt0-clause-made c =
-    IsMadeOf-one (possible (device_of c.args.ring.now) c.args.at) (block_at c.args.ring.now.image c.args.at) (Contains-stands (device_of c.args.ring.now) c.args.at)
+    IsMadeOf-one (possible (device_of c.args.ring.now) c.args.at) (block_at c.args.ring.now.image c.args.at)
+    (Contains-stands (device_of c.args.ring.now) c.args.at)

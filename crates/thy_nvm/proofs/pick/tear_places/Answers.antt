@@ -36,7 +36,8 @@ loop-x-preserved c =
       made = λ y l. elim (cases_eq y x) as (λ _. IsMadeOf (possible (device_of c.args.ring.now) y) (block_at new.image y)) [
         | inl e ↦
             subst (λ (z : ℕ). IsMadeOf (possible (device_of c.args.ring.now) z) (block_at new.image z)) (sym e)
-            (IsMadeOf-same ring c.args.ring.now x (block_at new.image x) (c.loop-x.invariant.ahead x (omega arith)) c.loop-x.invariant.queue c.tear_place.ensures.made)
+            (IsMadeOf-same ring c.args.ring.now x (block_at new.image x)
+            (c.loop-x.invariant.ahead x (omega arith)) c.loop-x.invariant.queue c.tear_place.ensures.made)
         | inr ne ↦
             subst (λ d. IsMadeOf (possible (device_of c.args.ring.now) y) d) (sym (other y ne)) (c.loop-x.invariant.made y (omega (arith, l, ne)))
       ];

@@ -6,4 +6,5 @@ use Rattle.thy_record.proofs.table_faults.under_fault.Goals as goal
 
 pub returns : goal.returns
 returns c =
-    clash_none (under_rule (table_in c.args.ptt.now)) (table_in c.args.btt.now) c.loop-i.i (omega (arith, length-table_in c.args.btt.now)) c.loop-i.invariant
+    clash_none (under_rule (table_in c.args.ptt.now)) (table_in c.args.btt.now) c.loop-i.i
+    (omega (arith, length-table_in c.args.btt.now)) c.loop-i.invariant

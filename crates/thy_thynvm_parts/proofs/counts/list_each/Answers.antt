@@ -28,9 +28,11 @@ loop-page-preserved c =
     let pages = ap (λ (q : Parameters). q.pages) c.numbers-pages.ensures.same in
     HasFirstCounts-more c.args.geometry.now (blocks_of c.args.slot.now) c.loop-page.page c.args.control.now c.loop-page.control c.list_count.new.self
     (omega (arith, pages)) c.loop-page.invariant
-    (c.list_count.ensures.state ∙ ap (λ (n : ℕ). with_listed_count c.loop-page.page n c.loop-page.control) c.listed_count.ensures) c.list_count.ensures.booting
+    (c.list_count.ensures.state
+    ∙ ap (λ (n : ℕ). with_listed_count c.loop-page.page n c.loop-page.control) c.listed_count.ensures) c.list_count.ensures.booting
 
 pub returns-clause-counts : goal.returns-clause-counts
 returns-clause-counts c =
     let pages = ap (λ (q : Parameters). q.pages) c.numbers-pages.ensures.same in
-    all_counts c.args.geometry.now (blocks_of c.args.slot.now) c.loop-page.page c.args.control.now c.loop-page.control (omega (arith, pages)) c.loop-page.invariant
+    all_counts c.args.geometry.now (blocks_of c.args.slot.now) c.loop-page.page c.args.control.now c.loop-page.control
+    (omega (arith, pages)) c.loop-page.invariant

@@ -6,7 +6,8 @@ use Rattle.thy_thynvm_parts.proofs.listing.list_all.Goals as goal
 
 pub list_pages-requires-clause-geometry : goal.list_pages-requires-clause-geometry
 list_pages-requires-clause-geometry c =
-    same_p-listed c.args.geometry.now.btt 0 (tables_in c.args.geometry.now (blocks_of c.args.slot.now)) c.args.control.now c.list_blocks.new.control c.list_blocks.ensures ∙ c.requires.geometry
+    same_p-listed c.args.geometry.now.btt 0 (tables_in c.args.geometry.now (blocks_of c.args.slot.now)) c.args.control.now
+    c.list_blocks.new.control c.list_blocks.ensures ∙ c.requires.geometry
 
 pub returns : goal.returns
 returns c =

@@ -8,5 +8,6 @@ use Rattle.thy_thynvm_parts.proofs.listing.list_one_block.Goals as goal
 pub list_block-requires-clause-may : goal.list_block-requires-clause-may
 list_block-requires-clause-may c =
     let t : Tables = tables_in c.args.geometry.now (blocks_of c.args.slot.now) in
-    may_block c.args.geometry.now c.args.i 0 t c.args.control.now c.requires.geometry c.requires.tables c.requires.before c.recall_tables.ensures c.tables_allow_listing.ensures.block
+    may_block c.args.geometry.now c.args.i 0 t c.args.control.now c.requires.geometry c.requires.tables c.requires.before
+    c.recall_tables.ensures c.tables_allow_listing.ensures.block
     c.in-Some.b c.requires.entry (sym c.listed_block.ensures ∙ c.in-Some.is)

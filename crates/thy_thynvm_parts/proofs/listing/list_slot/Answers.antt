@@ -50,6 +50,7 @@ returns c =
     let p : Parameters = c.args.geometry.now in
     let slot : List Block = blocks_of c.args.slot.now in
     let counted : c.list_counts.new.control ≡ with_lasts (counts_in (version_of scheme_number p c.args.commit.now) p slot) c.list_all.new.control
-    = c.list_counts.ensures.counts ∙ ap (λ (f : LayoutVersion). with_lasts (counts_in f p slot) c.list_all.new.control) c.version_of-version.ensures in
+    = c.list_counts.ensures.counts
+    ∙ ap (λ (f : LayoutVersion). with_lasts (counts_in f p slot) c.list_all.new.control) c.version_of-version.ensures in
     lists_on p c.args.commit.now slot c.args.control.now c.list_all.new.control c.list_counts.new.control c.requires.geometry c.list_all.ensures
     counted c.list_counts.ensures.booting c.recall_tables.ensures

@@ -22,7 +22,8 @@ loop-j-preserved c k above below =
     let p : Parameters = c.args.geometry.now in
     let ptt = (tables_in p (blocks_of c.args.slot.now)).ptt in
     elim (cases_eq k c.loop-j.j) as (λ _. is_some (get_or ptt k None) ≡ false) [
-      | inl e ↦ subst (λ (m : ℕ). is_some (get_or ptt m None) ≡ false) (sym e) (ap is_some (sym c.listed_page.ensures) ∙ sym c.is_some.ensures ∙ c.if-is_some.false)
+      | inl e ↦ subst (λ (m : ℕ). is_some (get_or ptt m None) ≡ false) (sym e)
+          (ap is_some (sym c.listed_page.ensures) ∙ sym c.is_some.ensures ∙ c.if-is_some.false)
       | inr ne ↦ c.loop-j.invariant k above (omega arith)
     ]
 

@@ -17,7 +17,8 @@ returns-in-Reads g c =
     takes_read g.F.Fills.filling g.met.F.Fills.lawful c.read_next.result s c.in-Reads.at n b c.args.control.now
     (g.N.Nvm.device c.read_next.new.nvm) c.read_next.new.self c.read_next.new.control is c.requires.fits
     (subst (λ (q : Stage). CanStepAt g.F.Fills.filling q s n b c.args.control.now) is c.requires.can)
-    c.read_next.ensures.goes c.read_next.ensures.fills c.read_next.ensures.block c.read_next.ensures.boot c.read_next.ensures.control c.read_next.ensures.nvm
+    c.read_next.ensures.goes c.read_next.ensures.fills c.read_next.ensures.block c.read_next.ensures.boot
+    c.read_next.ensures.control c.read_next.ensures.nvm
 
 pub returns-in-Migrates : goal.returns-in-Migrates
 returns-in-Migrates g c =

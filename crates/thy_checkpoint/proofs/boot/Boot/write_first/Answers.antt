@@ -20,7 +20,8 @@ write_of-write-requires-clause-start g c =
 pub write_of-write-requires-clause-inside : goal.write_of-write-requires-clause-inside
 write_of-write-requires-clause-inside g c =
     subst (λ (b : Booting). c.in-Write.k < (first_writes (first_by g.F.Fills.filling b.p (state_of c.args.state.now))).blocks) (sym c.self.view_is)
-    (subst (λ (r : Round). IsInRound (first_writes (first_by g.F.Fills.filling c.args.self.now.p (state_of c.args.state.now))).blocks r) c.in-Write.is c.requires.can.there)
+    (subst (λ (r : Round). IsInRound (first_writes (first_by g.F.Fills.filling c.args.self.now.p (state_of c.args.state.now))).blocks r)
+    c.in-Write.is c.requires.can.there)
 
 pub write-requires-clause-place : goal.write-requires-clause-place
 write-requires-clause-place g c =

@@ -19,7 +19,8 @@ read-requires c =
 
 pub returns-then-index : goal.returns-then-index
 returns-then-index c =
-    let inside = within c.self.inside.ring c.self.inside.marks.items c.self.inside.pick c.args.at c.args.self.now c.self.view_is c.self.invariant.marked c.requires in
+    let inside = within c.self.inside.ring c.self.inside.marks.items c.self.inside.pick c.args.at c.args.self.now c.self.view_is
+    c.self.invariant.marked c.requires in
     let marked : is_marked c.self.inside.marks.items c.args.at ≡ true
     = sym (get_or_read c.self.inside.marks.items c.args.at c.index.result.now inside.0 c.index.ensures false) ∙ c.if-index.true in
     c.read.ensures
@@ -28,7 +29,8 @@ returns-then-index c =
 
 pub returns-else-index : goal.returns-else-index
 returns-else-index c =
-    let inside = within c.self.inside.ring c.self.inside.marks.items c.self.inside.pick c.args.at c.args.self.now c.self.view_is c.self.invariant.marked c.requires in
+    let inside = within c.self.inside.ring c.self.inside.marks.items c.self.inside.pick c.args.at c.args.self.now c.self.view_is
+    c.self.invariant.marked c.requires in
     let unmarked : is_marked c.self.inside.marks.items c.args.at ≡ false
     = sym (get_or_read c.self.inside.marks.items c.args.at c.index.result.now inside.0 c.index.ensures false) ∙ c.if-index.false in
     c.drawn_at.ensures

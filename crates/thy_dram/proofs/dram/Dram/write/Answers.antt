@@ -12,11 +12,13 @@ index_mut-requires c =
     )
 
 pub write-requires : goal.write-requires
-write-requires c = (within c.self.inside.ring c.self.inside.marks.items c.self.inside.pick c.args.at c.args.self.now c.self.view_is c.self.invariant.marked c.requires).1
+write-requires c = (within c.self.inside.ring c.self.inside.marks.items c.self.inside.pick c.args.at c.args.self.now c.self.view_is
+    c.self.invariant.marked c.requires).1
 
 pub returns : goal.returns
 returns c =
-    contents_in-written c.self.inside.ring c.write.new.self c.self.inside.marks.items c.self.inside.pick c.args.at c.args.block.now c.write.ensures.held
+    contents_in-written c.self.inside.ring c.write.new.self c.self.inside.marks.items c.self.inside.pick c.args.at
+    c.args.block.now c.write.ensures.held
     c.self.invariant.some_room c.write.ensures.within c.self.invariant.marked
     (within c.self.inside.ring c.self.inside.marks.items c.self.inside.pick c.args.at c.args.self.now c.self.view_is c.self.invariant.marked c.requires).1
     ∙ ap (λ d. written d c.args.at c.args.block.now) c.self.view_is

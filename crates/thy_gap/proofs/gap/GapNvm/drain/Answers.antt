@@ -15,7 +15,8 @@ returns-clause-ok g c =
     let l = fitted_where_queued c.self.invariant (rw (sym c.self.view_is) at c.requires.queued) in
     rw (sym c.self.view_is)
     (on_ok_weaker c.drain.result
-    (λ e. ap (looks c.self.inside.every c.self.inside.since c.self.inside.moves c.self.inside.registers) e ∙ drain_seen c.self.invariant l (rw (sym c.self.view_is) at c.requires.up))
+    (λ e. ap (looks c.self.inside.every c.self.inside.since c.self.inside.moves c.self.inside.registers) e
+    ∙ drain_seen c.self.invariant l (rw (sym c.self.view_is) at c.requires.up))
     c.drain.ensures.ok)
 
 pub returns-clause-err : goal.returns-clause-err

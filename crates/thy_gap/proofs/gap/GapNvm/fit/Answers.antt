@@ -19,7 +19,8 @@ returns-in-Err-fit-clause-err g c =
 
 pub invariant_of-self-2 : goal.invariant_of-self-2
 invariant_of-self-2 g c =
-    let is : g.N.Nvm.device c.fit.new.self ≡ fitted (inner_shape c.args.shape.now) (first_image c.args.shape.now.blocks c.args.start.items) (g.N.Nvm.device c.self.inside.inner) = grind (arith, common_steps) in
+    let is : g.N.Nvm.device c.fit.new.self ≡ fitted (inner_shape c.args.shape.now) (first_image c.args.shape.now.blocks c.args.start.items)
+    (g.N.Nvm.device c.self.inside.inner) = grind (arith, common_steps) in
     let room : c.args.shape.now.blocks + 2 < 2 ^ 64 = grind (arith, common_steps) in
     let cuts : c.args.shape.now.cuts + 1 < 2 ^ 64 = grind (arith, common_steps) in
     rw c.unmoved-self-inside.ensures
@@ -27,7 +28,8 @@ invariant_of-self-2 g c =
 
 pub returns-clause-ok : goal.returns-clause-ok
 returns-clause-ok g c =
-    let is : g.N.Nvm.device c.fit.new.self ≡ fitted (inner_shape c.args.shape.now) (first_image c.args.shape.now.blocks c.args.start.items) (g.N.Nvm.device c.self.inside.inner) = grind (arith, common_steps) in
+    let is : g.N.Nvm.device c.fit.new.self ≡ fitted (inner_shape c.args.shape.now) (first_image c.args.shape.now.blocks c.args.start.items)
+    (g.N.Nvm.device c.self.inside.inner) = grind (arith, common_steps) in
     rw (sym c.self.view_is)
     (ap (λ (r : Registers). looks c.self.inside.every 0 0 r (g.N.Nvm.device c.fit.new.self)) c.unmoved-self-inside.ensures
     ∙ ap (looks c.self.inside.every 0 0 (unmoved c.args.shape.now.blocks)) is

@@ -17,7 +17,8 @@ write-requires-clause-place g c =
 pub invariant_of-self : goal.invariant_of-self
 invariant_of-self g c =
     let l = line_seen c.self.invariant c.args.at (rw (sym c.self.view_is) at c.requires.place) in
-    sound_failed_to_write c.self.invariant (g.N.Nvm.device c.write.new.self) c.args.at c.args.block.now l (rw (sym c.self.view_is) at c.requires.up) c.write.ensures.frame
+    sound_failed_to_write c.self.invariant (g.N.Nvm.device c.write.new.self) c.args.at c.args.block.now l
+    (rw (sym c.self.view_is) at c.requires.up) c.write.ensures.frame
     (rw c.place.ensures at c.in_err-write.ensures.err)
 
 pub returns-in_err-write-clause-err : goal.returns-in_err-write-clause-err

@@ -12,6 +12,7 @@ places-requires-clause-table c =
 
 pub returns : goal.returns
 returns c =
-    subst (λ (e : ℕ). IfOk c.places.result (λ v. v.items ≡ memory_places c.args.geometry.now (e % 2) (table_in c.args.geometry.now (blocks_of c.args.slot.now))))
+    subst (λ (e : ℕ). IfOk c.places.result
+    (λ v. v.items ≡ memory_places c.args.geometry.now (e % 2) (table_in c.args.geometry.now (blocks_of c.args.slot.now))))
     c.epoch_in.ensures
     (subst (λ (s : ℕ). IfOk c.places.result (λ v. v.items ≡ memory_places c.args.geometry.now s (table_in c.args.geometry.now (blocks_of c.args.slot.now)))) c.slot_of_epoch.ensures.slot c.places.ensures)

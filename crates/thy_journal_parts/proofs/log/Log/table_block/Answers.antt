@@ -11,7 +11,8 @@ pub table_block-requires : goal.table_block-requires
 table_block-requires c =
     let s : State = c.args.self.now in
     subst (λ (es : List (Option ℕ)). HaveWords es) (sym c.listed_in.ensures)
-    (HaveWords-eight (table_of s) c.args.k (HaveWords-table s.p (table_of s) c.recall_sound.ensures.range (IsTable-table_of s c.recall_sound.ensures)))
+    (HaveWords-eight (table_of s) c.args.k
+    (HaveWords-table s.p (table_of s) c.recall_sound.ensures.range (IsTable-table_of s c.recall_sound.ensures)))
 
 pub returns : goal.returns
 returns c =

@@ -6,7 +6,8 @@ use Rattle.thy_nvm.proofs.kept.Kept.keep.Goals as goal
 pub add_blocks-requires : goal.add_blocks-requires
 add_blocks-requires c =
     let counted : length c.self.inside.picks.items < c.self.inside.room
-    = room_to_keep c.self.inside.size c.self.inside.blocks.items c.self.inside.picks.items c.self.inside.room c.args.self.now c.self.view_is c.requires.room in
+    = room_to_keep c.self.inside.size c.self.inside.blocks.items c.self.inside.picks.items c.self.inside.room c.args.self.now
+    c.self.view_is c.requires.room in
     omega (
       arith,
       space_to_keep c.self.inside.size (length c.self.inside.picks.items) c.self.inside.room _ c.self.invariant.blocks_fit counted,
@@ -19,7 +20,8 @@ add_blocks-requires c =
 pub add_pick-requires : goal.add_pick-requires
 add_pick-requires c =
     let counted : length c.self.inside.picks.items < c.self.inside.room
-    = room_to_keep c.self.inside.size c.self.inside.blocks.items c.self.inside.picks.items c.self.inside.room c.args.self.now c.self.view_is c.requires.room in
+    = room_to_keep c.self.inside.size c.self.inside.blocks.items c.self.inside.picks.items c.self.inside.room c.args.self.now
+    c.self.view_is c.requires.room in
     omega (arith, c.self.invariant.picks_fit, c.self.inside.picks.ok.0)
 
 pub invariant_of-self : goal.invariant_of-self

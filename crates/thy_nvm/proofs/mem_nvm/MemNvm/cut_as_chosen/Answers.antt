@@ -27,7 +27,9 @@ returns c =
     let left : Crash n new.image = record { same_length = chosen.same_length; each = chosen.each } in
     let is : device_in new c.keep.new.self false s.faults s.fits s.whole s.writes ≡ cut_to n pick new.image n.wear
     = ap (λ (q : List Write). device_in (record new { queue = q }) c.keep.new.self false s.faults s.fits s.whole s.writes) c.leave_chosen.ensures.queue
-    ∙ ap (λ (r : ℕ). device_in (record { image = new.image; queue = []; room = r }) c.keep.new.self false s.faults s.fits s.whole s.writes) c.leave_chosen.ensures.room
+    ∙ ap (λ (r : ℕ). device_in (record { image = new.image; queue = []; room = r }) c.keep.new.self false s.faults s.fits s.whole
+    s.writes) c.leave_chosen.ensures.room
     ∙ ap (λ (k : Cuts). device_in (record { image = new.image; queue = []; room = s.ring.room }) k false s.faults s.fits s.whole s.writes)
     (c.keep.ensures ∙ ap (with_cut s.kept pick) c.image.ensures) in
-    subst (λ (d : Device). IsCut pick d (device_in new c.keep.new.self false s.faults s.fits s.whole s.writes)) same (record { crash = left; wear = CutsWear-same n.down n.wear; device = is })
+    subst (λ (d : Device). IsCut pick d (device_in new c.keep.new.self false s.faults s.fits s.whole s.writes)) same
+    (record { crash = left; wear = CutsWear-same n.down n.wear; device = is })

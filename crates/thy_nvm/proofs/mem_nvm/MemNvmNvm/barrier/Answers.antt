@@ -7,12 +7,14 @@ use Rattle.thy_nvm.proofs.mem_nvm.MemNvmNvm.barrier.Goals as goal
 
 pub returns-clause-ok : goal.returns-clause-ok
 returns-clause-ok c =
-    IsSettled-left half_settled _ _ _ _ _ (ap (λ (m : InMemory). m.device) c.self.view_is) refl c.barrier_unless.ensures.fails c.barrier_unless.ensures.leaves
+    IsSettled-left half_settled _ _ _ _ _
+    (ap (λ (m : InMemory). m.device) c.self.view_is) refl c.barrier_unless.ensures.fails c.barrier_unless.ensures.leaves
 
 pub returns-clause-err : goal.returns-clause-err
 returns-clause-err c =
     HasFailedToSettle-left (on_device at_rest) half_settled _ _ _ _ _ (ap (λ (m : InMemory). m.device) c.self.view_is)
-    (λ n. no_more-landed (length n.queue / 2) n) (λ n. record { writes = refl; wear = refl }) c.barrier_unless.ensures.fails c.barrier_unless.ensures.leaves
+    (λ n. no_more-landed (length n.queue / 2) n)
+    (λ n. record { writes = refl; wear = refl }) c.barrier_unless.ensures.fails c.barrier_unless.ensures.leaves
 
 pub returns-clause-frame : goal.returns-clause-frame
 returns-clause-frame c =

@@ -22,7 +22,8 @@ returns-clause-exact c =
 
 pub returns-clause-cut : goal.returns-clause-cut
 returns-clause-cut c =
-    let n : Device = device_in c.self.inside.ring c.self.inside.kept c.self.inside.down c.self.inside.faults c.self.inside.fits c.self.inside.whole c.self.inside.writes in
+    let n : Device = device_in c.self.inside.ring c.self.inside.kept c.self.inside.down c.self.inside.faults c.self.inside.fits
+    c.self.inside.whole c.self.inside.writes in
     let left : Crash n c.leave.new.ring.image = record { same_length = c.leave.ensures.left.same_length; each = c.leave.ensures.left.each } in
     IsCut-picked c.args.pick n _ _ (ap (λ (m : InMemory). m.device) c.self.view_is)
     (subst (Crash n) (ap (λ r. r.image) c.leave.ensures.ring) left)

@@ -7,5 +7,6 @@ use Rattle.thy_nvm.proofs.mem_nvm.MemNvmNvm.drain.Goals as goal
 
 pub returns-clause-err : goal.returns-clause-err
 returns-clause-err c =
-    HasFailed-left (on_device drained) drained _ _ _ _ _ (ap (λ (m : InMemory). m.device) c.self.view_is) no_more-drained (λ n. record { writes = refl; wear = refl }) c.drain_unless.ensures.fails
+    HasFailed-left (on_device drained) drained _ _ _ _ _ (ap (λ (m : InMemory). m.device) c.self.view_is) no_more-drained
+    (λ n. record { writes = refl; wear = refl }) c.drain_unless.ensures.fails
     c.drain_unless.ensures.leaves

@@ -10,7 +10,8 @@ pub index-requires : goal.index-requires
 index-requires c =
     omega (
       arith,
-      inside_over c.args.at c.self.inside.ring c.self.inside.marks.items c.self.inside.below.now (ap (λ (o : Overlaid). o.device.image) c.self.view_is) c.requires,
+      inside_over c.args.at c.self.inside.ring c.self.inside.marks.items c.self.inside.below.now
+          (ap (λ (o : Overlaid). o.device.image) c.self.view_is) c.requires,
       c.self.inside.marks.ok.0,
     )
 
@@ -18,7 +19,8 @@ pub read-requires : goal.read-requires
 read-requires c =
     omega (
       arith,
-      inside_over c.args.at c.self.inside.ring c.self.inside.marks.items c.self.inside.below.now (ap (λ (o : Overlaid). o.device.image) c.self.view_is) c.requires,
+      inside_over c.args.at c.self.inside.ring c.self.inside.marks.items c.self.inside.below.now
+          (ap (λ (o : Overlaid). o.device.image) c.self.view_is) c.requires,
       c.self.invariant.blocks,
     )
 
@@ -26,14 +28,16 @@ pub block_of_image-requires : goal.block_of_image-requires
 block_of_image-requires c =
     omega (
       arith,
-      inside_over c.args.at c.self.inside.ring c.self.inside.marks.items c.self.inside.below.now (ap (λ (o : Overlaid). o.device.image) c.self.view_is) c.requires,
+      inside_over c.args.at c.self.inside.ring c.self.inside.marks.items c.self.inside.below.now
+          (ap (λ (o : Overlaid). o.device.image) c.self.view_is) c.requires,
       c.self.invariant.as_many,
     )
 
 pub returns-then-index : goal.returns-then-index
 returns-then-index c =
     let inside : c.args.at < length c.self.inside.marks.items
-    = inside_over c.args.at c.self.inside.ring c.self.inside.marks.items c.self.inside.below.now (ap (λ (o : Overlaid). o.device.image) c.self.view_is) c.requires in
+    = inside_over c.args.at c.self.inside.ring c.self.inside.marks.items c.self.inside.below.now
+    (ap (λ (o : Overlaid). o.device.image) c.self.view_is) c.requires in
     let marked : is_marked c.self.inside.marks.items c.args.at ≡ true
     = sym (get_or_read c.self.inside.marks.items c.args.at c.index.result.now inside c.index.ensures false) ∙ c.if-index.true in
     c.read.ensures
@@ -43,7 +47,8 @@ returns-then-index c =
 pub returns-else-index : goal.returns-else-index
 returns-else-index c =
     let inside : c.args.at < length c.self.inside.marks.items
-    = inside_over c.args.at c.self.inside.ring c.self.inside.marks.items c.self.inside.below.now (ap (λ (o : Overlaid). o.device.image) c.self.view_is) c.requires in
+    = inside_over c.args.at c.self.inside.ring c.self.inside.marks.items c.self.inside.below.now
+    (ap (λ (o : Overlaid). o.device.image) c.self.view_is) c.requires in
     let unmarked : is_marked c.self.inside.marks.items c.args.at ≡ false
     = sym (get_or_read c.self.inside.marks.items c.args.at c.index.result.now inside c.index.ensures false) ∙ c.if-index.false in
     c.block_of_image.ensures

@@ -11,7 +11,8 @@ pub index-requires : goal.index-requires
 index-requires c =
     omega (
       arith,
-      inside_over c.args.at c.self.inside.ring c.self.inside.marks.items c.self.inside.below.now (ap (λ (o : Overlaid). o.device.image) c.self.view_is) c.requires,
+      inside_over c.args.at c.self.inside.ring c.self.inside.marks.items c.self.inside.below.now
+          (ap (λ (o : Overlaid). o.device.image) c.self.view_is) c.requires,
       c.self.inside.marks.ok.0,
     )
 
@@ -19,7 +20,8 @@ pub block_of_image-requires : goal.block_of_image-requires
 block_of_image-requires c =
     omega (
       arith,
-      inside_over c.args.at c.self.inside.ring c.self.inside.marks.items c.self.inside.below.now (ap (λ (o : Overlaid). o.device.image) c.self.view_is) c.requires,
+      inside_over c.args.at c.self.inside.ring c.self.inside.marks.items c.self.inside.below.now
+          (ap (λ (o : Overlaid). o.device.image) c.self.view_is) c.requires,
       c.self.invariant.blocks,
       ap length c.image.ensures,
     )
@@ -28,7 +30,8 @@ pub block_of_image-requires-else-index : goal.block_of_image-requires-else-index
 block_of_image-requires-else-index c =
     omega (
       arith,
-      inside_over c.args.at c.self.inside.ring c.self.inside.marks.items c.self.inside.below.now (ap (λ (o : Overlaid). o.device.image) c.self.view_is) c.requires,
+      inside_over c.args.at c.self.inside.ring c.self.inside.marks.items c.self.inside.below.now
+          (ap (λ (o : Overlaid). o.device.image) c.self.view_is) c.requires,
       c.self.invariant.as_many,
     )
 

@@ -13,7 +13,8 @@ pub put_over-requires-clause-place : goal.put_over-requires-clause-place
 put_over-requires-clause-place c =
     omega (
       arith,
-      inside_over c.args.at c.self.inside.ring c.self.inside.marks.items c.self.inside.below.now (ap (λ (o : Overlaid). o.device.image) c.self.view_is) c.requires,
+      inside_over c.args.at c.self.inside.ring c.self.inside.marks.items c.self.inside.below.now
+          (ap (λ (o : Overlaid). o.device.image) c.self.view_is) c.requires,
       ap length c.deref_mut.ensures.value,
     )
 
@@ -49,7 +50,8 @@ returns c =
     let taken : ms ≡ slice_set s.marks.items at true = c.put_over.ensures.marks ∙ ap (λ m. slice_set m at true) c.deref_mut.ensures.value in
     let long : length ms ≡ length s.marks.items = ap length taken ∙ length-set s.marks.items at true in
     let back : (with_items s.marks ms).items ≡ ms = with_items_is s.marks ms (omega (arith, long, s.marks.ok.0)) in
-    let inside : at < length s.marks.items = inside_over at s.ring s.marks.items below (ap (λ (o : Overlaid). o.device.image) c.self.view_is) c.requires in
+    let inside : at < length s.marks.items =
+    inside_over at s.ring s.marks.items below (ap (λ (o : Overlaid). o.device.image) c.self.view_is) c.requires in
     let e : over_below c.put_over.new.ring (with_items s.marks ms).items below ≡ put_at (over_below s.ring s.marks.items below) at block
     = ap (λ m. over_below c.put_over.new.ring m below) (back ∙ taken)
     ∙ ap (λ h. over_below h (slice_set s.marks.items at true) below) c.put_over.ensures.ring

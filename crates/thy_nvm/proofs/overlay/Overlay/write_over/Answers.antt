@@ -15,7 +15,8 @@ pub take_up-requires-clause-place : goal.take_up-requires-clause-place
 take_up-requires-clause-place c =
     omega (
       arith,
-      inside_over c.args.at c.self.inside.ring c.self.inside.marks.items c.self.inside.below.now (ap (λ (o : Overlaid). o.device.image) c.self.view_is) c.requires,
+      inside_over c.args.at c.self.inside.ring c.self.inside.marks.items c.self.inside.below.now
+          (ap (λ (o : Overlaid). o.device.image) c.self.view_is) c.requires,
       ap length c.deref_mut.ensures.value,
     )
 
@@ -23,7 +24,8 @@ pub write-requires : goal.write-requires
 write-requires c =
     omega (
       arith,
-      inside_over c.args.at c.self.inside.ring c.self.inside.marks.items c.self.inside.below.now (ap (λ (o : Overlaid). o.device.image) c.self.view_is) c.requires,
+      inside_over c.args.at c.self.inside.ring c.self.inside.marks.items c.self.inside.below.now
+          (ap (λ (o : Overlaid). o.device.image) c.self.view_is) c.requires,
       c.take_up.ensures.blocks,
       c.self.invariant.blocks,
     )
@@ -37,7 +39,8 @@ invariant_of-self c =
     let taken : ms ≡ slice_set s.marks.items at true = c.take_up.ensures.marks ∙ ap (λ m. slice_set m at true) c.deref_mut.ensures.value in
     let long : length ms ≡ length s.marks.items = ap length taken ∙ length-set s.marks.items at true in
     let back : (with_items s.marks ms).items ≡ ms = with_items_is s.marks ms (omega (arith, long, s.marks.ok.0)) in
-    let inside : at < length s.marks.items = inside_over at s.ring s.marks.items s.below.now (ap (λ (o : Overlaid). o.device.image) c.self.view_is) c.requires in
+    let inside : at < length s.marks.items =
+    inside_over at s.ring s.marks.items s.below.now (ap (λ (o : Overlaid). o.device.image) c.self.view_is) c.requires in
     let before : AreMarked ms s.ring.queue
     = subst (λ m. AreMarked m s.ring.queue) (sym taken) (AreMarked-set s.marks.items at s.ring.queue c.self.invariant.marked) in
     let marked : AreMarked ms r.queue = subst (AreMarked ms) (sym c.take_up.ensures.queue) before in
@@ -69,7 +72,8 @@ returns c =
     let marked : AreMarked ms r.queue = subst (AreMarked ms) (sym c.take_up.ensures.queue) before in
     let image : merged ms r.image below ≡ merged s.marks.items s.ring.image below
     = c.take_up.ensures.image ∙ ap (λ m. merged m s.ring.image below) c.deref_mut.ensures.value in
-    let e : over_below c.write.new.self (with_items s.marks ms).items below ≡ as_device (λ n. written_to n at block) (over_below s.ring s.marks.items below)
+    let e : over_below c.write.new.self (with_items s.marks ms).items below ≡ as_device (λ n. written_to n at block)
+    (over_below s.ring s.marks.items below)
     = ap (λ m. over_below c.write.new.self m below) back
     ∙ ap (λ h. over_below h ms below) c.write.ensures.held
     ∙ over-written r ms below at block (c.take_up.ensures.blocks ∙ c.self.invariant.blocks ∙ sym long) marked

@@ -61,7 +61,8 @@ returns-clause-exact c =
     ∙ ap length image
     ∙ length-merged s.marks.items s.ring.image below in
     let leaves : left ≡ left_by s.whole pick all_of
-    = c.leave.ensures.ring ∙ ap (left_by s.whole pick) (same_held c.take_up_all.new.ring all_of image c.take_up_all.ensures.queue c.take_up_all.ensures.room) in
+    = c.leave.ensures.ring ∙ ap (left_by s.whole pick)
+    (same_held c.take_up_all.new.ring all_of image c.take_up_all.ensures.queue c.take_up_all.ensures.room) in
     let over : over_below left (with_items s.marks ms).items below ≡ left_by s.whole pick all_of
     = ap (λ m. over_below left m below) (back ∙ all)
     ∙ ap (λ i. record { image = i; queue = left.queue; room = left.room }) (merged-all (length s.marks.items) left.image below size)

@@ -16,7 +16,8 @@ advance-requires-clause-count c =
 pub loop-done-preserved : goal.loop-done-preserved
 loop-done-preserved c =
     let m = c.args.self.now in
-    let still : is_running (steps m.setting c.loop-done.done m.state).status ≡ true = ap (λ (n : Machine). is_running n.state.status) (sym c.loop-done.invariant.state) ∙ c.loop-done.invariant.runs in
+    let still : is_running (steps m.setting c.loop-done.done m.state).status ≡ true =
+    ap (λ (n : Machine). is_running n.state.status) (sym c.loop-done.invariant.state) ∙ c.loop-done.invariant.runs in
     let runs : is_running c.advance.new.self.state.status ≡ true = cc in
     record {
       ran = Ran-more m c.loop-done.done c.loop-done.invariant.ran still;
@@ -37,7 +38,8 @@ returns-then-not-advance-clause-stops c =
     let m = c.args.self.now in
     let k = c.loop-done.done in
     let below : k < c.args.limit = omega arith in
-    let runs : is_running (steps m.setting k m.state).status ≡ true = ap (λ (n : Machine). is_running n.state.status) (sym c.loop-done.invariant.state) ∙ c.loop-done.invariant.runs in
+    let runs : is_running (steps m.setting k m.state).status ≡ true =
+    ap (λ (n : Machine). is_running n.state.status) (sym c.loop-done.invariant.state) ∙ c.loop-done.invariant.runs in
     let ended : is_running c.advance.new.self.state.status ≡ false = cc in
     stops_after m c.advance.new.self c.args.limit k below c.loop-done.invariant.ran runs
     (c.advance.ensures.state ∙ ap stepped c.loop-done.invariant.state ∙ after_more m k) ended

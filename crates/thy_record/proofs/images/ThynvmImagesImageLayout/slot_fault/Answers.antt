@@ -18,6 +18,8 @@ slot_fault-requires-clause-room c = omega (arith, c.requires, least_slot c.args.
 pub returns : goal.returns
 returns c =
     c.slot_fault.ensures
-    ∙ ap (λ (f : LayoutVersion). slot_fault f c.args.geometry.now c.args.ceiling c.epoch_in.result (blocks_of c.args.slot.now)) c.version_of-version.ensures
-    ∙ ap (λ (e : ℕ). slot_fault (version_of scheme_number c.args.geometry.now c.args.commit.now) c.args.geometry.now c.args.ceiling e (blocks_of c.args.slot.now))
+    ∙ ap (λ (f : LayoutVersion). slot_fault f c.args.geometry.now c.args.ceiling c.epoch_in.result
+    (blocks_of c.args.slot.now)) c.version_of-version.ensures
+    ∙ ap (λ (e : ℕ). slot_fault (version_of scheme_number c.args.geometry.now c.args.commit.now) c.args.geometry.now c.args.ceiling e
+    (blocks_of c.args.slot.now))
     c.epoch_in.ensures

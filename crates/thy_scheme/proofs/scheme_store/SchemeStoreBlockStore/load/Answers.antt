@@ -11,7 +11,8 @@ returns-clause-once g c =
     let n = g.N.Nvm.device c.args.nvm.now in
     let new = g.N.Nvm.device c.load.new.nvm in
     record {
-      access = load_once K l s n new c.args.b c.load.result c.requires c.load.ensures.stays c.load.ensures.frame c.load.ensures.same c.load.ensures.err;
+      access = load_once K l s n new c.args.b c.load.result c.requires c.load.ensures.stays c.load.ensures.frame
+          c.load.ensures.same c.load.ensures.err;
       counted = failure_counts c.load.result n new (load_up K l s n new c.args.b c.load.result c.requires c.load.ensures.same) c.load.ensures.cause;
       unmarked = refl;
     }
@@ -19,7 +20,8 @@ returns-clause-once g c =
 -- a failure is counted
 pub returns-clause-cause : goal.returns-clause-cause
 returns-clause-cause g c =
-    load_counts g.S.Scheme.scheme g.met.S.Scheme.lawful c.args.self.now.scheme (g.N.Nvm.device c.args.nvm.now) (g.N.Nvm.device c.load.new.nvm) c.args.b c.load.result
+    load_counts g.S.Scheme.scheme g.met.S.Scheme.lawful c.args.self.now.scheme (g.N.Nvm.device c.args.nvm.now)
+    (g.N.Nvm.device c.load.new.nvm) c.args.b c.load.result
     c.requires c.load.ensures.same c.load.ensures.err
 
 pub returns-clause-loads : goal.returns-clause-loads
