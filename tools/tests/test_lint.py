@@ -238,7 +238,7 @@ What is low.
 | `Table::entry` | Entry `at`, of those that there are. |
 | `Reader::read` | Reads on. |
 | `Shut::read` | Reads nothing. |
-| `is_even` | Whether it is even: 4 is. |
+| `is_even` | Whether it is even: 4 is. *No contract.* |
 
 ## The upper layer
 
@@ -248,7 +248,7 @@ The program.
 
 | function | what it says |
 |---|---|
-| `work` | Works. |
+| `work` | Works. *No contract.* |
 """
 
 
@@ -286,7 +286,7 @@ class Proofs(CopyTest):
     def test_a_function_without_a_comment(self):
         self.file("crates/high/src/top.rt", TOP.replace("/// Works.\n", ""))
         self.call("proofs", "--write")
-        self.assertTrue(self.page().endswith("| `work` | |\n"))
+        self.assertTrue(self.page().endswith("| `work` | *No contract.* |\n"))
 
     def test_refusals(self):
         os.remove(self.path("docs/PROOFS.md"))

@@ -15,9 +15,9 @@ ABOUT = """Compares docs/PROOFS.md with the page that is made from the sources. 
 
 The page has the layers of docs/ARCHITECTURE.md with the crates of crates.txt. Of each crate it has the first sentence of
 src/lib.rt, the implementations of traits, the laws and the other public functions, in the order of the files. Of a law it has
-the first paragraph of its comment (`///`), of another function the first sentence. A function is public if src/lib.rt names it,
-or the type or trait that has it, in a `pub use`; in a program, if src/main.rt names it in a `use crate::`. A law is a public
-function with a contract that returns nothing and is lent nothing to change.
+the first paragraph of its comment (`///`), of another function the first sentence, and whether it has no contract. A function
+is public if src/lib.rt names it, or the type or trait that has it, in a `pub use`; in a program, if src/main.rt names it in a
+`use crate::`. A law is a public function with a contract that returns nothing and is lent nothing to change.
 
 Exit status: 0 written, or nothing differs; 1 the page differs; 2 invalid usage, or something cannot be read."""
 
@@ -28,8 +28,9 @@ HEAD = """<!-- made by tools/lint proofs --write -->
 
 *Proved* means: for all arguments that meet the conditions that a function states, its result and effects are what its contract
 says, and no more than that. Each function is also proved safe (no index out of range, no overflow, no use after free) and total
-(it returns). A crate counts if crates.txt lists it, because `rt ci` proves these crates and no others. The promise of the whole
-program is the contract of `thynvm` (thy_cli), of which THEOREM.md says what it is built of; TESTING.md lists what is only tested.
+(it returns). If a row ends with *No contract*, that is all that is proved of its function. A crate counts if crates.txt lists it,
+because `rt ci` proves these crates and no others. The promise of the whole program is the contract of `thynvm` (thy_cli), of which
+THEOREM.md says what it is built of; TESTING.md lists what is only tested.
 
 A script makes this page from the comments of the code. A comment says in words what the contract below it says exactly: whoever
 relies on a row reads the contract, in `src/` of the crate. A *law* is a function that does nothing, so that all it has is its
@@ -66,6 +67,12 @@ class Function:
     @property
     def title(self):
         return f"`{self.owner}::{self.name}`" if self.owner else f"`{self.name}`"
+
+    @property
+    def says(self):
+        """What its row says: the first sentence of its comment, and whether no clause, not even a trait's, says what it does."""
+        has_contract = self.trait or re.search(r"\bensures\b", self.text)
+        return " ".join(filter(None, [first_sentence(self.comment), "" if has_contract else "*No contract.*"]))
 
     @property
     def is_law(self):
@@ -142,7 +149,7 @@ class Crate:
         tables = {
             "implementation": [(f"`{trait}` for `{owner}`", said or self.comments.get(owner, "")) for trait, owner, said in types],
             "law": [(one.title, one.comment) for one in calls if one.is_law],
-            "function": [(one.title, first_sentence(one.comment)) for one in calls if not one.is_law],
+            "function": [(one.title, one.says) for one in calls if not one.is_law],
         }
         return {head: rows for head, rows in tables.items() if rows}
 
