@@ -1,4 +1,5 @@
 pub mod OrderLemmas
+pub mod ShiftLemmas
 pub mod WaysLemmas
 pub mod LineLemmas
 pub mod AgreeLemmas

@@ -267,14 +267,14 @@ impl Cache {
         Ok(())
     }
 
-    /// The line in a way of a set.
-    fn line_at(&self, set: usize, way: usize) -> Line
+    /// The line in a way of a set, where it stands.
+    fn line_at(&self, set: usize, way: usize) -> &Line
         requires set { set < length self.now.sets }
         requires dirty { is_dirty (line_at (set_at self.now set) way) ≡ true }
-        ensures { line_at (set_at self.now set) way ≡ Some result }
+        ensures { line_at (set_at self.now set) way ≡ Some result.now }
     {
         let ways = &self.sets[set];
-        match ways.line(way) {
+        match ways.line_ref(way) {
             Some(line) => line,
             None => unreachable!(),
         }

@@ -34,8 +34,11 @@ fn move_last(order: &mut Vec<usize>, at: usize, way: usize)
     requires { at < length order.old.items }
     ensures { order.new.items ≡ remove order.old.items at ++ way ∷ [] }
 {
-    order.remove(at);
-    order.push_reserved(way);
+    let last = order.len() - 1;
+    for k in at..last {
+        order[k] = order[k + 1];
+    }
+    order[last] = way;
 }
 
 /// Ways without lines.
@@ -239,7 +242,7 @@ impl WaySet {
         requires { way < length self.old.lines }
         ensures { self.new ≡ over_line clean way self.old }
     {
-        self.lines[way] = cleaned(self.lines[way]);
+        make_clean(&mut self.lines[way]);
     }
 
     /// Loads block `b`, which has no line, into the way of the victim.
@@ -270,14 +273,14 @@ pub(crate) fn empty_sets(alloc: Global, sets: u64, ways: usize) -> Result<Vec<Wa
     Ok(all)
 }
 
-/// A line as its store has it now.
-fn cleaned(line: Option<Line>) -> Option<Line>
-    ensures { result ≡ option_map clean line }
+/// Notes that the store has the line in a way, if there is one.
+fn make_clean(way: &mut Option<Line>)
+    ensures { way.new ≡ option_map clean way.old }
 {
-    line.map(|line| Line {
-        dirty: false,
-        ..line
-    })
+    match way {
+        Some(line) => line.dirty = false,
+        None => {}
+    }
 }
 
 /// Writes bytes over the line in a way, if there is one, from byte `at` on. It is dirty then. Most stores write 8 bytes or 4:

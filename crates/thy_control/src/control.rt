@@ -90,16 +90,17 @@ fn page_entry(ptt: &Ptt, page: u64) -> (usize, PttEntry)
     }
 }
 
-/// The place of a block's entry; if it has none, the place of the entry which the rule of its store adds.
-fn place_for_rule(btt: &Btt, b: u64, rule: StoreRule) -> usize
-    requires { 0 < free_count btt.now }
+/// The place of a block's entry, 0 before if it has none; then the place of the entry which the rule of its store adds.
+fn place_for_rule(btt: &Btt, b: u64, before: usize, rule: StoreRule) -> usize
+    requires room { 0 < free_count btt.now }
+    requires before { before ≡ index_for block_key new_entry b btt.now }
     ensures { result ≡ index_for block_key new_entry b (btt_with rule b btt.now) }
 {
-    match btt.find(b) {
-        Some(i) => i,
-        None => match rule {
-            StoreRule::ToBuffer | StoreRule::ToNvm => place_to_add(btt, b),
-            StoreRule::ToFrame | StoreRule::PendingFirst => 0,
+    match rule {
+        StoreRule::ToFrame | StoreRule::PendingFirst => before,
+        StoreRule::ToBuffer | StoreRule::ToNvm => match btt.find(b) {
+            Some(i) => i,
+            None => place_to_add(btt, b),
         },
     }
 }
@@ -121,11 +122,11 @@ fn add_for_rule(btt: &mut Btt, b: u64, rule: StoreRule)
     requires { b < btt.old.numbers }
     ensures { btt.new ≡ btt_with rule b btt.old }
 {
-    match btt.find(b) {
-        Some(_) => {}
-        None => match rule {
-            StoreRule::ToBuffer | StoreRule::ToNvm => add_entry(btt, b),
-            StoreRule::ToFrame | StoreRule::PendingFirst => {}
+    match rule {
+        StoreRule::ToFrame | StoreRule::PendingFirst => {}
+        StoreRule::ToBuffer | StoreRule::ToNvm => match btt.find(b) {
+            Some(_) => {}
+            None => add_entry(btt, b),
         },
     }
 }
@@ -458,7 +459,7 @@ impl Control {
         self.recall_tables();
         let found = self.cell(b);
         let rule = found.store_rule();
-        let i = place_for_rule(&self.btt, b, rule);
+        let i = place_for_rule(&self.btt, b, found.i, rule);
         let cell = Cell { i, ..found };
         let put = block_to_put(rule, &cell, block, &self.geometry, &self.dram);
         write_place(

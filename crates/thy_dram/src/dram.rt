@@ -1,5 +1,5 @@
 //! The memory.
-ghost use Rattle.std.specs.Prelude.{◌≡◌, ◌<◌, ◌≤◌, length, IfOk};
+ghost use Rattle.std.specs.Prelude.{◌≡◌, ◌<◌, ◌≤◌, length, IfOk, IfSome};
 ghost use Rattle.thy_block.specs.Device.{block_at};
 ghost use Rattle.thy_dram.specs.Contents.{fresh, written, drained, lost};
 
@@ -60,6 +60,19 @@ impl Dram {
             self.ring.read(at)
         } else {
             drawn_at(&self.powers, at, self.pick)
+        }
+    }
+
+    /// The block at a place, where it stands; None if it was not written since power was lost last.
+    #[inline(always)]
+    pub fn held(&self, at: u64) -> Option<&Block>
+        requires { at < length self.now.blocks }
+        ensures { IfSome result (λ block. block.now ≡ block_at self.now.blocks at) }
+    {
+        if self.marks[at as usize] {
+            Some(self.ring.newest(at))
+        } else {
+            None
         }
     }
 

@@ -47,7 +47,7 @@ pub use move_laws::{
     landing_moves_nothing, others_hold_no_more, others_hold_no_more_on_failure,
     others_read_as_before, writes_are_read, writes_keep_sizes,
 };
-pub use moves::{read_place, write_place};
+pub use moves::{held_at, is_in_dram, read_place, write_place};
 pub use page_entry::{PttEntry, Site, WHOLE_PAGE};
 pub use place::Place;
 pub use place_laws::{

@@ -1,6 +1,7 @@
 //! The two functions that touch a device at a place.
-ghost use Rattle.std.specs.Prelude.{◌≡◌, ◌<◌, false, OnOk, OnErr, IfOk};
-ghost use Rattle.thy_block.specs.Device.{HasFailed, HasFailedToWrite, IsFramed, CountsFault};
+ghost use Rattle.std.specs.Prelude.{◌≡◌, ◌<◌, true, false, length, OnOk, OnErr, IfOk, IfSome};
+ghost use Rattle.thy_block.specs.Device.{block_at, HasFailed, HasFailedToWrite, IsFramed, CountsFault};
+ghost use Rattle.thy_block.specs.Places.{dram_blocks};
 ghost use Rattle.thy_table.specs.Places.{in_dram, number_of, IsPlace};
 ghost use Rattle.thy_table.specs.Devices.{AreSized, devices_of, read_at, written_at};
 
@@ -9,7 +10,7 @@ use thy_block::{Block, Geometry, Nvm, NvmError};
 use thy_dram::Dram;
 
 /// Whether a place is one of the DRAM.
-fn is_in_dram(place: Place) -> bool
+pub fn is_in_dram(place: Place) -> bool
     ensures { result ≡ in_dram place }
 {
     matches!(place, Place::Buffer { .. } | Place::Frame { .. })
@@ -38,6 +39,22 @@ pub fn read_place<N: Nvm>(
         Ok(dram.read(at))
     } else {
         nvm.read(at)
+    }
+}
+
+/// The block at a place of the DRAM, where it stands; None at a place of the NVM, or if the block was not written since power was
+/// lost last.
+#[inline(always)]
+pub fn held_at<'a>(place: Place, geometry: &Geometry, dram: &'a Dram) -> Option<&'a Block>
+    requires place { IsPlace geometry.now place }
+    requires sized { length dram.now.blocks ≡ dram_blocks geometry.now }
+    ensures side { IfSome result (λ block. in_dram place ≡ true) }
+    ensures block { IfSome result (λ block. block.now ≡ block_at dram.now.blocks (number_of geometry.now place)) }
+{
+    if is_in_dram(place) {
+        dram.held(number(geometry, place))
+    } else {
+        None
     }
 }
 

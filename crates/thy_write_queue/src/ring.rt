@@ -104,12 +104,22 @@ impl Ring {
         waiting_in(&self.queue, i as usize)
     }
 
+    /// The newest block queued for a place, else the image's block there, where it stands.
+    #[inline(always)]
+    pub fn newest(&self, at: u64) -> &Block
+        requires { at < length self.now.image }
+        ensures { result.now ≡ newest (device_of self.now) at }
+    {
+        newest_in(&self.queue, at, &self.image[at as usize])
+    }
+
     /// The newest block queued for a place, else the image's block there.
+    #[inline(always)]
     pub fn read(&self, at: u64) -> Block
         requires { at < length self.now.image }
         ensures { result ≡ newest (device_of self.now) at }
     {
-        *newest_in(&self.queue, at, &self.image[at as usize])
+        *self.newest(at)
     }
 
     /// Of the image's block at a place and the blocks queued for it, oldest first, the one at an index.

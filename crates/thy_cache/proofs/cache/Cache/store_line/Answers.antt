@@ -8,13 +8,13 @@ use Rattle.thy_cache.proofs.SizeLaws.{KeepsSize-stored}
 use Rattle.thy_cache.proofs.cache.Cache.store_line.Goals as goal
 
 pub store-requires-clause-inside : goal.store-requires-clause-inside
-store-requires-clause-inside g c = ((c.requires.agree.sets c.args.set).lines c.args.way c.line_at-line.result c.line_at-line.ensures).inside
+store-requires-clause-inside g c = ((c.requires.agree.sets c.args.set).lines c.args.way c.line_at-line.result.now c.line_at-line.ensures).inside
 
 pub returns-in-Done-clause-flat : goal.returns-in-Done-clause-flat
 returns-in-Done-clause-flat g c =
     let old = g.S.BlockStore.holding c.args.store.now c.args.nvm.now in
     let new = g.S.BlockStore.holding c.store.new.self c.store.new.nvm in
-    let line = c.line_at-line.result in
+    let line = c.line_at-line.result.now in
     let can : CanStore c.args.self.now old.blocks c.args.set c.args.way line = record {
       set = c.requires.set;
       stands = c.line_at-line.ensures;
@@ -28,7 +28,7 @@ pub returns-in-Done-clause-agree : goal.returns-in-Done-clause-agree
 returns-in-Done-clause-agree g c =
     let old = g.S.BlockStore.holding c.args.store.now c.args.nvm.now in
     let new = g.S.BlockStore.holding c.store.new.self c.store.new.nvm in
-    let line = c.line_at-line.result in
+    let line = c.line_at-line.result.now in
     let can : CanStore c.args.self.now old.blocks c.args.set c.args.way line = record {
       set = c.requires.set;
       stands = c.line_at-line.ensures;

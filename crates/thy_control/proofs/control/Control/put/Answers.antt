@@ -9,6 +9,8 @@ use Rattle.thy_table.specs.declared.cell.StoreRule.{StoreRule}
 use Rattle.thy_table.specs.Rules.{store_place}
 use Rattle.thy_table.specs.Devices.{Devices}
 use Rattle.thy_control.specs.Keys.{block_key, page_key}
+use Rattle.thy_control.specs.Find.{index_for}
+use Rattle.thy_table.specs.BlockEntry.{new_entry}
 use Rattle.thy_control.specs.StoredTables.{answer_of}
 use Rattle.thy_control.specs.State.{State}
 use Rattle.thy_control.specs.Rules.{rule_for, cell_before}
@@ -20,8 +22,12 @@ use Rattle.thy_control.proofs.PutLemmas.{has_free, AreSoundTables-after, IsWithi
 use Rattle.thy_control.specs.Cursors.{AreLowered}
 use Rattle.thy_control.proofs.control.Control.put.Goals as goal
 
-pub place_for_rule-i-requires : goal.place_for_rule-i-requires
-place_for_rule-i-requires g c = subst (λ (t : State). 0 < free_count t.btt) (sym c.self.view_is) c.requires.room
+pub place_for_rule-i-requires-clause-room : goal.place_for_rule-i-requires-clause-room
+place_for_rule-i-requires-clause-room g c = subst (λ (t : State). 0 < free_count t.btt) (sym c.self.view_is) c.requires.room
+
+pub place_for_rule-i-requires-clause-before : goal.place_for_rule-i-requires-clause-before
+place_for_rule-i-requires-clause-before g c =
+    ap (λ (x : Cell). x.i) c.cell-found.ensures ∙ ap (λ (t : State). index_for block_key new_entry c.args.b t.btt) (sym c.self.view_is)
 
 pub add_for_rule-requires : goal.add_for_rule-requires
 add_for_rule-requires g c =
