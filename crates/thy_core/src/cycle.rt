@@ -49,9 +49,10 @@ fn note<S>(m: &mut MachineParts<S>, taken: Result<Advance, NvmError>) -> Result<
     taken
 }
 
-/// Takes a cycle in which no instruction advances, and reports it. Few cycles are of this kind: it is never made part of
-/// the loop. Whether the machine is calm then is found out before the next cycle. Notes whether it failed.
-#[inline(never)]
+/// Takes a cycle in which no instruction advances, and reports it. Few cycles are of this kind: what calls this is never made
+/// part of the loop, but this is made part of its caller, since what a cycle did would be passed on in memory. Whether the
+/// machine is calm then is found out before the next cycle. Notes whether it failed.
+#[inline(always)]
 pub(crate) fn take_other<N: Nvm, S: Scheme>(
     m: &mut MachineParts<S>,
     actor: Actor,

@@ -9,7 +9,9 @@ use thy_block::{Geometry, Nvm, NvmError};
 use thy_dram::Dram;
 use thy_table::{Place, held_at, is_in_dram, number, read_place, write_place};
 
-/// Reads the block at one place, and writes it at another. If the read or the write failed, the DRAM is as before.
+/// Reads the block at one place, and writes it at another. A block of the DRAM that goes to the NVM is written from where it
+/// stands. If the read or the write failed, the DRAM is as before.
+#[inline(always)]
 pub(super) fn move_block<N: Nvm>(
     from: Place,
     to: Place,
