@@ -8,7 +8,9 @@ ghost use Rattle.thy_isa.specs.Table.{reserve, conditional, instr_of, rows_of};
 
 use crate::instr::{Alu, Amo, Cond, Extend, Instr, Reg, Width};
 
-/// The instruction that a word means; None exactly if it means none.
+/// The instruction that a word means; None exactly if it means none. It is made part of what calls it, which then matches the
+/// instruction where it is made.
+#[inline(always)]
 pub fn decode(word: u32) -> Option<Instr>
     ensures { result ≡ instr_of word }
 {

@@ -1,4 +1,4 @@
-//! The two functions that touch a device at a place.
+//! The functions that touch a device at a place.
 ghost use Rattle.std.specs.Prelude.{◌≡◌, ◌<◌, true, false, length, OnOk, OnErr, IfOk, IfSome};
 ghost use Rattle.thy_block.specs.Device.{block_at, HasFailed, HasFailedToWrite, IsFramed, CountsFault};
 ghost use Rattle.thy_block.specs.Places.{dram_blocks};

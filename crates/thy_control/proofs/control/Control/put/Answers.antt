@@ -6,7 +6,6 @@ use Rattle.thy_block.proofs.BasicLemmas.{OnErr-of}
 use Rattle.thy_table.specs.Listing.{IsListing, free_count}
 use Rattle.thy_table.specs.declared.cell.Cell.{Cell}
 use Rattle.thy_table.specs.declared.cell.StoreRule.{StoreRule}
-use Rattle.thy_table.specs.Rules.{store_place}
 use Rattle.thy_table.specs.Devices.{Devices}
 use Rattle.thy_control.specs.Keys.{block_key, page_key}
 use Rattle.thy_control.specs.Find.{index_for}
