@@ -3,3 +3,4 @@ pub mod RowLemmas
 pub mod SameLemmas
 pub mod KeptLemmas
 pub mod SweptLemmas
+pub mod AskedLemmas

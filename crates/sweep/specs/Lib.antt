@@ -6,3 +6,4 @@ pub mod Still
 pub mod Kept
 pub mod Concluding
 pub mod Swept
+pub mod Asking

@@ -1,5 +1,7 @@
 //! What is to be tried, as the words between OUT and the command say it.
-ghost use Rattle.std.specs.Prelude.{◌≡◌};
+ghost use Rattle.std.specs.Prelude.{◌≡◌, ◌≢◌, true, false, is_none, not, map, Some, IfErr, IfOk, IfSome, OnErr, OnOk, option_map};
+ghost use Rattle.std.specs.String.{string_bytes};
+ghost use Rattle.sweep.specs.Asking.{AreAccepted, IsAskedBy, IsAskedIn, TakesAll, TakesFlag, TakesText, compared_given, is_above_zero, is_acceptable, is_list_read, is_read, is_short, is_word_known, no_texts, number_given, option_named, picks_given, text_given, texts_of, with_flag, with_text};
 ghost use Rattle.sweep.specs.Findings.{has};
 ghost use Rattle.sweep.specs.Rows.{pick_of, picks_of};
 ghost use Rattle.sweep.specs.Sweeping.{ends_at};
@@ -70,7 +72,9 @@ struct Given {
 }
 
 /// The option that a word names.
-fn name_of(word: &str) -> Option<Name> {
+fn name_of(word: &str) -> Option<Name>
+    ensures { result ≡ option_named word.now }
+{
     if word == "--from" {
         Some(Name::From)
     } else if word == "--to" {
@@ -89,7 +93,10 @@ fn name_of(word: &str) -> Option<Name> {
 }
 
 /// Keeps an option's text, and returns whether it is the first one.
-fn keep(place: &mut Option<String>, text: String) -> bool {
+fn keep(place: &mut Option<String>, text: String) -> bool
+    ensures first { result ≡ is_none place.old }
+    ensures kept { place.new ≡ Some text }
+{
     let first = place.is_none();
     *place = Some(text);
     first
@@ -97,7 +104,9 @@ fn keep(place: &mut Option<String>, text: String) -> bool {
 
 impl Given {
     /// None of them.
-    fn none() -> Given {
+    fn none() -> Given
+        ensures { texts_of result ≡ no_texts }
+    {
         Given {
             from: None,
             to: None,
@@ -110,14 +119,20 @@ impl Given {
     }
 
     /// Keeps that blocks may be torn, and returns whether that is said for the first time.
-    fn tear(&mut self) -> bool {
+    fn tear(&mut self) -> bool
+        ensures first { result ≡ not self.old.torn }
+        ensures kept { texts_of self.new ≡ with_flag (texts_of self.old) }
+    {
         let first = !self.torn;
         self.torn = true;
         first
     }
 
     /// Keeps the text of an option, and returns whether it is the first one.
-    fn take(&mut self, name: Name, text: String) -> bool {
+    fn take(&mut self, name: Name, text: String) -> bool
+        ensures first { result ≡ is_none (text_given (texts_of self.old) name) }
+        ensures kept { texts_of self.new ≡ with_text (texts_of self.old) name (string_bytes text) }
+    {
         match name {
             Name::From => keep(&mut self.from, text),
             Name::To => keep(&mut self.to, text),
@@ -131,7 +146,10 @@ impl Given {
 
 /// Takes an option and its text out of the arguments, where it follows the program's name, and returns whether it is the first one
 /// of its name and has a text.
-fn take_text(words: &mut Vec<String>, name: Name, given: &mut Given) -> bool {
+fn take_text(words: &mut Vec<String>, name: Name, given: &mut Given) -> bool
+    ensures { result ≡ true → TakesText name (texts_of given.old) (map string_bytes words.old.items)
+        (texts_of given.new) (map string_bytes words.new.items) }
+{
     if words.len() < 3 {
         return false;
     }
@@ -141,7 +159,10 @@ fn take_text(words: &mut Vec<String>, name: Name, given: &mut Given) -> bool {
 }
 
 /// Takes the flag for torn blocks out of the arguments, where it follows the program's name, and returns whether it is the first one.
-fn take_flag(words: &mut Vec<String>, given: &mut Given) -> bool {
+fn take_flag(words: &mut Vec<String>, given: &mut Given) -> bool
+    ensures { result ≡ true → TakesFlag (texts_of given.old) (map string_bytes words.old.items)
+        (texts_of given.new) (map string_bytes words.new.items) }
+{
     if words.len() < 2 {
         return false;
     }
@@ -151,7 +172,10 @@ fn take_flag(words: &mut Vec<String>, given: &mut Given) -> bool {
 
 /// Takes the options out of the arguments, where they follow the program's name; nothing is returned if one is given twice or has
 /// no value.
-fn take_given(words: &mut Vec<String>) -> Option<Given> {
+fn take_given(words: &mut Vec<String>) -> Option<Given>
+    ensures { IfSome result (λ given.
+        TakesAll (map string_bytes words.old.items) (texts_of given) (map string_bytes words.new.items)) }
+{
     let mut given = Given::none();
     for _ in 0..OPTIONS + 1 {
         if words.len() < 2 {
@@ -170,7 +194,11 @@ fn take_given(words: &mut Vec<String>) -> Option<Given> {
 }
 
 /// The number of an option, if it is given.
-fn number_of(text: &Option<String>, name: &'static str) -> Result<Option<u64>, Unasked> {
+fn number_of(text: &Option<String>, name: &'static str) -> Result<Option<u64>, Unasked>
+    ensures number { IfOk result (λ n. n ≡ number_given (option_map string_bytes text.now)) }
+    ensures read { OnOk result (is_read (option_map string_bytes text.now) ≡ true) }
+    ensures unread { OnErr result (is_read (option_map string_bytes text.now) ≡ false) }
+{
     match text {
         None => Ok(None),
         Some(text) => match number(text.as_str()) {
@@ -181,7 +209,11 @@ fn number_of(text: &Option<String>, name: &'static str) -> Result<Option<u64>, U
 }
 
 /// An option's number, if it is above 0.
-fn above_zero(value: Option<u64>, name: &'static str) -> Result<Option<u64>, Unasked> {
+fn above_zero(value: Option<u64>, name: &'static str) -> Result<Option<u64>, Unasked>
+    ensures same { IfOk result (λ n. n ≡ value) }
+    ensures some { OnOk result (value ≢ Some 0) }
+    ensures none { OnErr result (is_above_zero value ≡ false) }
+{
     match value {
         Some(0) => Err(Unasked::Value(name, 0)),
         other => Ok(other),
@@ -189,7 +221,9 @@ fn above_zero(value: Option<u64>, name: &'static str) -> Result<Option<u64>, Una
 }
 
 /// Whether a list of picks can be read, if it is given.
-fn can_read(tears: &Option<String>) -> bool {
+fn can_read(tears: &Option<String>) -> bool
+    ensures { result ≡ is_list_read (option_map string_bytes tears.now) }
+{
     match tears {
         Some(text) => is_list(text.as_str()),
         None => true,
@@ -197,11 +231,9 @@ fn can_read(tears: &Option<String>) -> bool {
 }
 
 /// The picks that are listed, if every image is not asked for or they are given.
-fn picks_of(
-    alloc: Global,
-    tears: &Option<String>,
-    all: Option<u64>,
-) -> Result<Vec<u64>, AllocError> {
+fn picks_of(alloc: Global, tears: &Option<String>, all: Option<u64>) -> Result<Vec<u64>, AllocError>
+    ensures { IfOk result (λ v. v.items ≡ picks_given (option_map string_bytes tears.now) all) }
+{
     match tears {
         Some(text) => list_of(alloc, text.as_str()),
         None if all.is_some() => Ok(Vec::new(alloc)),
@@ -210,7 +242,11 @@ fn picks_of(
 }
 
 /// What is compared: all of a state, if nothing else is asked for.
-fn compared_of(compare: &Option<String>) -> Result<Compared, Unasked> {
+fn compared_of(compare: &Option<String>) -> Result<Compared, Unasked>
+    ensures compared { IfOk result (λ c. c ≡ compared_given (option_map string_bytes compare.now)) }
+    ensures known { OnOk result (is_word_known (option_map string_bytes compare.now) ≡ true) }
+    ensures unknown { OnErr result (is_word_known (option_map string_bytes compare.now) ≡ false) }
+{
     match compare {
         None => Ok(Compared::State),
         Some(text) if text.as_str() == "registers" => Ok(Compared::Registers),
@@ -220,7 +256,11 @@ fn compared_of(compare: &Option<String>) -> Result<Compared, Unasked> {
 
 /// What texts ask for. The first option whose text can't be read is refused, then the first whose value is out of range, in the
 /// order from, to, step, tears, all, compare.
-fn asked_by(alloc: Global, given: &Given) -> Result<Asked, Unasked> {
+fn asked_by(alloc: Global, given: &Given) -> Result<Asked, Unasked>
+    ensures asked { IfOk result (IsAskedBy (texts_of given.now)) }
+    ensures accepted { IfOk result (AreAccepted (texts_of given.now)) }
+    ensures refused { IfErr result (λ e. is_short e ≡ false → is_acceptable (texts_of given.now) ≡ false) }
+{
     let from = number_of(&given.from, "from")?;
     let to = number_of(&given.to, "to")?;
     let step = number_of(&given.step, "step")?;
@@ -259,7 +299,9 @@ fn asked_by(alloc: Global, given: &Given) -> Result<Asked, Unasked> {
 ///
 /// # Errors
 /// `Usage` if an option is given twice or has no value, or every image of torn blocks is asked for; `Word` or `Value` for the first one at fault; `Memory` if memory runs out.
-pub fn take_asked(alloc: Global, words: &mut Vec<String>) -> Result<Asked, Unasked> {
+pub fn take_asked(alloc: Global, words: &mut Vec<String>) -> Result<Asked, Unasked>
+    ensures { IfOk result (λ asked. IsAskedIn (map string_bytes words.old.items) asked (map string_bytes words.new.items)) }
+{
     match take_given(words) {
         Some(given) => asked_by(alloc, &given),
         None => Err(Unasked::Usage),

@@ -55,6 +55,8 @@ pub record IsLeftAs (gap : ℕ) (handed seen : Device) : Type 0 where
   pub faults : seen.faults ≡ handed.faults
   pub fits : seen.fits ≡ handed.fits
   pub whole : seen.whole ≡ handed.whole
+  -- what barriers wrote of their own is counted too
+  pub writes : seen.writes ≡ handed.writes
   -- with a gap over a device whose barriers make no write of their own
   pub moved : gap ≢ 0 → handed.wear ≡ Plain → HasMoved gap handed seen
 

@@ -1,7 +1,7 @@
 -- What a load and a store leave, seen as a store of blocks.
 use Rattle.std.proofs.Common.{◌≡◌, ◌≢◌, ℕ, ◌+◌, ◌<◌, ◌≤◌, ◌==◌, ◌&&◌, Bool, true, false, not, if◌then◌else◌, length, get_or, slice_set, map, refl, sym, ◌∙◌, ap, subst, inl, inr, arith, Option, Some, None, Result, Ok, Err, IfOk, OnOk, OnErr}
 use Rattle.std.specs.List.{range_with_len}
-use Rattle.std.proofs.lemmas.Bool.{cases_eq, and_parts, eqb-true, not-true}
+use Rattle.std.proofs.lemmas.Bool.{cases_eq, and_parts, eqb-true, not-true, false≢true}
 use Rattle.std.proofs.lemmas.List.{length-set, get_or-set_same, get_or-set_other}
 use Rattle.std.proofs.lemmas.List.FromFn.{length-map-range_with_len, get_or-map-range_with_len, fill_by_all}
 use Rattle.thy_block.specs.declared.block.Block.{Block}
@@ -28,6 +28,7 @@ use Rattle.thy_control.specs.Keys.{page_key}
 use Rattle.thy_control.specs.StoredTables.{btt_with, btt_after, answer_of}
 use Rattle.thy_control.specs.State.{State, AreSoundTables, IsSized, cell_of, work_of, reads}
 use Rattle.thy_control.specs.Rules.{with_block, rule_for, cell_before, devices_after, state_after, IsWholeState, StoresFree, FailsStore, with_cell}
+use Rattle.thy_control.specs.Accesses.{LeavesAll, MakesStore}
 use Rattle.thy_control.specs.Versions.{PutsWork}
 use Rattle.thy_control.specs.Stays.{Stays}
 use Rattle.thy_control.specs.Holding.{works, is_promoted, waiting, promoted, holding_of}
@@ -304,3 +305,15 @@ once_loaded s m n (Err x) same failed framed stays = record {
   stays = stays;
   work = λ j h. work_same (cell_of s j);
 }
+
+-- a load leaves the controller, and the NVM if it is up afterwards
+pub left_by_load : (s : State) (m n : Device) (r : Result Block NvmError) → OnOk r (n ≡ m) → OnErr r (HasFailed m n) → LeavesAll s m s n
+left_by_load s m n (Ok x) same failed = record { control = refl; nvm = λ up. same }
+left_by_load s m n (Err x) same failed = record { control = refl; nvm = λ up. absurd (false≢true (sym up ∙ failed.down)) }
+
+-- a store that succeeded made what its rule says
+pub made_by_store : (b : ℕ) (block : Block) (s : State) (m : Device) (t : State) (n : Device) (r : Result Stored NvmError)
+    → OnOk r (t ≡ state_after b block s m) → OnOk r (n ≡ (devices_after b block s m).nvm)
+    → IfOk r (λ stored. stored ≡ answer_of (rule_for b s)) → IfOk r (λ stored. MakesStore b block stored s m t n)
+made_by_store b block s m t n (Ok x) tables nvm answers = record { answer = answers; control = tables; nvm = nvm }
+made_by_store b block s m t n (Err x) tables nvm answers = tt

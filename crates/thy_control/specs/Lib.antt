@@ -3,6 +3,7 @@ pub mod Keys
 pub mod StoredTables
 pub mod State
 pub mod Rules
+pub mod Accesses
 pub mod Versions
 pub mod Holding
 pub mod CheckpointTables

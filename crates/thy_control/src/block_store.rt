@@ -6,7 +6,7 @@ use thy_block::{Block, BlockStore, Nvm, NvmError, Stored};
 /// while no page is being promoted and the NVM is up, and has room for one store for each free entry of the block
 /// table. A copy is owed for each buffer that has still to be copied.
 impl<N: Nvm> BlockStore<N> for Control {
-    ghost use Rattle.std.specs.Prelude.{◌≡◌};
+    ghost use Rattle.thy_control.specs.Accesses.{LeavesAll, MakesStore};
     ghost use Rattle.thy_control.specs.Holding.{holding_of};
     ghost use Rattle.thy_control.specs.Once.{Once};
     ghost use Rattle.thy_control.specs.Stays.{Stays};
@@ -16,9 +16,9 @@ impl<N: Nvm> BlockStore<N> for Control {
 
     ghost once = { λ a m b n. Once a (N.device m) b (N.device n) };
 
-    ghost loads = { λ a m b n. b ≡ a };
+    ghost loads = { λ a m b n. LeavesAll a (N.device m) b (N.device n) };
 
-    ghost stores = { λ b block stored a m c n. Unit {0} };
+    ghost stores = { λ b block stored a m c n. MakesStore b block stored a (N.device m) c (N.device n) };
 
     ghost stays = { λ a m b n. Stays a (N.device m) b (N.device n) };
 

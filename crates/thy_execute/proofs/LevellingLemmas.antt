@@ -75,6 +75,7 @@ IsLeftAs-direct gap n none = record {
   faults = refl;
   fits = refl;
   whole = refl;
+  writes = refl;
   moved = λ some plain. absurd (some none);
 }
 
@@ -122,6 +123,7 @@ IsLeftAs-levelled gap every since moves name r n some lines image crash left mov
       faults = refl;
       fits = refl;
       whole = refl;
+      writes = refl;
       moved = λ more plain. record {
         since = since;
         moves = moves;

@@ -1,5 +1,5 @@
 -- The image that a pick leaves is one that a cut may leave.
-use Rattle.std.proofs.Common.{◌≡◌, ◌≢◌, ℕ, ◌+◌, ◌-◌, ◌*◌, ◌%◌, ◌<◌, ◌≤◌, ◌==◌, if◌then◌else◌, zero, suc, true, false, List, [], ◌∷◌, ◌++◌, length, take, drop, slice_index_or, slice_set, Contains, refl, sym, ◌∙◌, ap, subst, inl, inr, arith}
+use Rattle.std.proofs.Common.{◌≡◌, ◌≢◌, ℕ, ◌+◌, ◌-◌, ◌*◌, ◌%◌, ◌<◌, ◌≤◌, zero, suc, false, List, [], ◌∷◌, ◌++◌, length, take, drop, slice_index_or, slice_set, Contains, refl, sym, ◌∙◌, ap, subst, inl, inr, arith}
 use Rattle.std.proofs.Math.Seq.{take-add}
 use Rattle.std.proofs.lemmas.Bool.{cases_lt, cases_eq, false≢true}
 use Rattle.std.proofs.lemmas.List.{append_assoc, length-drop, length-take-le, set-get_or, take_at, take_more_set, drop_at, drop-drop, drop-set-lt, at_drop_more, get_or_past}
@@ -104,12 +104,12 @@ length-word : (b : Block) (k : ℕ) → length b.0 ≡ 64 → k < 8 → length (
 length-word b k long l = length-take-le 8 (drop (8 * k) b.0) (omega (arith, length-drop (8 * k) b.0, long, l))
 
 module _ (block from : Block) (k : ℕ) (long : length block.0 ≡ 64) (long_from : length from.0 ≡ 64) (l : k < 8) where
-  word-put : word_bytes (with_word k from block) k ≡ word_bytes from k
+  pub word-put : word_bytes (with_word k from block) k ≡ word_bytes from k
   word-put =
       ap (λ (b : Block). word_bytes b k) (overwritten-long (8 * k) (word_bytes from k) block long)
       ∙ word_here block.0 (word_bytes from k) k long (length-word from k long_from l) l
 
-  other_word-put : (i : ℕ) → i ≢ k → word_bytes (with_word k from block) i ≡ word_bytes block i
+  pub other_word-put : (i : ℕ) → i ≢ k → word_bytes (with_word k from block) i ≡ word_bytes block i
   other_word-put i ne =
       ap (λ (b : Block). word_bytes b i) (overwritten-long (8 * k) (word_bytes from k) block long)
       ∙ (elim (cases_lt i k) as (λ _. take 8 (drop (8 * i) (written block.0 (8 * k) (word_bytes from k))) ≡ take 8 (drop (8 * i) block.0)) [

@@ -11,7 +11,7 @@ pub record Calls : Type 0 where
   pub made : ℕ
   -- the numbers of the calls that fail and do nothing
   pub failing : List ℕ
-  -- the numbers of the calls that fail and do nothing
+  -- the numbers of the calls that fail late
   pub late : List ℕ
 
 abbrev pub calls_in : ℕ → List ℕ → List ℕ → Calls

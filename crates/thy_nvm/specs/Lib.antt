@@ -1,6 +1,6 @@
 pub mod Calls
 pub mod Kept
-pub mod Chosen
 pub mod DeviceInMemory
+pub mod Chosen
 pub mod Pick
 pub mod Overlaid

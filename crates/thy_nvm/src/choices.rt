@@ -1,11 +1,12 @@
 //! What a cut leaves that is given its choices.
-ghost use Rattle.std.specs.Prelude.{◌≡◌, ◌<◌, ◌^◌, [], false, length, Contains};
+ghost use Rattle.std.specs.Prelude.{◌≡◌, ◌*◌, ◌<◌, ◌^◌, [], false, length, drop, Contains};
 ghost use Rattle.thy_block.specs.Device.{possible, queued_for, IsMadeOf, Crash};
 ghost use Rattle.thy_write_queue.specs.Held.{device_of};
-ghost use Rattle.thy_nvm.specs.Chosen.{IsChosenAt};
+ghost use Rattle.thy_nvm.specs.Chosen.{number_at, one_if_any, chosen_at, numbers_from, HasChosenWords, IsChosenAt, AreChosen};
 ghost use Rattle.thy_nvm.specs.Pick.{landing};
 
 use crate::pick::replace_word;
+use std::marker::Model;
 use thy_block::Block;
 use thy_write_queue::Ring;
 
@@ -18,20 +19,34 @@ pub struct Choices {
     taken: usize,
 }
 
+impl Model for Choices {
+    ghost use Rattle.std.specs.Prelude.{ℕ, List, drop};
+
+    ghost Value = { List ℕ };
+
+    ghost view = { λ c. drop c.taken c.numbers.items };
+}
+
 impl Choices {
     /// Choices by these numbers.
-    pub fn new(numbers: Vec<u8>) -> Choices {
+    pub fn new(numbers: Vec<u8>) -> Choices
+        ensures { result ≡ numbers.items }
+    {
         Choices { numbers, taken: 0 }
     }
 
     /// The next number.
-    fn next(&mut self) -> u64 {
-        let number = match self.numbers.as_slice().get(self.taken) {
-            Some(number) => u64::from(*number),
-            None => 0,
-        };
-        self.taken = self.taken.saturating_add(1);
-        number
+    fn next(&mut self) -> u64
+        ensures number { result ≡ number_at self.old 0 }
+        ensures taken { self.new ≡ drop 1 self.old }
+    {
+        if self.taken < self.numbers.len() {
+            let number = self.numbers[self.taken];
+            self.taken += 1;
+            u64::from(number)
+        } else {
+            0
+        }
     }
 }
 
@@ -41,7 +56,9 @@ fn choose_block(ring: &Ring, at: u64, count: u64, choices: &mut Choices) -> Bloc
     requires place { at < length ring.now.image }
     requires count { count ≡ length (queued_for ring.now.queue at) }
     requires small { count < 2 ^ 63 }
-    ensures { Contains (possible (device_of ring.now) at) result }
+    ensures block { result ≡ chosen_at ring.now at (number_at choices.old 0) }
+    ensures taken { choices.new ≡ drop 1 choices.old }
+    ensures one_of { Contains (possible (device_of ring.now) at) result }
 {
     let index = choices.next() % (count + 1);
     ring.choice(at, index)
@@ -52,7 +69,9 @@ fn choose_words(ring: &Ring, at: u64, count: u64, choices: &mut Choices) -> Bloc
     requires place { at < length ring.now.image }
     requires count { count ≡ length (queued_for ring.now.queue at) }
     requires small { count < 2 ^ 63 }
-    ensures { IsMadeOf (possible (device_of ring.now) at) result }
+    ensures words { HasChosenWords choices.old ring.now at result }
+    ensures taken { choices.new ≡ drop 8 choices.old }
+    ensures made { IsMadeOf (possible (device_of ring.now) at) result }
 {
     let mut chosen = ring.choice(at, 0);
     for k in 0..8usize {
@@ -65,7 +84,8 @@ fn choose_words(ring: &Ring, at: u64, count: u64, choices: &mut Choices) -> Bloc
 /// Sets one place to what is chosen for it, if a write is queued for it.
 fn choose_place(ring: &mut Ring, at: u64, choices: &mut Choices)
     requires { at < length ring.old.image }
-    ensures { IsChosenAt ring.old ring.new at }
+    ensures ring { IsChosenAt choices.old ring.old ring.new at }
+    ensures taken { choices.new ≡ drop (8 * one_if_any (queued_for ring.old.queue at)) choices.old }
 {
     let count = ring.queued_at(at);
     if count > 0 {
@@ -76,6 +96,8 @@ fn choose_place(ring: &mut Ring, at: u64, choices: &mut Choices)
 
 /// Sets each place with queued writes to what is chosen for it, by rising number. The queue stays.
 fn choose_places(ring: &mut Ring, choices: &mut Choices)
+    ensures words { AreChosen choices.old ring.old ring.new.image }
+    ensures taken { choices.new ≡ numbers_from choices.old ring.old.queue (length ring.old.image) }
     ensures left { Crash (landing false ring.old) ring.new.image }
     ensures room { ring.new.room ≡ ring.old.room }
 {
@@ -86,6 +108,8 @@ fn choose_places(ring: &mut Ring, choices: &mut Choices)
 
 /// Leaves the image that is chosen, with nothing queued.
 pub(crate) fn leave_chosen(ring: &mut Ring, choices: &mut Choices)
+    ensures words { AreChosen choices.old ring.old ring.new.image }
+    ensures taken { choices.new ≡ numbers_from choices.old ring.old.queue (length ring.old.image) }
     ensures left { Crash (landing false ring.old) ring.new.image }
     ensures queue { ring.new.queue ≡ [] }
     ensures room { ring.new.room ≡ ring.old.room }

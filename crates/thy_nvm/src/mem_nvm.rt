@@ -3,6 +3,7 @@ ghost use Rattle.std.specs.Prelude.{◌≡◌, ◌+◌, ◌<◌, ◌≤◌, ◌^
 ghost use Rattle.thy_block.specs.declared.nvm.Write.{Write as Written};
 ghost use Rattle.thy_block.specs.Counts.{Rose};
 ghost use Rattle.thy_block.specs.Device.{Device, newest, block_at, written_to, drained, at_rest, fitted, IsCut, IsSettled, IsFramed, HasFailed, HasFailedToSettle, HasFailedToWrite, HasFailedToFit, CountsFault};
+ghost use Rattle.thy_nvm.specs.Chosen.{AreChosen, numbers_from};
 ghost use Rattle.thy_nvm.specs.DeviceInMemory.{InMemory, fresh_device, with_device, on_device, IsFit, IsFresh, written, with_write, half_settled, failed, left_after, IsCall};
 ghost use Rattle.thy_nvm.specs.Pick.{cut_by};
 ghost use Rattle.thy_write_queue.specs.Held.{as_device, held_by};
@@ -136,7 +137,10 @@ impl MemNvm {
     pub(crate) fn cut_as_chosen(&mut self, pick: u64, choices: &mut Choices)
         requires room { length self.old.device.left < self.old.device.left_room }
         requires torn { self.old.device.whole ≡ false }
-        ensures { IsCut pick self.old.device self.new.device }
+        ensures cut { IsCut pick self.old.device self.new.device }
+        ensures words { AreChosen choices.old (held_by self.old.device) self.new.device.image }
+        ensures taken { choices.new ≡ numbers_from choices.old self.old.device.queue (length self.old.device.image) }
+        ensures calls { self.new.calls ≡ self.old.calls }
     {
         leave_chosen(&mut self.ring, choices);
         self.kept.keep(self.ring.image(), pick);

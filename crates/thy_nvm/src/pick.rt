@@ -1,7 +1,7 @@
 //! What the pick of a cut leaves.
-ghost use Rattle.std.specs.Prelude.{◌≡◌, ◌<◌, ◌^◌, ℕ, List, length, Contains};
+ghost use Rattle.std.specs.Prelude.{◌≡◌, ◌≢◌, ◌<◌, ◌^◌, ℕ, List, length, Contains};
 ghost use Rattle.thy_block.specs.declared.block.Block.{Block as BlockOf};
-ghost use Rattle.thy_block.specs.Device.{possible, queued_for, block_at, IsMadeOf, Crash};
+ghost use Rattle.thy_block.specs.Device.{possible, queued_for, block_at, word_bytes, IsMadeOf, Crash};
 ghost use Rattle.thy_block.specs.Lcg.{lcg_next};
 ghost use Rattle.thy_write_queue.specs.Held.{device_of};
 ghost use Rattle.thy_nvm.specs.Pick.{drawn_block, drawn_seed, drawn, drawn_at, with_word, torn_block, torn_seed, torn, torn_at, left_by_draws, picked, left_by, landing};
@@ -70,6 +70,8 @@ fn bytes_of(block: &Block) -> usize
 pub(crate) fn replace_word(block: &Block, k: usize, from: &Block) -> Block
     requires { k < 8 }
     ensures word { result ≡ with_word k from.now block.now }
+    ensures there { word_bytes result k ≡ word_bytes from.now k }
+    ensures others { (i : ℕ) → i ≢ k → word_bytes result i ≡ word_bytes block.now i }
     ensures made { (blocks : List BlockOf) → Contains blocks from.now → IsMadeOf blocks block.now → IsMadeOf blocks result }
 {
     // In the logic a block is a list of any length: these two have 64 bytes because they are at hand.

@@ -1,7 +1,9 @@
 //! The files of the system, and how a put stores bytes under a name. If it can, it makes a new file beside the name
 //! and then renames that over it, so that the name has its old bytes or all of the new ones at each moment.
-ghost use Rattle.std.specs.Prelude.{◌≡◌, ◌≢◌, IfOk, OnOk, OnErr, true};
+ghost use Rattle.std.specs.Prelude.{◌≡◌, ◌≢◌, ◌++◌, codes, length, IfOk, OnOk, OnErr, true};
 ghost use Rattle.std.specs.IoError.{error_kind};
+ghost use Rattle.thy_block.specs.Outside.{Took};
+ghost use Rattle.thy_out.specs.Written.{stream_of};
 ghost use Rattle.thy_out.specs.Replacing.{one_done, one_failed, counted, refuses, ended_by, CountsAs};
 
 use crate::side::Side;
@@ -84,9 +86,10 @@ impl<R: Files> Disk<R> {
         fs::open(&self.rt, name)
     }
 
-    /// Counts a put that was done by this file, since none of its calls has failed.
-    fn succeed(&mut self, file: &Target<R::File>)
+    /// Counts a put of bytes that was done by this file: it took bytes of this length, and none of its calls has failed.
+    fn succeed(&mut self, file: &Target<R::File>, bytes: &[u8])
         requires clean { file.now.failures ≡ 0 }
+        requires whole { file.now.count ≡ length bytes.now }
         ensures { self.new ≡ one_done self.old }
     {
         self.puts = self.puts.saturating_add(1);
@@ -188,15 +191,18 @@ impl<R: Files> Disk<R> {
         Replaced::Failed
     }
 
-    /// Renames a file over the name. It has to be synced, so that no crash leaves the name with a part of it.
-    fn rename(&mut self, file: &Target<R::File>, side: &Side, name: &str) -> Replaced
+    /// Renames the file beside a name over it. It has to have all of the bytes and to be synced, so that no crash leaves the
+    /// name with a part of them.
+    fn rename(&mut self, file: &Target<R::File>, side: &Side, name: &str, bytes: &[u8]) -> Replaced
+        requires beside { side.now.path.bytes ≡ name.now ++ codes ".thynvm-new" }
+        requires whole { file.now.count ≡ length bytes.now }
         requires synced { file.now.synced ≡ true }
         requires clean { file.now.failures ≡ 0 }
         ensures { CountsAs self.old self.new result }
     {
         match fs::rename(&self.rt, side.as_str(), name) {
             Ok(()) => {
-                self.succeed(file);
+                self.succeed(file, bytes);
                 Replaced::Done
             }
             Err(error) => self.not_done(&error),
@@ -206,6 +212,9 @@ impl<R: Files> Disk<R> {
     /// Writes bytes to a new file and syncs it. If that fails, the put has failed, and is counted.
     fn fill(&mut self, file: &mut Target<R::File>, bytes: &[u8]) -> Result<(), SinkError>
         requires clean { file.old.failures ≡ 0 }
+        requires fresh { file.old.count ≡ 0 }
+        ensures took { OnOk result (Took (stream_of file.old) (stream_of file.new) bytes.now) }
+        ensures whole { OnOk result (file.new.count ≡ length bytes.now) }
         ensures ok { OnOk result (self.new ≡ self.old) }
         ensures synced { OnOk result (file.new.synced ≡ true) }
         ensures clean { OnOk result (file.new.failures ≡ 0) }
@@ -222,11 +231,12 @@ impl<R: Files> Disk<R> {
 
     /// Writes bytes to a new file and has it take the place of the name.
     fn take_place(&mut self, file: R::File, side: &Side, name: &str, bytes: &[u8]) -> Replaced
+        requires { side.now.path.bytes ≡ name.now ++ codes ".thynvm-new" }
         ensures { CountsAs self.old self.new result }
     {
         let mut file = Target::over(file);
         match self.fill(&mut file, bytes) {
-            Ok(()) => self.rename(&file, side, name),
+            Ok(()) => self.rename(&file, side, name, bytes),
             Err(_) => Replaced::Failed,
         }
     }
@@ -264,6 +274,7 @@ impl<R: Files> Disk<R> {
     /// Opens the file of this name for writing, and empties it.
     fn create(&mut self, name: &str) -> Result<Target<R::File>, SinkError>
         ensures clean { IfOk result (λ file. file.failures ≡ 0) }
+        ensures fresh { IfOk result (λ file. file.count ≡ 0) }
         ensures ok { OnOk result (self.new ≡ self.old) }
         ensures err { OnErr result (self.new ≡ one_failed self.old) }
     {
@@ -283,7 +294,7 @@ impl<R: Files> Disk<R> {
         let mut file = self.create(name)?;
         match file.write(bytes) {
             Ok(()) => {
-                self.succeed(&file);
+                self.succeed(&file, bytes);
                 Ok(())
             }
             Err(error) => {
@@ -294,9 +305,9 @@ impl<R: Files> Disk<R> {
     }
 
     /// Makes the name hold these bytes: by a new file, or, if the system does not let one take its place, by writing over
-    /// what is there. By the contracts of its parts a file is renamed over the name only if a sync of it had succeeded
-    /// after the last write and none of its calls failed. A put succeeds exactly if one was counted as done; otherwise
-    /// one was counted as failed.
+    /// what is there. By the contracts of its parts a file is renamed over the name only if it took bytes of this length, a
+    /// sync of it had succeeded after the last write, and none of its calls failed. A put succeeds exactly if one was
+    /// counted as done; otherwise one was counted as failed.
     pub fn put(&mut self, name: &str, bytes: &[u8]) -> Result<(), SinkError>
         ensures { self.new ≡ counted self.old result }
     {

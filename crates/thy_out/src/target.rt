@@ -4,7 +4,7 @@ ghost use Rattle.std.specs.Io.KnownBytes.{Keeps, WriteAppends};
 ghost use Rattle.std.specs.IoError.{error_kind};
 ghost use Rattle.thy_block.specs.Device.{CountsOneFault};
 ghost use Rattle.thy_block.specs.Outside.{Took, TookPart};
-ghost use Rattle.thy_out.specs.Written.{stream_of, untouched, failures_after};
+ghost use Rattle.thy_out.specs.Written.{stream_of, untouched, failures_after, count_with};
 
 use std::fs::OpenFile;
 use std::io;
@@ -12,14 +12,16 @@ use std::io::{Error, ErrorKind, Write};
 use std::marker::Model;
 use thy_block::SinkError;
 
-/// A writer; whether it was flushed, and whether it was synced, after all that it took; and how many of its calls failed.
-/// Only a call that fails raises the count.
+/// A writer; whether it was flushed, and whether it was synced, after all that it took; how many of its calls failed;
+/// and how many bytes the pieces have that it took whole. Only a call that fails raises the count of failures.
 #[derive(Drop)]
 pub struct Target<W: Write> {
     to: W,
     flushed: bool,
     synced: bool,
     failures: u64,
+    // Saturates.
+    count: u64,
 }
 
 impl<W: Write> Model for Target<W> {
@@ -27,7 +29,7 @@ impl<W: Write> Model for Target<W> {
 
     ghost Value = { Written };
 
-    ghost view = { λ s. record { taken = W.contents s.to; flushed = s.flushed; synced = s.synced; failures = s.failures } };
+    ghost view = { λ s. record { taken = W.contents s.to; flushed = s.flushed; synced = s.synced; failures = s.failures; count = s.count } };
 }
 
 /// Writes some bytes of a piece that has any, and again after a write that was interrupted. A writer that takes none
@@ -62,6 +64,7 @@ impl<W: Write> Target<W> {
             flushed: false,
             synced: false,
             failures: 0,
+            count: 0,
         }
     }
 
@@ -92,6 +95,7 @@ impl<W: Write> Target<W> {
         ensures after { self.new.failures ≡ failures_after self.old.failures result }
         ensures unflushed { self.new.flushed ≡ false }
         ensures unsynced { self.new.synced ≡ false }
+        ensures counted { OnOk result (self.new.count ≡ count_with self.old.count (length piece.now)) }
     {
         self.flushed = false;
         self.synced = false;
@@ -102,6 +106,7 @@ impl<W: Write> Target<W> {
                 Err(error) => return Err(error),
             }
         }
+        self.count = self.count.saturating_add(piece.len() as u64);
         Ok(())
     }
 
@@ -132,6 +137,7 @@ impl<F: Write + OpenFile> Target<F> {
         ensures taken { self.new.taken ≡ self.old.taken }
         ensures synced { self.new.synced ≡ is_ok result }
         ensures count { CountsOneFault result self.old.failures self.new.failures }
+        ensures counted { self.new.count ≡ self.old.count }
     {
         match self.to.sync_all() {
             Ok(()) => {
@@ -151,6 +157,7 @@ impl<F: Write + OpenFile> Target<F> {
         ensures whole { OnOk result (Took (stream_of self.old) (stream_of self.new) piece.now) }
         ensures failed { OnErr result (TookPart (stream_of self.old) (stream_of self.new) piece.now) }
         ensures synced { self.new.synced ≡ is_ok result }
+        ensures counted { OnOk result (self.new.count ≡ count_with self.old.count (length piece.now)) }
     {
         self.write(piece)?;
         self.sync()

@@ -2,7 +2,7 @@ use Rattle.std.proofs.Common.{◌≡◌, false, ◌∙◌, ap}
 use Rattle.std.proofs.lemmas.Result.{on_ok_weaker, on_err_weaker}
 use Rattle.thy_block.specs.Device.{Device, HasFailed}
 use Rattle.thy_block.proofs.DeviceLemmas.{counts_once}
-use Rattle.thy_control.proofs.StoreLemmas.{once_loaded}
+use Rattle.thy_control.proofs.StoreLemmas.{once_loaded, left_by_load}
 use Rattle.thy_control.proofs.block_store.ControlBlockStore.load.Goals as goal
 
 pub load-requires-clause-block : goal.load-requires-clause-block
@@ -27,3 +27,8 @@ returns-clause-cause g c =
     counts_once c.load.result m n up
     (on_ok_weaker c.load.result (λ (same : n ≡ m). ap (λ (d : Device). d.down) same ∙ up) c.load.ensures.same)
     (on_err_weaker c.load.result (λ (failed : HasFailed m n). failed.down) c.load.ensures.err)
+
+pub returns-clause-loads : goal.returns-clause-loads
+returns-clause-loads g c =
+    left_by_load c.args.self.now (g.N.Nvm.device c.args.nvm.now) (g.N.Nvm.device c.load.new.nvm) c.load.result
+    c.load.ensures.same c.load.ensures.err

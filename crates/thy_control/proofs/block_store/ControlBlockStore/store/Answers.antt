@@ -4,7 +4,7 @@ use Rattle.thy_block.specs.Device.{Device}
 use Rattle.thy_block.proofs.DeviceLemmas.{counts_once}
 use Rattle.thy_control.specs.Rules.{FailsStore}
 use Rattle.thy_control.specs.State.{State}
-use Rattle.thy_control.proofs.StoreLemmas.{ready-whole, stored_by, up-stored, once_stored}
+use Rattle.thy_control.proofs.StoreLemmas.{ready-whole, stored_by, up-stored, once_stored, made_by_store}
 use Rattle.thy_control.proofs.block_store.ControlBlockStore.store.Goals as goal
 
 pub store-requires-clause-block : goal.store-requires-clause-block
@@ -46,3 +46,8 @@ returns-clause-cause g c =
     counts_once c.store.result m n up
     (up-stored c.args.b c.args.block.now s m n c.store.result c.requires.room up c.store.ensures.nvm)
     (on_err_weaker c.store.result (λ (failed : FailsStore c.args.b c.args.block.now s m n). failed.failed.down) c.store.ensures.err)
+
+pub returns-clause-made : goal.returns-clause-made
+returns-clause-made g c =
+    made_by_store c.args.b c.args.block.now c.args.self.now (g.N.Nvm.device c.args.nvm.now) c.store.new.self
+    (g.N.Nvm.device c.store.new.nvm) c.store.result c.store.ensures.state c.store.ensures.nvm c.store.ensures.answer

@@ -2,7 +2,8 @@ use Rattle.std.proofs.Common.{◌≡◌, ℕ, List, [], false, length, sym, ap, 
 use Rattle.thy_block.specs.declared.nvm.Write.{Write}
 use Rattle.thy_block.specs.Device.{Device, Crash, IsCut, cut_to}
 use Rattle.thy_block.proofs.CrashLemmas.{CutsWear-same}
-use Rattle.thy_write_queue.specs.Held.{Held}
+use Rattle.thy_write_queue.specs.Held.{Held, held_by}
+use Rattle.thy_nvm.specs.Chosen.{AreChosen, numbers_from}
 use Rattle.thy_nvm.specs.Kept.{Cuts, with_cut}
 use Rattle.thy_nvm.specs.DeviceInMemory.{InMemory, device_in}
 use Rattle.thy_nvm.specs.Pick.{landing}
@@ -14,8 +15,8 @@ keep-requires-clause-size c = ap length c.image.ensures ∙ c.leave_chosen.ensur
 pub invariant_of-self : goal.invariant_of-self
 invariant_of-self c = ap (λ cuts. cuts.size) c.keep.ensures ∙ c.self.invariant ∙ sym c.leave_chosen.ensures.left.same_length
 
-pub returns : goal.returns
-returns c =
+pub returns-clause-cut : goal.returns-clause-cut
+returns-clause-cut c =
     let s = c.self.inside in
     let pick = c.args.pick in
     let new : Held = c.leave_chosen.new.ring in
@@ -33,3 +34,16 @@ returns c =
     (c.keep.ensures ∙ ap (with_cut s.kept pick) c.image.ensures) in
     subst (λ (d : Device). IsCut pick d (device_in new c.keep.new.self false s.faults s.fits s.whole s.writes)) same
     (record { crash = left; wear = CutsWear-same n.down n.wear; device = is })
+
+pub returns-clause-words : goal.returns-clause-words
+returns-clause-words c =
+    subst (λ (d : Device). AreChosen c.args.choices.now (held_by d) c.leave_chosen.new.ring.image) (ap (λ (m : InMemory). m.device) c.self.view_is)
+    c.leave_chosen.ensures.words
+
+pub returns-clause-taken : goal.returns-clause-taken
+returns-clause-taken c =
+    subst (λ (d : Device). c.leave_chosen.new.choices ≡ numbers_from c.args.choices.now d.queue (length d.image))
+    (ap (λ (m : InMemory). m.device) c.self.view_is) c.leave_chosen.ensures.taken
+
+pub returns-clause-calls : goal.returns-clause-calls
+returns-clause-calls c = ap (λ (m : InMemory). m.calls) c.self.view_is

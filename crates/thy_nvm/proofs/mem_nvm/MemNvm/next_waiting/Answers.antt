@@ -1,6 +1,5 @@
-use Rattle.std.proofs.Common.{◌<◌, length, ap, arith}
+use Rattle.std.proofs.Common.{arith}
 use Rattle.std.proofs.lemmas.Option.{IfSome_then}
-use Rattle.thy_write_queue.specs.Held.{Held}
 use Rattle.thy_nvm.proofs.mem_nvm.MemNvm.next_waiting.Goals as goal
 
 pub returns-clause-small : goal.returns-clause-small

@@ -11,6 +11,7 @@ loop-done-preserved g c = record {
   calm = c.in-Ok.ensures.after ∙ c.loop-done.invariant.calm;
   unflushed = ap (λ (t : Written). t.flushed) c.in-Ok.ensures.flags ∙ c.loop-done.invariant.unflushed;
   unsynced = ap (λ (t : Written). t.synced) c.in-Ok.ensures.flags ∙ c.loop-done.invariant.unsynced;
+  counted = ap (λ (t : Written). t.count) c.in-Ok.ensures.flags ∙ c.loop-done.invariant.counted;
 }
 
 pub returns-in-Err-clause-failed : goal.returns-in-Err-clause-failed

@@ -9,6 +9,7 @@ invariant-loop-done g l = record {
   calm : l.self.failures ≡ l.initial.self.failures;
   unflushed : l.self.flushed ≡ false;
   unsynced : l.self.synced ≡ false;
+  counted : l.self.count ≡ l.initial.self.count;
 }
 
 abbrev pub decreases-loop-done : goal.decreases-loop-done
