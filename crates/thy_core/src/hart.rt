@@ -55,8 +55,8 @@ fn is_single<S>(m: &MachineParts<S>) -> bool
 }
 
 /// Takes cycles in a row, the first of them this pick's: steps of its hart's next instruction, as far as they bring no line.
-/// Whatever the later picks are, each comes to the same hart. A machine stays marked as calm until the epoch is over. The row of
-/// a hart that is alone is made part of the loop over cycles, and its number is a constant there.
+/// Whatever the later picks are, each comes to the same hart. A machine stays marked as calm until the epoch is over. The row is
+/// made part of the loop over cycles: once for a hart that is alone, whose number is a constant there, and once for one of two.
 #[inline(always)]
 pub(crate) fn execute_row<N: Nvm, S: Scheme>(
     m: &mut MachineParts<S>,
@@ -81,8 +81,8 @@ pub(crate) fn execute_row<N: Nvm, S: Scheme>(
     }
 }
 
-/// Takes cycles in a row, as `execute_row` does, of one hart of several. It is called.
-#[inline(never)]
+/// Takes cycles in a row, as `execute_row` does, of one hart of several.
+#[inline(always)]
 fn row_among<N: Nvm, S: Scheme>(m: &mut MachineParts<S>, pick: Pick, start: &Start, nvm: &N) -> Row
     requires turn { CanTake S.scheme (HasStart start.now) (Advances (hart_of S.scheme pick (machine_of m.old)))
         (machine_of m.old) (N.device nvm.now) }

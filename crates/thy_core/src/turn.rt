@@ -182,7 +182,11 @@ pub(crate) fn only_harts<N: Nvm, S>(m: &MachineParts<S>, nvm: &N) -> bool
     requires { (N.device nvm.now).down ≡ false }
     ensures { result ≡ (m.now.store.calm && length (N.device nvm.now).queue == 0) }
 {
-    m.store.calm && nvm.queued() == 0
+    if m.store.calm {
+        nvm.queued() == 0
+    } else {
+        false
+    }
 }
 
 /// Whether the engine has an action to take at its pick: a checkpoint is under way.

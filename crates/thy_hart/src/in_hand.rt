@@ -8,6 +8,7 @@ ghost use Rattle.thy_block.specs.Spans.{first_byte};
 ghost use Rattle.thy_isa.specs.Effects.{size_of};
 ghost use Rattle.thy_isa.specs.declared.state.Effect.TheVariants.{Next, Set};
 ghost use Rattle.thy_hart.specs.declared.in_hand.Stage.TheVariants.{Idle};
+ghost use Rattle.thy_hart.specs.HartState.{blocks_of};
 ghost use Rattle.thy_hart.specs.InHand.{span_of, load_of, store_of};
 
 use crate::hand::Hand;
@@ -60,6 +61,15 @@ impl Access {
             at: self.at,
             len: bytes_in(self.width),
         }
+    }
+
+    /// How many blocks the bytes lie in, for which a store secures room: one.
+    #[inline(always)]
+    pub(crate) fn blocks(&self) -> u64
+        ensures { result ≡ blocks_of (span_of self.now) }
+    {
+        let _whole = self.span();
+        1
     }
 
     /// How many bytes are moved.

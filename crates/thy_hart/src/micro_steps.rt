@@ -88,8 +88,8 @@ pub(crate) fn blocks_of(span: Span) -> u64
 
 // The micro-steps take a type `N`, which none of them uses: that of device and store together, and in a row of one hart of
 // several a pair with it. So the compiler has a copy of them for each device, scheme and whether the hart is alone, called from
-// one place, and makes that of a hart that is alone part of the loop over cycles. What is rare is called, and takes no reference
-// to what the loop has in registers.
+// one place, and makes it part of the loop over cycles. What is rare is called, and takes no reference to what the loop has in
+// registers.
 impl HartParts {
     /// How many blocks the instruction in hand is to secure room for, if that is its next micro-step.
     pub fn to_secure(&self) -> Option<u64>
@@ -97,7 +97,7 @@ impl HartParts {
         ensures { result ≡ to_secure (hart_state_of self.now).hand }
     {
         match self.hand.stage {
-            Stage::Secures => Some(blocks_of(self.hand.access.span())),
+            Stage::Secures => Some(self.hand.access.blocks()),
             Stage::InPieces => self.pieces_to_secure(),
             Stage::Idle
             | Stage::Jumps
@@ -614,7 +614,7 @@ impl HartParts {
         ensures stage { result ≡ Moved → self.new.hand.stage ≡ Stores }
         ensures pieces { ArePieces self.new.hand }
     {
-        let need = blocks_of(self.hand.access.span());
+        let need = self.hand.access.blocks();
         if free >= need && free - need >= dirty {
             self.hand.stage = Stage::Stores;
             return HartStep::Moved;

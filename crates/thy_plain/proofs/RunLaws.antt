@@ -2,7 +2,7 @@
 use Rattle.std.proofs.Common.{◌≡◌, ℕ, ◌+◌, ◌<◌, true, false, ap, sym, ◌∙◌, arith}
 use borrow.Author.Count.{below_more}
 use Rattle.thy_isa.specs.Step.{State, is_running, steps}
-use Rattle.thy_isa.proofs.StepLaws.{steps-zero, steps-one_more, steps-count}
+use Rattle.thy_isa.proofs.StepLaws.{step-count, steps-zero, steps-one_more, steps-count}
 use Rattle.thy_plain.specs.Machine.{Machine, StopsAt, after_steps, stepped}
 
 -- the program runs at every count of steps below k
@@ -29,6 +29,19 @@ pub count_below : (m now : Machine) (k bound : ℕ) → now ≡ after_steps k m 
 count_below m now k bound is runs below =
     let still : is_running (steps m.setting k m.state).status ≡ true = ap (λ (n : Machine). is_running n.state.status) (sym is) ∙ runs in
     omega (arith, ap (λ (n : Machine). n.state.count) is, steps-count m.setting k m.state still)
+
+-- one step more of a machine that ran adds one to the count
+pub count_more : (m now : Machine) (k : ℕ) → is_running (steps m.setting k m.state).status ≡ true → now ≡ after_steps (k + 1) m
+    → now.state.count ≡ m.state.count + (k + 1)
+count_more m now k runs is =
+    let before = steps m.setting k m.state in
+    omega (
+      arith,
+      ap (λ (n : Machine). n.state.count) is,
+      ap (λ (s : State). s.count) (steps-one_more m.setting k m.state),
+      step-count m.setting before runs,
+      steps-count m.setting k m.state runs,
+    )
 
 -- ---- where a run stops
 

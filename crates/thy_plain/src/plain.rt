@@ -151,7 +151,8 @@ impl Plain {
         advance(&mut self.state, &self.setup, &mut self.decoded)
     }
 
-    /// Takes steps until the program no longer runs, or `limit` steps are done. Returns how many it took. All are hart 0's.
+    /// Takes steps until the program no longer runs, or `limit` steps are done. Returns how many it took. All are hart 0's. The
+    /// count of instructions says how many were taken, so the loop counts nothing but what is left of the limit.
     pub fn run(&mut self, limit: u64) -> u64
         requires { self.old.state.count + limit < 2 ^ 63 }
         ensures stops { StopsAt self.old limit result }
@@ -160,9 +161,10 @@ impl Plain {
         if !self.is_running() {
             return 0;
         }
+        let before = self.state.count;
         for done in 0..limit {
             if !self.advance() {
-                return done + 1;
+                return self.state.count - before;
             }
         }
         limit

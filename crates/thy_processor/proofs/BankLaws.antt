@@ -63,6 +63,24 @@ put-back at len h l m d e is there =
     ∙ ap (λ (x : HartOf). set m h (record (hart_at l h) { reserved = x.reserved })) (same_at l h e no_hart there)
     ∙ ap (λ (n : List HartOf). set n h (hart_at l h)) is
 
+-- ---- harts that have reserved nothing
+
+kept_by_two : (at len h : ℕ) (x y : HartOf) → left_by at len x.reserved ≡ x.reserved → left_by at len y.reserved ≡ y.reserved → h < 2
+    → written_by at len h (x ∷ y ∷ []) ≡ x ∷ y ∷ []
+kept_by_two at len zero x y first second few = ap (λ (r : Reservation). x ∷ record y { reserved = r } ∷ []) second
+kept_by_two at len (suc zero) x y first second few = ap (λ (r : Reservation). record x { reserved = r } ∷ y ∷ []) first
+kept_by_two at len (suc (suc h)) x y first second few = absurd (omega (arith, few))
+
+-- two harts that can lose nothing stay as they are
+pub written_by-kept : (at len h : ℕ) (l : List HartOf) (d e : HartOf) → length l ≡ 2
+    → left_by at len (get_or l 0 d).reserved ≡ (get_or l 0 d).reserved
+    → left_by at len (get_or l 1 e).reserved ≡ (get_or l 1 e).reserved
+    → h < length l → l ≡ written_by at len h l
+written_by-kept at len h [] d e two first second there = absurd (omega (arith, there))
+written_by-kept at len h (x ∷ []) d e two first second there = absurd (omega (arith, two))
+written_by-kept at len h (x ∷ y ∷ []) d e two first second there = sym (kept_by_two at len h x y first second (omega (arith, there)))
+written_by-kept at len h (x ∷ y ∷ z ∷ l) d e two first second there = absurd (omega (arith, two))
+
 -- ---- a write
 
 pub length-written_by : (at len h : ℕ) (l : List HartOf) → length (written_by at len h l) ≡ length l

@@ -1,7 +1,7 @@
 //! A processor: its harts, which stay where they are whichever takes a step, and what they share.
 #![tactic(auto, unfolding(crate::specs::Processor::processor_finished, crate::specs::Processor::processor_served))]
 
-ghost use Rattle.std.specs.Prelude.{◌≡◌, ◌≢◌, ◌+◌, ◌<◌, ◌≤◌, ◌^◌, length, map, slice_set, take};
+ghost use Rattle.std.specs.Prelude.{◌≡◌, ◌≢◌, ℕ, false, ◌+◌, ◌<◌, ◌≤◌, ◌^◌, length, map, slice_set, take};
 ghost use Rattle.thy_isa.specs.declared.state.CallState.{CallState};
 ghost use Rattle.thy_isa.specs.declared.state.Effect.TheVariants.{Environment};
 ghost use Rattle.thy_isa.specs.Calls.{call_of};
@@ -401,8 +401,31 @@ fn loaded(width: Width, extend: Extend, number: u64) -> u64
 /// The register of an environment call's result.
 const A0: u8 = 10;
 
-/// Each bank but one loses a reservation in the block of these bytes.
+/// Whether these are reserved bytes. Where nothing is reserved, nothing can be lost.
+#[inline(always)]
+fn is_reserving(reserved: Reservation) -> bool
+    ensures { (at len : ℕ) → result ≡ false → left_by at len reserved ≡ reserved }
+{
+    match reserved {
+        Reservation::Nothing(_) => false,
+        Reservation::Word(_) | Reservation::Double(_) => true,
+    }
+}
+
+/// Each bank but one loses a reservation in the block of these bytes. Mostly none has reserved any.
+#[inline(always)]
 fn lose_others(banks: &mut [HartOf; MOST_HARTS], own: usize, at: u64, len: u64)
+    requires { own < length banks.old }
+    ensures { banks.new ≡ written_by at len own banks.old }
+{
+    if is_reserving(banks[0].reserved) || is_reserving(banks[1].reserved) {
+        lose_each(banks, own, at, len);
+    }
+}
+
+/// Each bank but one loses a reservation in the block of these bytes, bank by bank.
+#[inline(never)]
+fn lose_each(banks: &mut [HartOf; MOST_HARTS], own: usize, at: u64, len: u64)
     requires { own < length banks.old }
     ensures { banks.new ≡ written_by at len own banks.old }
 {

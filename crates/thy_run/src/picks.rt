@@ -24,13 +24,14 @@ fn pass_some(mix: &mut Mix, harts: u64, picks: u64)
     requires few { picks ≤ 5 }
     ensures { mix.new ≡ after_picks harts picks mix.old }
 {
-    match *mix {
-        Mix::InTurn(turn) => *mix = Mix::InTurn(turn_after(harts, turn, picks)),
+    match mix {
+        Mix::InTurn(turn) => *turn = turn_after(harts, *turn, picks),
         Mix::Drawn(_) => draw_picks(mix, harts, picks),
     }
 }
 
-/// Draws this many picks one by one.
+/// Draws this many picks one by one. It is called: in the loop over rows the numbers of its draws would take registers.
+#[inline(never)]
 fn draw_picks(mix: &mut Mix, harts: u64, picks: u64)
     ensures { mix.new ≡ after_picks harts picks mix.old }
 {
@@ -99,7 +100,8 @@ fn place_of_five(turn: Pick) -> u64
 #[inline(always)]
 fn wrapped(sum: u64) -> u64
     requires { sum ≤ 9 }
-    ensures { result ≡ sum % 5 }
+    ensures place { result ≡ sum % 5 }
+    ensures few { result ≤ 4 }
 {
     if sum < 5 { sum } else { sum - 5 }
 }
@@ -107,6 +109,7 @@ fn wrapped(sum: u64) -> u64
 /// The actor at a position from 0 to 4, with two harts.
 #[inline(always)]
 fn at_five(place: u64) -> Pick
+    requires { place ≤ 4 }
     ensures { result ≡ pick_of_five place }
 {
     match place {
@@ -114,6 +117,7 @@ fn at_five(place: u64) -> Pick
         1 => Pick::Second,
         2 => Pick::Engine,
         3 => Pick::NvmDrain,
-        _ => Pick::DramDrain,
+        4 => Pick::DramDrain,
+        _ => unreachable!(),
     }
 }

@@ -1,6 +1,6 @@
 use Rattle.std.proofs.Common.{◌<◌, ◌^◌, length, arith}
 use Rattle.thy_block.specs.Bytes.{bytes_of}
-use Rattle.thy_plain.proofs.WindowLemmas.{IsWord, word-is, word-fetched}
+use Rattle.thy_plain.proofs.WindowLemmas.{word-is, word-fetched}
 use Rattle.thy_plain.proofs.window.near_word.Goals as goal
 
 pub returns-then-turned-setup-clause-fetched : goal.returns-then-turned-setup-clause-fetched

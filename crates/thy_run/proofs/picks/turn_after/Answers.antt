@@ -11,6 +11,6 @@ returns-then-harts-eq1 c =
 
 pub returns-else-harts-eq1 : goal.returns-else-harts-eq1
 returns-else-harts-eq1 c =
-    ap InTurn c.at_five.ensures ∙ ap (λ (n : ℕ). InTurn (pick_of_five n)) c.wrapped.ensures
+    ap InTurn c.at_five.ensures ∙ ap (λ (n : ℕ). InTurn (pick_of_five n)) c.wrapped.ensures.place
     ∙ ap (λ (n : ℕ). InTurn (pick_of_five ((n + c.args.picks) % 5))) c.place_of_five.ensures.place
     ∙ turn_of_five c.args.harts c.args.picks c.args.turn c.if-harts-eq1.false c.requires.some

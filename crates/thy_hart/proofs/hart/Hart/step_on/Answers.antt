@@ -1,4 +1,4 @@
-use Rattle.std.proofs.Common.{sym, ◌∙◌, ap, subst}
+use Rattle.std.proofs.Common.{◌∙◌, ap, subst}
 use Rattle.thy_hart.specs.Outcomes.{given}
 use Rattle.thy_hart.specs.HartState.{HartState, IsSoundHart}
 use Rattle.thy_hart.specs.InHand.{hart_state_of}

@@ -1,4 +1,4 @@
-use Rattle.std.proofs.Common.{◌≡◌, ◌≤◌, length, sym, ap, ◌∙◌, subst, arith}
+use Rattle.std.proofs.Common.{◌≡◌, length, sym, ap, ◌∙◌, subst, arith}
 use Rattle.thy_block.specs.Bytes.{bytes_of}
 use Rattle.thy_isa.specs.Step.{State, state_of}
 use Rattle.thy_plain.specs.Machine.{setting_of}

@@ -1,7 +1,7 @@
-use Rattle.std.proofs.Common.{◌≡◌, ◌<◌, true, false, ap, sym, ◌∙◌, arith}
+use Rattle.std.proofs.Common.{◌≡◌, ◌+◌, ◌-◌, ◌<◌, ℕ, true, false, ap, sym, subst, ◌∙◌, arith}
 use Rattle.thy_isa.specs.Step.{is_running, steps}
-use Rattle.thy_plain.specs.Machine.{Machine, stepped}
-use Rattle.thy_plain.proofs.RunLaws.{Ran-none, Ran-more, after_none, after_more, count_below, stops_at_once, stops_after}
+use Rattle.thy_plain.specs.Machine.{Machine, StopsAt, after_steps, stepped}
+use Rattle.thy_plain.proofs.RunLaws.{Ran-none, Ran-more, after_none, after_more, count_below, count_more, stops_at_once, stops_after}
 use Rattle.thy_plain.proofs.plain.Plain.run.Goals as goal
 
 pub loop-done-init : goal.loop-done-init
@@ -33,17 +33,38 @@ returns-then-not-is_running-clause-stops c =
 pub returns-then-not-is_running-clause-state : goal.returns-then-not-is_running-clause-state
 returns-then-not-is_running-clause-state c = sym (after_none c.args.self.now)
 
+-- the machine after the step that ended the program
+last : (c : goal.Then-not-advance) → c.advance.new.self ≡ after_steps (c.loop-done.done + 1) c.args.self.now
+last c = c.advance.ensures.state ∙ ap stepped c.loop-done.invariant.state ∙ after_more c.args.self.now c.loop-done.done
+
+-- the program ran before that step
+ran : (c : goal.Then-not-advance) → is_running (steps c.args.self.now.setting c.loop-done.done c.args.self.now.state).status ≡ true
+ran c = ap (λ (n : Machine). is_running n.state.status) (sym c.loop-done.invariant.state) ∙ c.loop-done.invariant.runs
+
+-- how many steps were taken is what the count has gained
+gained : (c : goal.Then-not-advance) → c.self-in-loop-done.inside.state.count ≡ c.self.inside.state.count + (c.loop-done.done + 1)
+gained c =
+    omega (
+      arith,
+      ap (λ (n : Machine). n.state.count) c.self.view_is,
+      ap (λ (n : Machine). n.state.count) c.self-in-loop-done.view_is,
+      count_more c.args.self.now c.advance.new.self c.loop-done.done (ran c) (last c),
+    )
+
+taken : (c : goal.Then-not-advance) → c.loop-done.done + 1 ≡ c.self-in-loop-done.inside.state.count - c.self.inside.state.count
+taken c = omega (arith, gained c)
+
+pub overflow_sub-result : goal.overflow_sub-result
+overflow_sub-result c = omega (arith, gained c)
+
 pub returns-then-not-advance-clause-stops : goal.returns-then-not-advance-clause-stops
 returns-then-not-advance-clause-stops c =
     let m = c.args.self.now in
     let k = c.loop-done.done in
     let below : k < c.args.limit = omega arith in
-    let runs : is_running (steps m.setting k m.state).status ≡ true =
-    ap (λ (n : Machine). is_running n.state.status) (sym c.loop-done.invariant.state) ∙ c.loop-done.invariant.runs in
     let ended : is_running c.advance.new.self.state.status ≡ false = cc in
-    stops_after m c.advance.new.self c.args.limit k below c.loop-done.invariant.ran runs
-    (c.advance.ensures.state ∙ ap stepped c.loop-done.invariant.state ∙ after_more m k) ended
+    subst (StopsAt m c.args.limit) (taken c)
+    (stops_after m c.advance.new.self c.args.limit k below c.loop-done.invariant.ran (ran c) (last c) ended)
 
 pub returns-then-not-advance-clause-state : goal.returns-then-not-advance-clause-state
-returns-then-not-advance-clause-state c =
-    c.advance.ensures.state ∙ ap stepped c.loop-done.invariant.state ∙ after_more c.args.self.now c.loop-done.done
+returns-then-not-advance-clause-state c = last c ∙ ap (λ (k : ℕ). after_steps k c.args.self.now) (taken c)
