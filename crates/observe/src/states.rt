@@ -180,7 +180,10 @@ fn add_state_or_none(
 {
     match plain {
         None => text.push_str("none\n"),
-        Some(plain) => add_state(alloc, text, base, plain.state()),
+        Some(plain) => {
+            let state = plain.state(alloc)?;
+            add_state(alloc, text, base, &state)
+        }
     }
 }
 

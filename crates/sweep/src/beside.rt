@@ -48,7 +48,7 @@ fn copy_of(alloc: Global, state: &MachState) -> Result<MachState, AllocError>
 fn step_to(plain: &mut Plain, count: u64)
     ensures { RunsTo count plain.old plain.new }
 {
-    let now = plain.state().count;
+    let now = plain.count();
     if count < now {
         return;
     }
@@ -67,7 +67,7 @@ fn hart_of(turn: u8) -> u8
 
 /// Takes the step of a turn.
 fn step_turn(plain: &mut Plain, turn: u8) {
-    let now = plain.state().count;
+    let now = plain.count();
     if now >= MANY {
         return;
     }
@@ -116,7 +116,7 @@ impl Beside {
         } else {
             step_by(&mut self.plain, turns);
         }
-        let state = copy_of(alloc, self.plain.state())?;
+        let state = self.plain.state(alloc)?;
         self.sealed = Some(state);
         Ok(())
     }

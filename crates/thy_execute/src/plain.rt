@@ -103,10 +103,10 @@ fn run_plain<'a, H: Shelf, T: Sink, R: Sink, O: Observer>(
     match Plain::load(alloc, &image, &geometry, input) {
         Ok(mut machine) => {
             let cycles = machine.run(limit);
-            let state = machine.state();
-            observer.see_last(geometry.numbers().base, state);
+            let state = machine.into_state();
+            observer.see_last(geometry.numbers().base, &state);
             let terminal_failed = write_bytes(state.console.as_slice(), terminal);
-            let report_failed = write_end(state, digest, report);
+            let report_failed = write_end(&state, digest, report);
             let ending = Ending {
                 stop: plain_stop(terminal_failed, report_failed, state.status),
                 events: Events::new(alloc),

@@ -29,7 +29,7 @@ pub use atomics::modified;
 pub use decoding::{decode, is_legal};
 pub use effects::{after, bytes_in, effect, word_effect};
 pub use environment::call;
-pub use harts::{cross, cross_state};
+pub use harts::cross;
 pub use instr::{Alu, Amo, Cond, Extend, Instr, Reg, Width};
 pub use laws::{
     blocks_make_the_step, crossing_changes_places, misaligned_accesses_are_served,

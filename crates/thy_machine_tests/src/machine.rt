@@ -384,7 +384,7 @@ fn plain_machines(rt: &impl Abort, alloc: Global, row: &Row) -> Vec<Plain> {
     for count in 0..100 {
         let mut plain = start_with(rt, alloc, row.words, b"");
         expect(rt, plain.run(count), count);
-        let status = plain.state().status;
+        let status = plain.status();
         plains.push(plain).expect(rt, "memory");
         if status != Status::Running {
             expect(rt, status, row.status);
@@ -405,12 +405,12 @@ fn stands<M: Computer>(
 ) {
     let inside = (count as usize) < plains.len();
     assert!(rt; inside);
-    let want = plains[count as usize].state();
+    let want = &plains[count as usize];
     let got = on.snapshot(rt, alloc);
-    expect_at(rt, cpu_of(&got), cpu_of(want), at);
-    let same_memory = got.memory.as_slice() == want.memory.as_slice();
+    expect_at(rt, cpu_of(&got), want.cpu(0), at);
+    let same_memory = got.memory.as_slice() == want.memory().as_slice();
     expect_at(rt, same_memory, true, at);
-    let same_console = got.console.as_slice() == want.console.as_slice();
+    let same_console = got.console.as_slice() == want.console().as_slice();
     expect_at(rt, same_console, true, at);
 }
 

@@ -15,7 +15,6 @@ use crate::changes::{Change, Dated};
 use std::alloc::{AllocError, Global};
 use std::collections::BTreeMap;
 use thy_base::Geometry;
-use thy_isa::MachState;
 use thy_layout::Start;
 use thy_plain::Plain;
 use thy_view::Computer;
@@ -52,16 +51,10 @@ pub(crate) struct Replay {
 }
 
 /// The program counter of a hart.
-fn pc_of(hart: u32, state: &MachState) -> u64
-    ensures { result ≡ pc_in hart (state_of state.now) }
+fn pc_of(hart: u32, plain: &Plain) -> u64
+    ensures { result ≡ pc_in hart plain.now.state }
 {
-    if hart == 0 {
-        return state.pc;
-    }
-    match state.other {
-        Some(other) => other.pc,
-        None => state.pc,
-    }
+    if hart == 0 { plain.pc(0) } else { plain.pc(1) }
 }
 
 /// Counts a program counter once more.
@@ -90,7 +83,7 @@ fn at_start(alloc: Global, start: &Start, geometry: &Geometry) -> Result<Plain, 
 fn step(plain: &mut Plain, hart: u32) -> Result<(), ReplayError>
     ensures { OnOk result (plain.new ≡ stepped_by hart plain.old) }
 {
-    if plain.state().count >= MOST_COUNT {
+    if plain.count() >= MOST_COUNT {
         return Err(ReplayError::Count);
     }
     if hart == 0 {
@@ -185,7 +178,7 @@ pub(crate) fn follow(
         }
         Change::Retired(hart) => {
             let mut next = replay;
-            count_one(&mut next.counts, pc_of(hart, next.plain.state()))?;
+            count_one(&mut next.counts, pc_of(hart, &next.plain))?;
             if next.harts.push(hart).is_err() {
                 return Err(ReplayError::Memory);
             }

@@ -2,18 +2,19 @@
 ghost use Rattle.std.specs.Prelude.{◌≡◌, ◌+◌, List, IfOk, length};
 ghost use Rattle.thy_block.specs.Bytes.{bytes_of};
 ghost use Rattle.thy_isa.specs.OnBlocks.{setting_for};
-ghost use Rattle.thy_isa.specs.Step.{fronted, state_of};
+ghost use Rattle.thy_isa.specs.Step.{cpu_of, fronted, state_of};
 ghost use Rattle.thy_run.specs.Watching.{Taken};
 ghost use Rattle.thy_observe.specs.Changes.{dated, dated_of};
 ghost use Rattle.thy_observe.specs.Tracing.{IsTrace, ListsAll, Trace, access_at, fetched, is_up_to, is_within, moved, moved_by, trace_by, trace_of, traced};
 
 use crate::changes::{Change, Dated};
 use crate::replay::{Replay, ReplayError, begin, follow};
-use crate::trap::{fetched_word, front_of};
+use crate::trap::fetched_word;
 use std::alloc::Global;
 use thy_base::{Geometry, is_inside};
-use thy_isa::{Effect, MachState, Regs, Width, bytes_in, is_running, number, word_effect};
+use thy_isa::{CpuState, Effect, Regs, Width, bytes_in, is_running, number, word_effect};
 use thy_layout::Start;
+use thy_plain::Plain;
 
 /// The bytes that an instruction loaded or stored.
 #[derive(Clone, Copy, Debug, PartialEq, Eq, Drop)]
@@ -109,12 +110,23 @@ fn access_at(base: u64, memory: &[u8], moved: Option<(Width, u64)>) -> Option<Ac
     })
 }
 
-/// What a hart executes next.
-fn fetch(base: u64, hart: u32, state: &MachState) -> Fetched
-    ensures { result ≡ fetched base (fronted hart (state_of state.now)) }
+/// The processor with this hart in front.
+fn cpu_of(hart: u32, plain: &Plain) -> CpuState
+    ensures { result ≡ cpu_of (fronted hart plain.now.state) }
 {
-    let cpu = front_of(hart, state);
-    let word = fetched_word(base, cpu.pc, state.memory.as_slice());
+    if hart == 0 {
+        plain.cpu(0)
+    } else {
+        plain.cpu(1)
+    }
+}
+
+/// What a hart executes next.
+fn fetch(base: u64, hart: u32, plain: &Plain) -> Fetched
+    ensures { result ≡ fetched base (fronted hart plain.now.state) }
+{
+    let cpu = cpu_of(hart, plain);
+    let word = fetched_word(base, cpu.pc, plain.memory().as_slice());
     Fetched {
         pc: cpu.pc,
         word,
@@ -123,11 +135,11 @@ fn fetch(base: u64, hart: u32, state: &MachState) -> Fetched
 }
 
 /// The instruction that a hart fetched, in a cycle that leads to this state.
-fn row_of(base: u64, cycle: u64, hart: u32, fetched: Fetched, next: &MachState) -> Traced
-    ensures { result ≡ traced base cycle hart fetched (state_of next.now) }
+fn row_of(base: u64, cycle: u64, hart: u32, fetched: Fetched, next: &Plain) -> Traced
+    ensures { result ≡ traced base cycle hart fetched next.now.state }
 {
-    let access = if is_running(next.status) {
-        access_at(base, next.memory.as_slice(), fetched.moved)
+    let access = if is_running(next.status()) {
+        access_at(base, next.memory().as_slice(), fetched.moved)
     } else {
         None
     };
@@ -184,10 +196,10 @@ fn trace_retired(
     let Tracer { replay, mut rows } = tracer;
     let base = geometry.numbers().base;
     let count = next_count(start, &replay)?;
-    let fetched = fetch(base, hart, replay.plain.state());
+    let fetched = fetch(base, hart, &replay.plain);
     let replay = follow(alloc, start, geometry, replay, Change::Retired(hart))?;
     if is_within(window, count) {
-        let row = row_of(base, cycle, hart, fetched, replay.plain.state());
+        let row = row_of(base, cycle, hart, fetched, &replay.plain);
         if rows.push(row).is_err() {
             return Err(ReplayError::Memory);
         }

@@ -19,7 +19,7 @@ pub struct Trap {
 }
 
 /// The processor with this hart in front, of a state that has hart 0 in front.
-pub(crate) fn front_of(hart: u32, state: &MachState) -> CpuState
+fn front_of(hart: u32, state: &MachState) -> CpuState
     ensures { result ≡ cpu_of (fronted hart (state_of state.now)) }
 {
     let mut cpu = state.cpu();

@@ -1,3 +1,4 @@
+pub mod HeldLaws
 pub mod RunLaws
 pub mod StartLaws
 pub mod StepLemmas

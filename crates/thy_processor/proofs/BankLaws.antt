@@ -63,23 +63,44 @@ put-back at len h l m d e is there =
     ∙ ap (λ (x : HartOf). set m h (record (hart_at l h) { reserved = x.reserved })) (same_at l h e no_hart there)
     ∙ ap (λ (n : List HartOf). set n h (hart_at l h)) is
 
--- ---- harts that have reserved nothing
+-- ---- harts that lose nothing
 
-kept_by_two : (at len h : ℕ) (x y : HartOf) → left_by at len x.reserved ≡ x.reserved → left_by at len y.reserved ≡ y.reserved → h < 2
-    → written_by at len h (x ∷ y ∷ []) ≡ x ∷ y ∷ []
-kept_by_two at len zero x y first second few = ap (λ (r : Reservation). x ∷ record y { reserved = r } ∷ []) second
-kept_by_two at len (suc zero) x y first second few = ap (λ (r : Reservation). record x { reserved = r } ∷ y ∷ []) first
-kept_by_two at len (suc (suc h)) x y first second few = absurd (omega (arith, few))
+-- a hart is put where it is
+set-there : (l : List HartOf) (k : ℕ) → set l k (hart_at l k) ≡ l
+set-there [] k = refl
+set-there (x ∷ l) zero = refl
+set-there (x ∷ l) (suc k) = ap (λ (m : List HartOf). x ∷ m) (set-there l k)
 
--- two harts that can lose nothing stay as they are
-pub written_by-kept : (at len h : ℕ) (l : List HartOf) (d e : HartOf) → length l ≡ 2
-    → left_by at len (get_or l 0 d).reserved ≡ (get_or l 0 d).reserved
-    → left_by at len (get_or l 1 e).reserved ≡ (get_or l 1 e).reserved
-    → h < length l → l ≡ written_by at len h l
-written_by-kept at len h [] d e two first second there = absurd (omega (arith, there))
-written_by-kept at len h (x ∷ []) d e two first second there = absurd (omega (arith, two))
-written_by-kept at len h (x ∷ y ∷ []) d e two first second there = sym (kept_by_two at len h x y first second (omega (arith, there)))
-written_by-kept at len h (x ∷ y ∷ z ∷ l) d e two first second there = absurd (omega (arith, two))
+-- a hart whose reservation is left stays as it is
+pub losing-nothing : (at len : ℕ) (x : HartOf) → left_by at len x.reserved ≡ x.reserved → losing at len x ≡ x
+losing-nothing at len x left = ap (λ (r : Reservation). record x { reserved = r }) left
+
+-- one more stays as it is
+pub kept-one_more : (at len k : ℕ) (l : List HartOf) (d : HartOf) → k < length l → changed_to (losing at len) k l ≡ l
+    → left_by at len (get_or l k d).reserved ≡ (get_or l k d).reserved → changed_to (losing at len) (k + 1) l ≡ l
+kept-one_more at len k l d there before left =
+    let f = losing at len in
+    let same : f (hart_at l k) ≡ hart_at l k =
+        ap f (same_at l k no_hart d there) ∙ losing-nothing at len (get_or l k d) left ∙ same_at l k d no_hart there in
+    ap (λ n. changed_to f n l) (add-one k)
+    ∙ sym (changed-one_more f k l there)
+    ∙ ap (λ (m : List HartOf). set m k (f (hart_at m k))) before
+    ∙ ap (set l k) same
+    ∙ set-there l k
+
+-- harts of which each stays as it is, after a write
+pub written_by-none : (at len h : ℕ) (l : List HartOf) → map (losing at len) l ≡ l → l ≡ written_by at len h l
+written_by-none at len h l none = sym (ap (λ (m : List HartOf). set m h (hart_at l h)) none ∙ set-there l h)
+
+-- ---- one of the harts that are had
+
+-- it is read in any way
+pub had-at : (h n : ℕ) (l : List HartOf) (d : HartOf) → h < n → h < length l → get_or l h d ≡ hart_at (take n l) h
+had-at h n l d there inside = same_at l h d no_hart inside ∙ sym (get_or-take n l h no_hart there)
+
+-- it becomes another one
+pub had-put : (h n : ℕ) (l : List HartOf) (x y : HartOf) → h < n → x ≡ y → take n (set l h x) ≡ set (take n l) h y
+had-put h n l x y there is = take-set-lt n l h x there ∙ ap (set (take n l) h) is
 
 -- ---- a write
 

@@ -1,7 +1,8 @@
 //! A processor whose harts stay where they are whichever takes a step, as a list of harts; and the same with one hart in front,
 //! as contracts above see a processor.
 //!
-//! Open specs/Processor.antt first, and src/processor.rt. It depends on thy_isa; thy_hart depends on it.
+//! Open specs/Processor.antt first, and src/processor.rt. It depends on thy_isa; thy_plain and
+//! thy_hart depend on it.
 #![tactic(auto)]
 
 mod fronted;

@@ -116,6 +116,13 @@ impl Processor {
         self.floor
     }
 
+    /// How many instructions the harts have retired.
+    pub fn count(&self) -> u64
+        ensures { result ≡ self.now.count }
+    {
+        self.count
+    }
+
     /// What a hart has reserved.
     pub fn reserved(&self, hart: u8) -> Reservation
         requires { hart < length self.now.harts }
@@ -348,7 +355,8 @@ impl Processor {
     }
 
     /// What stands beside a hart of at most two: the other one, with the reservations of both.
-    pub(crate) fn other(&self, hart: u8) -> Option<OtherHart>
+    #[inline(always)]
+    pub fn other(&self, hart: u8) -> Option<OtherHart>
         requires hart { hart < length self.now.harts }
         requires few { length self.now.harts ≤ 2 }
         ensures { result ≡ other_of hart self.now.harts }
@@ -412,13 +420,26 @@ fn is_reserving(reserved: Reservation) -> bool
     }
 }
 
-/// Each bank but one loses a reservation in the block of these bytes. Mostly none has reserved any.
+/// Whether some bank has reserved bytes. If none has, none can lose a reservation.
+#[inline(always)]
+fn is_some_reserving(banks: &[HartOf; MOST_HARTS]) -> bool
+    ensures { (at len : ℕ) → result ≡ false → map (losing at len) banks.now ≡ banks.now }
+{
+    for k in 0..banks.len() {
+        if is_reserving(banks[k].reserved) {
+            return true;
+        }
+    }
+    false
+}
+
+/// Each bank but one loses a reservation in the block of these bytes. Mostly no bank has reserved any.
 #[inline(always)]
 fn lose_others(banks: &mut [HartOf; MOST_HARTS], own: usize, at: u64, len: u64)
     requires { own < length banks.old }
     ensures { banks.new ≡ written_by at len own banks.old }
 {
-    if is_reserving(banks[0].reserved) || is_reserving(banks[1].reserved) {
+    if is_some_reserving(banks) {
         lose_each(banks, own, at, len);
     }
 }
@@ -430,7 +451,7 @@ fn lose_each(banks: &mut [HartOf; MOST_HARTS], own: usize, at: u64, len: u64)
     ensures { banks.new ≡ written_by at len own banks.old }
 {
     let kept = banks[own].reserved;
-    for k in 0..MOST_HARTS {
+    for k in 0..banks.len() {
         banks[k].reserved = left_by(at, len, banks[k].reserved);
     }
     banks[own].reserved = kept;

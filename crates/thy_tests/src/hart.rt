@@ -130,9 +130,9 @@ fn step<S: BlockStore<()>>(
 
 /// Compares the processor with the plain machine's, which takes its step.
 fn advance(rt: &impl Abort, plain: &mut Plain, hart: &Hart) {
-    assert!(rt; plain.state().count < 1 << 62);
+    assert!(rt; plain.count() < 1 << 62);
     plain.step();
-    expect(rt, hart.cpu(), cpu_of(plain.state()));
+    expect(rt, hart.cpu(), plain.cpu(0));
 }
 
 /// A block as it is read through the cache.
@@ -171,9 +171,9 @@ fn runs_beside(
     requires ways { 0 < ways }
 {
     let mut plain = start_with(rt, alloc, words, input);
-    let mut blocks = memory_of(rt, alloc, plain.state().memory.as_slice());
+    let mut blocks = memory_of(rt, alloc, plain.memory().as_slice());
     let mut cache = Cache::new(alloc, sets, ways).expect(rt, "memory");
-    let mut hart = Hart::new(&cpu_of(plain.state()), 1, &smallest(rt, alloc));
+    let mut hart = Hart::new(&plain.cpu(0), 1, &smallest(rt, alloc));
     a_hart_is_ready_with_no_page_open();
     for turn in 0..100_000_u64 {
         match step(
@@ -189,19 +189,13 @@ fn runs_beside(
             Some(HartStep::Waiting) => expect(rt, "waits", "moves"),
             Some(HartStep::Retired | HartStep::Over(_)) => advance(rt, &mut plain, &hart),
             None => {
-                compare(
-                    rt,
-                    &cache,
-                    blocks.as_slice(),
-                    0,
-                    plain.state().memory.as_slice(),
-                );
+                compare(rt, &cache, blocks.as_slice(), 0, plain.memory().as_slice());
                 compare(
                     rt,
                     &cache,
                     blocks.as_slice(),
                     PROGRAM_BLOCKS,
-                    plain.state().console.as_slice(),
+                    plain.console().as_slice(),
                 );
                 return turn;
             }
@@ -232,14 +226,14 @@ fn answers(
 ) {
     let plain = start_with(rt, alloc, words, b"");
     let mut store = Scarce {
-        blocks: memory_of(rt, alloc, plain.state().memory.as_slice()),
+        blocks: memory_of(rt, alloc, plain.memory().as_slice()),
         copies,
         free,
         page: None,
         turn: false,
     };
     let mut cache = Cache::new(alloc, 1, 1).expect(rt, "memory");
-    let mut hart = Hart::new(&cpu_of(plain.state()), 1, &smallest(rt, alloc));
+    let mut hart = Hart::new(&plain.cpu(0), 1, &smallest(rt, alloc));
     a_hart_is_ready_with_no_page_open();
     for (i, (under_way, want)) in steps.iter().enumerate() {
         let room = store.free;

@@ -40,7 +40,7 @@ fn ends(rt: &impl Abort, alloc: Global, n: u64) {
         rt, "memory",
     );
     expect_at(rt, plain.run(100_000), 48027, n);
-    expect_at(rt, plain.state().status, Status::Exited(128), n);
+    expect_at(rt, plain.status(), Status::Exited(128), n);
 }
 
 #[test]

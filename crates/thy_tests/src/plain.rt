@@ -6,7 +6,7 @@ use crate::support::expect::expect;
 use std::alloc::Global;
 use std::process::Abort;
 use thy_base::{Bytes, Geometry};
-use thy_isa::{MachState, Reg, Status};
+use thy_isa::{Reg, Status};
 use thy_plain::{Plain, start_of};
 use thy_test_support::{SMALLEST, geometry_of, image_of};
 
@@ -33,20 +33,20 @@ pub(crate) fn start_with(rt: &impl Abort, alloc: Global, words: &[u32], input: &
     Plain::load(alloc, &image, &smallest(rt, alloc), input).expect(rt, "memory")
 }
 
-/// Compares the status, the count and the pc of a state.
-fn stands(rt: &impl Abort, state: &MachState, status: Status, count: u64, pc: u64) {
+/// Compares the status, the count and the pc of a machine.
+fn stands(rt: &impl Abort, plain: &Plain, status: Status, count: u64, pc: u64) {
     expect(
         rt,
-        (state.status, state.count, state.pc),
+        (plain.status(), plain.count(), plain.pc(0)),
         (status, count, pc),
     );
 }
 
 /// Compares what a register holds.
-fn holds(rt: &impl Abort, state: &MachState, register: u8, want: u64)
+fn holds(rt: &impl Abort, plain: &Plain, register: u8, want: u64)
     requires { register < 32 }
 {
-    expect(rt, state.regs.get(Reg::new(register)), want);
+    expect(rt, plain.cpu(0).regs.get(Reg::new(register)), want);
 }
 
 /// `addi a7, zero, 93`, `addi a0, zero, 7`, `ecall`.
@@ -56,23 +56,23 @@ static EXIT_SEVEN: [u32; 3] = [0x05d00893, 0x00700513, 0x00000073];
 fn a_program_exits_with_seven(rt: HostRuntime) {
     let mut plain = start(&rt, rt.alloc(), &EXIT_SEVEN);
     expect(&rt, plain.run(100), 3);
-    stands(&rt, plain.state(), Status::Exited(7), 3, 65544);
+    stands(&rt, &plain, Status::Exited(7), 3, 65544);
 }
 
 #[test]
 fn a_run_ends_at_its_limit(rt: HostRuntime) {
     let mut plain = start(&rt, rt.alloc(), &EXIT_SEVEN);
     expect(&rt, plain.run(2), 2);
-    stands(&rt, plain.state(), Status::Running, 2, 65544);
-    holds(&rt, plain.state(), 10, 7);
+    stands(&rt, &plain, Status::Running, 2, 65544);
+    holds(&rt, &plain, 10, 7);
 }
 
 #[test]
 fn a_step_is_one_instruction(rt: HostRuntime) {
     let mut plain = start(&rt, rt.alloc(), &EXIT_SEVEN[..2]);
     plain.step();
-    stands(&rt, plain.state(), Status::Running, 1, 65540);
-    holds(&rt, plain.state(), 17, 93);
+    stands(&rt, &plain, Status::Running, 1, 65540);
+    holds(&rt, &plain, 17, 93);
 }
 
 /// `sd zero, 0(sp)`, then `jalr x1, 2(x0)`, which traps for its target and leaves x1.
@@ -82,8 +82,8 @@ static ODD_JUMP: [u32; 2] = [0x00013023, 0x002000e7];
 fn a_jump_to_an_odd_place_traps(rt: HostRuntime) {
     let mut plain = start(&rt, rt.alloc(), &ODD_JUMP);
     expect(&rt, plain.run(5), 2);
-    stands(&rt, plain.state(), Status::Trapped(0), 2, 65540);
-    holds(&rt, plain.state(), 1, 0);
+    stands(&rt, &plain, Status::Trapped(0), 2, 65540);
+    holds(&rt, &plain, 1, 0);
 }
 
 #[test]
@@ -110,16 +110,15 @@ static WRITES: [u32; 9] = [
 fn a_write_of_a_hundred_bytes_takes_two_calls(rt: HostRuntime) {
     let mut plain = start(&rt, rt.alloc(), &WRITES);
     expect(&rt, plain.run(5), 5);
-    holds(&rt, plain.state(), 10, 64);
+    holds(&rt, &plain, 10, 64);
     let mut plain = start(&rt, rt.alloc(), &WRITES);
     expect(&rt, plain.run(9), 9);
-    holds(&rt, plain.state(), 10, 36);
-    let state = plain.state();
-    let first = state.memory.as_slice();
+    holds(&rt, &plain, 10, 36);
+    let first = plain.memory().as_slice();
     expect(&rt, first.len(), 28672);
     expect(
         &rt,
-        state.console.as_slice(),
+        plain.console().as_slice(),
         &first[..first.len().min(100)],
     );
 }
@@ -135,14 +134,13 @@ static READS: [u32; 9] = [
 fn a_read_past_the_end_of_memory_keeps_the_cursor(rt: HostRuntime) {
     let mut plain = start_with(&rt, rt.alloc(), &READS, b"abcd");
     expect(&rt, plain.run(6), 6);
-    holds(&rt, plain.state(), 10, 0xffff_ffff_ffff_fff2);
-    expect(&rt, plain.state().cursor, 0);
+    holds(&rt, &plain, 10, 0xffff_ffff_ffff_fff2);
+    expect(&rt, plain.cpu(0).cursor, 0);
     let mut plain = start_with(&rt, rt.alloc(), &READS, b"abcd");
     expect(&rt, plain.run(9), 9);
-    holds(&rt, plain.state(), 10, 4);
-    let state = plain.state();
-    expect(&rt, state.cursor, 4);
-    let end = state.memory.as_slice();
+    holds(&rt, &plain, 10, 4);
+    expect(&rt, plain.cpu(0).cursor, 4);
+    let end = plain.memory().as_slice();
     expect(&rt, &end[end.len().saturating_sub(4)..], b"abcd".as_slice());
 }
 
@@ -153,6 +151,6 @@ static BREAKS: [u32; 3] = [0x0d600893, 0x00000513, 0x00000073];
 fn a_break_that_is_refused_answers_the_old_one(rt: HostRuntime) {
     let mut plain = start(&rt, rt.alloc(), &BREAKS);
     expect(&rt, plain.run(3), 3);
-    holds(&rt, plain.state(), 10, 65552);
-    stands(&rt, plain.state(), Status::Running, 3, 65548);
+    holds(&rt, &plain, 10, 65552);
+    stands(&rt, &plain, Status::Running, 3, 65548);
 }

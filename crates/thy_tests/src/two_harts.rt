@@ -7,7 +7,7 @@ use crate::support::expect::{expect, expect_at};
 use std::alloc::Global;
 use std::process::Abort;
 use thy_base::{Bytes, Geometry, Parameters};
-use thy_isa::{MachState, OtherHart, Reg, Reservation, Status};
+use thy_isa::{OtherHart, Reg, Reservation, Status};
 use thy_plain::Plain;
 use thy_test_support::{SMALLEST, geometry_of, image_of};
 
@@ -35,7 +35,7 @@ fn after_reading(
     let input = Bytes::from_vec(Vec::from_slice(alloc, input).expect(rt, "memory"));
     let mut plain = Plain::load(alloc, &image, &pair(rt, alloc), input).expect(rt, "memory");
     for hart in turns {
-        assert!(rt; *hart <= 1 && plain.state().count < 1 << 62);
+        assert!(rt; *hart <= 1 && plain.count() < 1 << 62);
         plain.step_of(*hart);
     }
     plain
@@ -48,7 +48,7 @@ fn after(rt: &impl Abort, alloc: Global, words: &[u32], turns: &[u8]) -> Plain {
 
 /// Hart 1, with the reservations of both.
 fn second(rt: &impl Abort, plain: &Plain) -> OtherHart {
-    plain.state().other.expect(rt, "a second hart")
+    plain.cpu(0).other.expect(rt, "a second hart")
 }
 
 /// Compares what a register of hart 0 holds, and of hart 1.
@@ -56,7 +56,7 @@ fn hold(rt: &impl Abort, plain: &Plain, register: u8, zero: u64, one: u64)
     requires { register < 32 }
 {
     let x = Reg::new(register);
-    let held = (plain.state().regs.get(x), second(rt, plain).regs.get(x));
+    let held = (plain.cpu(0).regs.get(x), second(rt, plain).regs.get(x));
     expect(rt, held, (zero, one));
 }
 
@@ -68,15 +68,15 @@ fn have_reserved(rt: &impl Abort, plain: &Plain, zero: Reservation, one: Reserva
 
 /// Compares the two words of 64 bits from 69632 on.
 fn keeps(rt: &impl Abort, plain: &Plain, first: u64, second: u64) {
-    let memory = plain.state().memory.as_slice();
+    let memory = plain.memory().as_slice();
     assert!(rt; memory.len() == 28672);
     expect(rt, &memory[4096..4104], first.to_le_bytes().as_slice());
     expect(rt, &memory[4104..4112], second.to_le_bytes().as_slice());
 }
 
-/// Compares the status and the count of a state.
-fn stands(rt: &impl Abort, state: &MachState, status: Status, count: u64) {
-    expect(rt, (state.status, state.count), (status, count));
+/// Compares the status and the count of a machine.
+fn stands(rt: &impl Abort, plain: &Plain, status: Status, count: u64) {
+    expect(rt, (plain.status(), plain.count()), (status, count));
 }
 
 /// `lui x6,0x11` (69632), `addi x5,x0,1`, `lr.d a1,(x6)`, `sc.d a2,x5,(x6)`.
@@ -101,17 +101,13 @@ fn a_conditional_store_of_reserved_bytes_stores(rt: HostRuntime) {
         Reservation::Nothing(0),
     );
     keeps(&rt, &plain, 1, 0);
-    stands(&rt, plain.state(), Status::Running, 4);
+    stands(&rt, &plain, Status::Running, 4);
 }
 
 #[test]
 fn the_second_hart_begins_at_the_entry_with_its_own_stack(rt: HostRuntime) {
     let plain = after(&rt, rt.alloc(), &ADDS, &[0, 0, 0, 0]);
-    expect(
-        &rt,
-        (plain.state().pc, second(&rt, &plain).pc),
-        (65552, 65536),
-    );
+    expect(&rt, (plain.pc(0), second(&rt, &plain).pc), (65552, 65536));
     hold(&rt, &plain, 2, 93952, 91904);
     hold(&rt, &plain, 10, 0, 1);
     hold(&rt, &plain, 6, 69632, 0);
@@ -132,7 +128,7 @@ fn who_stores_first_takes_the_others_reservation(rt: HostRuntime) {
     let plain = after(&rt, rt.alloc(), &ADDS, &[0, 0, 0, 1, 1, 1, 1, 0]);
     hold(&rt, &plain, 12, 1, 0);
     keeps(&rt, &plain, 1, 0);
-    stands(&rt, plain.state(), Status::Running, 8);
+    stands(&rt, &plain, Status::Running, 8);
 }
 
 /// As ADDS, with `sd x5,8(x6)` before the conditional store.
@@ -151,7 +147,7 @@ fn each_store_takes_the_others_reservation(rt: HostRuntime) {
     let plain = after(&rt, rt.alloc(), &STORES_BETWEEN, &turns);
     hold(&rt, &plain, 12, 1, 1);
     keeps(&rt, &plain, 0, 1);
-    stands(&rt, plain.state(), Status::Running, 10);
+    stands(&rt, &plain, Status::Running, 10);
 }
 
 /// `lui x6,0x11`, `addi x5,x0,1`, `sc.d a2,x5,(x6)`, `lr.d a1,(x6)`, `sc.d a3,x5,(x6)`.
@@ -209,9 +205,9 @@ fn an_atomic_instruction_traps_for_its_address(rt: HostRuntime) {
             &[0x00011337, 0x00430313, *word],
             &[0, 0, 0],
         );
-        stands(&rt, plain.state(), status_of(*within), 3);
+        stands(&rt, &plain, status_of(*within), 3);
         let plain = after(&rt, rt.alloc(), &[0x00017337, *word], &[0, 0]);
-        stands(&rt, plain.state(), status_of(*behind), 2);
+        stands(&rt, &plain, status_of(*behind), 2);
     }
 }
 
@@ -220,7 +216,7 @@ fn with_one_hart_an_atomic_instruction_traps(rt: HostRuntime) {
     for word in &ATOMIC {
         let mut plain = start_with(&rt, rt.alloc(), &[*word], b"");
         plain.step();
-        stands(&rt, plain.state(), Status::Trapped(2), 1);
+        stands(&rt, &plain, Status::Trapped(2), 1);
     }
 }
 

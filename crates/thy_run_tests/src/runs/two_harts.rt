@@ -53,7 +53,7 @@ fn by_turns(rt: &impl Abort, alloc: Global, file: &[u8], turns: &[u8]) -> Plain 
         rt, "memory",
     );
     for hart in turns {
-        assert!(rt; *hart <= 1 && plain.state().count < 1 << 62);
+        assert!(rt; *hart <= 1 && plain.count() < 1 << 62);
         plain.step_of(*hart);
     }
     plain
@@ -140,7 +140,7 @@ fn shelf(rt: &impl Abort, alloc: Global, file: &[u8]) -> MemShelf {
 /// Compares a state with the plain machine's after these turns.
 fn stands(rt: &impl Abort, alloc: Global, file: &[u8], turns: &Turns, state: &MachState, at: &str) {
     let plain = by_turns(rt, alloc, file, turns.kept.as_slice());
-    check(rt, is_same(state, plain.state()), at);
+    check(rt, is_same(state, &plain.into_state()), at);
 }
 
 /// Compares each state of an answer's events with the state of the plain machine which takes the turns that the events

@@ -42,7 +42,7 @@ returns-in-Ok-load g c = λ n job h.
     let numbers : c.of-geometry.result ≡ parameters_of job.config = c.of-geometry.ensures ∙ ap parameters_of (sym h.configures) in
     let old : Stock = g.H.Shelf.stock c.args.shelf.now in
     let new : Stock = g.H.Shelf.stock c.plain_program.new.shelf in
-    let last : MachState = c.state-state.result.now in
+    let last : MachState = c.into_state-state.result in
     let program = c.in-Ok.ensures.program job (record { numbers = numbers; reads = h.reads }) in
     let closed = unsummed _ _ _ _ _ _ _ _ c.stopped.ensures.closes in
     let ran = IsPlainOf-ran c.args.name.now job (outside old n (g.T.Sink.stream c.args.terminal.now) (g.R.Sink.stream c.args.report.now))
@@ -51,7 +51,7 @@ returns-in-Ok-load g c = λ n job h.
     c.plain_stop.result c.answer.result (g.R.Sink.stream c.write_end-report_failed.new.report)
     program (stock_same old new c.in-Ok.ensures.held c.in-Ok.ensures.calm)
     c.in-Ok-load.ensures.machine (ap (λ (x : Parameters). x.limit) c.numbers-limit.ensures.same) c.run-cycles.ensures.stops
-    c.run-cycles.ensures.state c.state-state.ensures
+    c.run-cycles.ensures.state c.into_state-state.ensures
     (subst (Sent c.write_bytes-terminal_failed.result (g.T.Sink.stream c.args.terminal.now)
     (g.T.Sink.stream c.write_bytes-terminal_failed.new.terminal)) c.as_slice.ensures c.write_bytes-terminal_failed.ensures.bytes)
     (subst (λ d. Sent c.write_end-report_failed.result (g.R.Sink.stream c.args.report.now) (g.R.Sink.stream c.write_end-report_failed.new.report) (ended_lines d last.status last.count (bytes_of last.memory))) (sym h.digests) c.write_end-report_failed.ensures)
