@@ -13,6 +13,7 @@ use Rattle.thy_run.specs.declared.plan.Plan.{Plan}
 use Rattle.thy_sweep.specs.declared.lead.Lead.{Lead}
 use Rattle.thy_sweep.specs.Choices.{places_of}
 use Rattle.thy_sweep.specs.Images.{crash_images}
+use Rattle.thy_trial.specs.declared.part.Part.{Part}
 use Rattle.thy_trial.specs.Rooms.{counted_at, number_by}
 use Rattle.thy_view.specs.Kind.{KindOf}
 use Rattle.sweep.specs.declared.asked.Asked.{Asked}
@@ -62,16 +63,16 @@ tried-append : (ts us : List Try) (tried : ℕ) → tried_all (ts ++ us) tried �
 tried-append [] us tried = refl
 tried-append (t ∷ ts) us tried = tried-append ts us _
 
-module _ {M : Type 0} (K : KindOf M) (plan : Plan) (n : Device) (mix : Mix) where
+module _ {M : Type 0} (K : KindOf M) (part : Part) (plan : Plan) (n : Device) (mix : Mix) where
   -- none was
-  pub HasTried-none : (row : Row) → HasTried K plan n mix [] row row
+  pub HasTried-none : (row : Row) → HasTried K part plan n mix [] row row
   HasTried-none row = record { each = tt; leads = refl; tried = refl; first = refl; last = refl; queued = refl; images = refl }
 
   -- some were, and then others
-  pub HasTried-then : (ts us : List Try) (old mid new : Row) → HasTried K plan n mix ts old mid → HasTried K plan n mix us mid new
-      → HasTried K plan n mix (ts ++ us) old new
+  pub HasTried-then : (ts us : List Try) (old mid new : Row) → HasTried K part plan n mix ts old mid → HasTried K part plan n mix us mid new
+      → HasTried K part plan n mix (ts ++ us) old new
   HasTried-then ts us old mid new one two = record {
-    each = all-append (WasTried K plan n mix) ts us one.each two.each;
+    each = all-append (WasTried K part plan n mix) ts us one.each two.each;
     leads = two.leads ∙ ap (noted_all us) one.leads ∙ sym (noted-append ts us old.leads.items);
     tried = two.tried ∙ ap (tried_all us) one.tried ∙ sym (tried-append ts us old.tried);
     first = two.first ∙ one.first;
@@ -80,6 +81,21 @@ module _ {M : Type 0} (K : KindOf M) (plan : Plan) (n : Device) (mix : Mix) wher
     images = two.images ∙ one.images;
   }
 
+  -- ---- by number
+
+  pub TriesImages-none : (row : Row) → TriesImages K part plan n mix [] row row
+  TriesImages-none row = record { tries = []; has = HasTried-none row; are = refl }
+
+  -- one image more
+  pub TriesImages-on : (images : List (List Block)) (g : List Block) (number : ℕ) (old mid new : Row) → TriesImages K part plan n mix images old mid
+      → (one : NotesNumber K part plan n mix number mid new) → one.one.image ≡ g → TriesImages K part plan n mix (images ++ g ∷ []) old new
+  TriesImages-on images g number old mid new h one is = record {
+    tries = h.tries ++ one.one ∷ [];
+    has = HasTried-then h.tries (one.one ∷ []) old mid new h.has one.has;
+    are = map-append (λ (t : Try). t.image) h.tries (one.one ∷ []) ∙ ap (λ l. l ++ one.one.image ∷ []) h.are ∙ ap (λ b. images ++ b ∷ []) is;
+  }
+
+module _ {M : Type 0} (K : KindOf M) (plan : Plan) (n : Device) (mix : Mix) where
   -- ---- by picks
 
   -- the images of the first picks were tried, and their numbers are listed
@@ -89,13 +105,13 @@ module _ {M : Type 0} (K : KindOf M) (plan : Plan) (n : Device) (mix : Mix) wher
 
   pub IsTrying-none : (a : Asked) (row : Row) → IsTrying a 0 [] row row
   IsTrying-none a row = record {
-    so_far = record { tries = []; has = HasTried-none row; every = λ i less. absurd (omega (arith, less)); only = tt; apart = λ whole. tt };
+    so_far = record { tries = []; has = HasTried-none K a.compared plan n mix row; every = λ i less. absurd (omega (arith, less)); only = tt; apart = λ whole. tt };
     numbers = refl;
   }
 
   -- one pick more
   pub IsTrying-on : (a : Asked) (i : ℕ) (listed listing : List ℕ) (old mid new : Row) → IsTrying a i listed old mid
-      → NotesPick K plan n mix (pick_of a i) listed listing mid new → IsTrying a (i + 1) listing old new
+      → NotesPick K a.compared plan n mix (pick_of a i) listed listing mid new → IsTrying a (i + 1) listing old new
   IsTrying-on a i listed listing old mid new h one =
       let s = h.so_far in
       let all : numbers_of n (s.tries ++ one.tries) ≡ numbers_of n s.tries ++ numbers_of n one.tries = map-append (λ (t : Try). counted_at n t.image) s.tries one.tries in
@@ -104,7 +120,7 @@ module _ {M : Type 0} (K : KindOf M) (plan : Plan) (n : Device) (mix : Mix) wher
       record {
         so_far = record {
           tries = s.tries ++ one.tries;
-          has = HasTried-then s.tries one.tries old mid new s.has one.has;
+          has = HasTried-then K a.compared plan n mix s.tries one.tries old mid new s.has one.has;
           every = λ j less. elim (cases_lt j i) as (λ _. is_listed (number_by (pick_of a j) n) (numbers_of n (s.tries ++ one.tries)) ≡ true) [
             | inl before ↦
                 ap (is_listed (number_by (pick_of a j) n)) all
@@ -122,37 +138,23 @@ module _ {M : Type 0} (K : KindOf M) (plan : Plan) (n : Device) (mix : Mix) wher
         numbers = lists;
       }
 
-  -- ---- by number
-
-  pub TriesImages-none : (row : Row) → TriesImages K plan n mix [] row row
-  TriesImages-none row = record { tries = []; has = HasTried-none row; are = refl }
-
-  -- one image more
-  pub TriesImages-on : (images : List (List Block)) (g : List Block) (number : ℕ) (old mid new : Row) → TriesImages K plan n mix images old mid
-      → (one : NotesNumber K plan n mix number mid new) → one.one.image ≡ g → TriesImages K plan n mix (images ++ g ∷ []) old new
-  TriesImages-on images g number old mid new h one is = record {
-    tries = h.tries ++ one.one ∷ [];
-    has = HasTried-then h.tries (one.one ∷ []) old mid new h.has one.has;
-    are = map-append (λ (t : Try). t.image) h.tries (one.one ∷ []) ∙ ap (λ l. l ++ one.one.image ∷ []) h.are ∙ ap (λ b. images ++ b ∷ []) is;
-  }
-
   -- ---- what is asked for
 
-  pub asked-all : (a : Asked) (old new : Row) → wants a.all (places_of n) ≡ true → TriesImages K plan n mix (crash_images n) old new
+  pub asked-all : (a : Asked) (old new : Row) → wants a.all (places_of n) ≡ true → TriesImages K a.compared plan n mix (crash_images n) old new
       → TriesAsked K plan n mix a old new
   asked-all a old new e h =
-      subst (λ t. MatchBool t (TriesImages K plan n mix (crash_images n) old new) (TriesPicks K plan n mix a (picks_of a) old new)) (sym e) h
+      subst (λ t. MatchBool t (TriesImages K a.compared plan n mix (crash_images n) old new) (TriesPicks K plan n mix a (picks_of a) old new)) (sym e) h
 
   pub asked-picks : (a : Asked) (old new : Row) → wants a.all (places_of n) ≡ false → TriesPicks K plan n mix a (picks_of a) old new
       → TriesAsked K plan n mix a old new
   asked-picks a old new e h =
-      subst (λ t. MatchBool t (TriesImages K plan n mix (crash_images n) old new) (TriesPicks K plan n mix a (picks_of a) old new)) (sym e) h
+      subst (λ t. MatchBool t (TriesImages K a.compared plan n mix (crash_images n) old new) (TriesPicks K plan n mix a (picks_of a) old new)) (sym e) h
 
   -- ---- a row that is extended, and the images of one
 
-  has-extended : (tries : List Try) (old row : Row) (cycle count : ℕ) → HasTried K plan n mix tries old row
-      → HasTried K plan n mix tries (record old { last = cycle }) (extended cycle count row)
-  has-extended tries old row cycle count h = record {
+  has-extended : (part : Part) (tries : List Try) (old row : Row) (cycle count : ℕ) → HasTried K part plan n mix tries old row
+      → HasTried K part plan n mix tries (record old { last = cycle }) (extended cycle count row)
+  has-extended part tries old row cycle count h = record {
     each = h.each;
     leads = h.leads;
     tried = h.tried;
@@ -169,12 +171,12 @@ module _ {M : Type 0} (K : KindOf M) (plan : Plan) (n : Device) (mix : Mix) wher
       let before : Row = record old { last = cycle } in
       let new : Row = extended cycle count row in
       (elim (wants a.all (places_of n))
-      as (λ t. MatchBool t (TriesImages K plan n mix (crash_images n) old row) (TriesPicks K plan n mix a (picks_of a) old row)
-      → MatchBool t (TriesImages K plan n mix (crash_images n) before new) (TriesPicks K plan n mix a (picks_of a) before new)) [
-        | true ↦ λ x. record { tries = x.tries; has = has-extended x.tries old row cycle count x.has; are = x.are }
+      as (λ t. MatchBool t (TriesImages K a.compared plan n mix (crash_images n) old row) (TriesPicks K plan n mix a (picks_of a) old row)
+      → MatchBool t (TriesImages K a.compared plan n mix (crash_images n) before new) (TriesPicks K plan n mix a (picks_of a) before new)) [
+        | true ↦ λ x. record { tries = x.tries; has = has-extended a.compared x.tries old row cycle count x.has; are = x.are }
         | false ↦ λ x. record {
           tries = x.tries;
-          has = has-extended x.tries old row cycle count x.has;
+          has = has-extended a.compared x.tries old row cycle count x.has;
           every = x.every;
           only = x.only;
           apart = x.apart;
@@ -182,11 +184,11 @@ module _ {M : Type 0} (K : KindOf M) (plan : Plan) (n : Device) (mix : Mix) wher
       ]) h
 
   -- they were tried
-  pub tried-of : (a : Asked) (old new : Row) → TriesAsked K plan n mix a old new → (tries : List Try) × HasTried K plan n mix tries old new
+  pub tried-of : (a : Asked) (old new : Row) → TriesAsked K plan n mix a old new → (tries : List Try) × HasTried K a.compared plan n mix tries old new
   tried-of a old new h =
       (elim (wants a.all (places_of n))
-      as (λ t. MatchBool t (TriesImages K plan n mix (crash_images n) old new) (TriesPicks K plan n mix a (picks_of a) old new)
-      → (tries : List Try) × HasTried K plan n mix tries old new) [
+      as (λ t. MatchBool t (TriesImages K a.compared plan n mix (crash_images n) old new) (TriesPicks K plan n mix a (picks_of a) old new)
+      → (tries : List Try) × HasTried K a.compared plan n mix tries old new) [
         | true ↦ λ x. (x.tries, x.has)
         | false ↦ λ x. (x.tries, x.has)
       ]) h

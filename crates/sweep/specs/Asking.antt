@@ -9,8 +9,8 @@ use Rattle.sweep.specs.declared.asked.Unasked.{Unasked}
 use Rattle.sweep.specs.declared.asked.Unasked.TheVariants.{Memory}
 use Rattle.sweep.specs.declared.asked.Name.{Name}
 use Rattle.sweep.specs.declared.asked.Name.TheVariants.{From, To, Step, Tears, All, Compare}
-use Rattle.sweep.specs.declared.compared.Compared.{Compared}
-use Rattle.sweep.specs.declared.compared.Compared.TheVariants.{State, Registers}
+use Rattle.thy_trial.specs.declared.part.Part.{Part}
+use Rattle.thy_trial.specs.declared.part.Part.TheVariants.{State, Processor}
 
 -- the texts that are given for options, and whether blocks may be torn
 pub record Texts : Type 0 where
@@ -125,10 +125,10 @@ picks_given (Some text) all = numbers_in text
 picks_given None (Some all) = []
 picks_given None None = 0 ∷ 1 ∷ 2 ∷ 3 ∷ []
 
--- what is compared: all of a state, if nothing else is asked for
-abbrev pub compared_given : Option (List ℕ) → Compared
+-- how much is compared: all of a state, if nothing else is asked for
+abbrev pub compared_given : Option (List ℕ) → Part
 compared_given None = State
-compared_given (Some text) = if bytes_eq text (codes "registers") then Registers else State
+compared_given (Some text) = if bytes_eq text (codes "registers") then Processor else State
 
 -- These texts ask for this. Without them it is after every cycle from the first one on.
 pub record IsAskedBy (t : Texts) (a : Asked) : Type 0 where

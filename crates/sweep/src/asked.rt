@@ -6,9 +6,9 @@ ghost use Rattle.sweep.specs.Findings.{has};
 ghost use Rattle.sweep.specs.Rows.{pick_of, picks_of};
 ghost use Rattle.sweep.specs.Sweeping.{ends_at};
 
-use crate::compared::Compared;
 use std::alloc::{AllocError, Global};
 use thy_arguments::{is_list, list_of, number};
+use thy_trial::Part;
 
 /// How many options there are.
 const OPTIONS: usize = 7;
@@ -31,8 +31,8 @@ pub struct Asked {
     pub all: u64,
     /// The run goes over an NVM whose blocks may be torn.
     pub torn: bool,
-    /// What of a state that is restored is compared.
-    pub compared: Compared,
+    /// How much of a state that is restored is compared.
+    pub compared: Part,
 }
 
 /// Why the options are refused.
@@ -241,15 +241,15 @@ fn picks_of(alloc: Global, tears: &Option<String>, all: Option<u64>) -> Result<V
     }
 }
 
-/// What is compared: all of a state, if nothing else is asked for.
-fn compared_of(compare: &Option<String>) -> Result<Compared, Unasked>
+/// How much is compared: all of a state, if nothing else is asked for.
+fn compared_of(compare: &Option<String>) -> Result<Part, Unasked>
     ensures compared { IfOk result (λ c. c ≡ compared_given (option_map string_bytes compare.now)) }
     ensures known { OnOk result (is_word_known (option_map string_bytes compare.now) ≡ true) }
     ensures unknown { OnErr result (is_word_known (option_map string_bytes compare.now) ≡ false) }
 {
     match compare {
-        None => Ok(Compared::State),
-        Some(text) if text.as_str() == "registers" => Ok(Compared::Registers),
+        None => Ok(Part::State),
+        Some(text) if text.as_str() == "registers" => Ok(Part::Processor),
         Some(_) => Err(Unasked::Word("compare")),
     }
 }

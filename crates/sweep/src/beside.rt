@@ -1,47 +1,31 @@
 //! The plain machine that runs beside the run, and the states that it had at the two checkpoints that a cut can lead to.
 ghost use Rattle.std.specs.Prelude.{◌≡◌, ◌≤◌, true, None, IfOk, OnOk};
 ghost use Rattle.thy_isa.specs.Step.{state_of};
+ghost use Rattle.thy_trial.specs.Trials.{IsReadOf};
 ghost use Rattle.sweep.specs.Findings.{IsBeside, IsSealed, RunsTo, committed};
 
-use crate::compared::Compared;
+use crate::compared::{are_same, part_of};
 use std::alloc::{AllocError, Global};
 use thy_base::Geometry;
-use thy_isa::MachState;
 use thy_layout::Start;
 use thy_plain::Plain;
 use thy_text::Event;
+use thy_trial::{Part, Restored};
 
 /// A run counts fewer instructions than this.
 const MANY: u64 = 1 << 62;
 
-/// The plain machine, at the count of the latest seal; its states at the counts of two checkpoints; and what of a state is compared.
+/// The plain machine, at the count of the latest seal; its states at the counts of two checkpoints, as much of them as is compared; and
+/// how much that is.
 #[derive(Drop)]
 pub struct Beside {
     plain: Plain,
-    /// What of a state is compared.
-    compared: Compared,
+    /// How much of a state is compared.
+    compared: Part,
     /// The state of the committed checkpoint, or the start.
-    done: MachState,
+    done: Restored,
     /// The state of the checkpoint under way, if there is one.
-    sealed: Option<MachState>,
-}
-
-/// A copy of a state.
-fn copy_of(alloc: Global, state: &MachState) -> Result<MachState, AllocError>
-    ensures { IfOk result (λ s. state_of s ≡ state_of state.now) }
-{
-    Ok(MachState {
-        pc: state.pc,
-        regs: state.regs,
-        memory: state.memory.duplicate(alloc)?,
-        console: state.console.duplicate(alloc)?,
-        cursor: state.cursor,
-        brk: state.brk,
-        floor: state.floor,
-        count: state.count,
-        status: state.status,
-        other: state.other,
-    })
+    sealed: Option<Restored>,
 }
 
 /// Steps a plain machine with one hart to a count.
@@ -82,21 +66,34 @@ fn step_by(plain: &mut Plain, turns: &[u8]) {
     }
 }
 
+/// What is read of the plain machine: as much as is compared. For the processor nothing is allocated.
+fn read_of(alloc: Global, part: Part, plain: &Plain) -> Result<Restored, AllocError>
+    ensures { IfOk result (IsReadOf plain.now.state part) }
+{
+    match part {
+        Part::State => {
+            let state = plain.state(alloc)?;
+            Ok(Restored::State(state))
+        }
+        Part::Processor => Ok(Restored::Processor(plain.cpu(0))),
+    }
+}
+
 impl Beside {
     /// The plain machine at the start of a run.
     pub fn new(
         alloc: Global,
         start: &Start,
         geometry: &Geometry,
-        compared: Compared,
+        compared: Part,
     ) -> Result<Beside, AllocError>
         ensures compared { IfOk result (λ beside. beside.compared ≡ compared) }
-        ensures done { IfOk result (λ beside. state_of beside.done ≡ state_of start.now.state) }
+        ensures done { IfOk result (λ beside. IsReadOf (state_of start.now.state) compared beside.done) }
         ensures sealed { IfOk result (λ beside. beside.sealed ≡ None) }
     {
         let input = start.input.duplicate(alloc)?;
         let plain = Plain::in_state(alloc, &start.state, geometry, input)?;
-        let done = copy_of(alloc, &start.state)?;
+        let done = part_of(alloc, compared, &start.state)?;
         Ok(Beside {
             plain,
             compared,
@@ -116,7 +113,7 @@ impl Beside {
         } else {
             step_by(&mut self.plain, turns);
         }
-        let state = self.plain.state(alloc)?;
+        let state = read_of(alloc, self.compared, &self.plain)?;
         self.sealed = Some(state);
         Ok(())
     }
@@ -152,14 +149,14 @@ impl Beside {
     }
 
     /// Whether the plain machine has this state at the count of a checkpoint that a cut can lead to.
-    pub fn has(&self, state: &MachState) -> bool
+    pub fn has(&self, state: &Restored) -> bool
         ensures { result ≡ true → IsBeside self.now state.now }
     {
-        if self.compared.are_same(&self.done, state) {
+        if are_same(self.compared, &self.done, state) {
             return true;
         }
         match &self.sealed {
-            Some(sealed) => self.compared.are_same(sealed, state),
+            Some(sealed) => are_same(self.compared, sealed, state),
             None => false,
         }
     }

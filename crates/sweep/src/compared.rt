@@ -1,22 +1,47 @@
-//! What of two states is compared, and whether they are the same in that.
-ghost use Rattle.std.specs.Prelude.{◌≡◌, true};
-ghost use Rattle.thy_isa.specs.Step.{cpu_of, state_of};
-ghost use Rattle.thy_view.specs.Kind.{without_memory};
-ghost use Rattle.sweep.specs.Findings.{part_of};
+//! The part of a state that is compared, and whether two states have the same one.
+ghost use Rattle.std.specs.Prelude.{◌≡◌, true, IfOk};
+ghost use Rattle.thy_isa.specs.Step.{state_of};
+ghost use Rattle.thy_trial.specs.Trials.{IsReadOf};
+ghost use Rattle.thy_trial.specs.declared.part.Part.TheVariants.{State as Whole, Processor};
+ghost use Rattle.sweep.specs.Findings.{AreSame, IsProcessor, IsState};
 
+use std::alloc::{AllocError, Global};
 use thy_isa::{CpuState, MachState};
+use thy_trial::{Part, Restored};
 
-/// What of a state is compared.
-#[derive(Clone, Copy, Debug, PartialEq, Eq)]
-pub enum Compared {
-    /// All of it.
-    State,
-    /// All but memory and console.
-    Registers,
+/// A copy of a state.
+fn copy_of(alloc: Global, state: &MachState) -> Result<MachState, AllocError>
+    ensures { IfOk result (λ s. state_of s ≡ state_of state.now) }
+{
+    Ok(MachState {
+        pc: state.pc,
+        regs: state.regs,
+        memory: state.memory.duplicate(alloc)?,
+        console: state.console.duplicate(alloc)?,
+        cursor: state.cursor,
+        brk: state.brk,
+        floor: state.floor,
+        count: state.count,
+        status: state.status,
+        other: state.other,
+    })
+}
+
+/// A copy of this part of a state. For the processor nothing is allocated.
+pub fn part_of(alloc: Global, part: Part, state: &MachState) -> Result<Restored, AllocError>
+    ensures { IfOk result (IsReadOf (state_of state.now) part) }
+{
+    match part {
+        Part::State => {
+            let copy = copy_of(alloc, state)?;
+            Ok(Restored::State(copy))
+        }
+        Part::Processor => Ok(Restored::Processor(state.cpu())),
+    }
 }
 
 /// Whether two lists of bytes are the same.
-fn are_same(a: &[u8], b: &[u8]) -> bool
+fn are_same_bytes(a: &[u8], b: &[u8]) -> bool
     ensures { result ≡ true → a.now ≡ b.now }
 {
     a == b
@@ -37,37 +62,59 @@ fn is_same_state(a: &MachState, b: &MachState) -> bool
     if !same_cpu {
         return false;
     }
-    let same_console = are_same(a.console.as_slice(), b.console.as_slice());
+    let same_console = are_same_bytes(a.console.as_slice(), b.console.as_slice());
     if !same_console {
         return false;
     }
-    are_same(a.memory.as_slice(), b.memory.as_slice())
+    are_same_bytes(a.memory.as_slice(), b.memory.as_slice())
 }
 
-/// The processor of a state that has no console.
-fn registers_of(state: &MachState) -> CpuState
-    ensures { result ≡ cpu_of (without_memory (state_of state.now)) }
+/// Whether this whole state was read.
+fn is_state(state: &MachState, read: &Restored) -> bool
+    ensures { result ≡ true → IsState (state_of state.now) read.now }
 {
-    let mut cpu = state.cpu();
-    cpu.console_len = 0;
-    cpu
+    match read {
+        Restored::State(read) => is_same_state(state, read),
+        Restored::Processor(_) => false,
+    }
 }
 
-/// Whether two states are the same, but for their memories and consoles.
-fn has_same_registers(a: &MachState, b: &MachState) -> bool
-    ensures { result ≡ true → without_memory (state_of a.now) ≡ without_memory (state_of b.now) }
+/// Whether this processor was read.
+fn is_processor(cpu: &CpuState, read: &Restored) -> bool
+    ensures { result ≡ true → IsProcessor cpu.now read.now }
 {
-    is_same_cpu(&registers_of(a), &registers_of(b))
+    match read {
+        Restored::State(_) => false,
+        Restored::Processor(read) => is_same_cpu(cpu, read),
+    }
 }
 
-impl Compared {
-    /// Whether two states are the same in what is compared.
-    pub fn are_same(self, a: &MachState, b: &MachState) -> bool
-        ensures { result ≡ true → part_of self (state_of a.now) ≡ part_of self (state_of b.now) }
-    {
-        match self {
-            Compared::State => is_same_state(a, b),
-            Compared::Registers => has_same_registers(a, b),
-        }
+/// Whether the whole of two states was read, and is the same.
+fn are_same_states(a: &Restored, b: &Restored) -> bool
+    ensures { result ≡ true → AreSame Whole a.now b.now }
+{
+    match a {
+        Restored::State(state) => is_state(state, b),
+        Restored::Processor(_) => false,
+    }
+}
+
+/// Whether the processors of two states were read alone, and are the same.
+fn are_same_processors(a: &Restored, b: &Restored) -> bool
+    ensures { result ≡ true → AreSame Processor a.now b.now }
+{
+    match a {
+        Restored::State(_) => false,
+        Restored::Processor(cpu) => is_processor(cpu, b),
+    }
+}
+
+/// Whether this part of two states was read, and is the same.
+pub fn are_same(part: Part, a: &Restored, b: &Restored) -> bool
+    ensures { result ≡ true → AreSame part a.now b.now }
+{
+    match part {
+        Part::State => are_same_states(a, b),
+        Part::Processor => are_same_processors(a, b),
     }
 }

@@ -13,7 +13,6 @@ ghost use Rattle.thy_trial.specs.Rooms.{HasRoomFor};
 use crate::account::{Account, Last};
 use crate::asked::Asked;
 use crate::beside::Beside;
-use crate::compared::Compared;
 use crate::row::Row;
 use crate::trying::try_cycle;
 use std::alloc::{AllocError, Global};
@@ -22,7 +21,7 @@ use thy_isa::Status;
 use thy_nvm::MemNvm;
 use thy_run::{Ending, Plan, Progress, SingleCycle, Stop, begin, end, single};
 use thy_text::{Event, Events};
-use thy_trial::Room;
+use thy_trial::{Part, Room};
 use thy_view::{Computer, CoreError, Did};
 
 /// What is known of a run in addition to its machine.
@@ -60,8 +59,8 @@ fn counted(count: u64, start: u64, did: Did) -> u64
 }
 
 impl Watch {
-    /// Before the first cycle of a plan's run, of which this is compared.
-    pub fn new(alloc: Global, plan: &Plan, compared: Compared) -> Result<Watch, AllocError>
+    /// Before the first cycle of a plan's run, of whose states this is compared.
+    pub fn new(alloc: Global, plan: &Plan, compared: Part) -> Result<Watch, AllocError>
         ensures compared { IfOk result (λ watch. watch.beside.compared ≡ compared) }
         ensures current { IfOk result (λ watch. watch.account.current ≡ None) }
         ensures unkept { IfOk result (λ watch. watch.account.kept.changed ≡ true) }

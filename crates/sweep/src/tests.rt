@@ -1,7 +1,7 @@
 //! Calls over memory: what is put under OUT. The numbers were worked out by hand from the rules of the controller.
 
 use crate::asked::take_asked;
-use crate::compared::Compared;
+use crate::compared::{are_same, part_of};
 use crate::concluding::refuse_asked;
 use crate::top::sweep;
 use std::alloc::Global;
@@ -10,6 +10,7 @@ use thy_base::{Bytes, Shelf};
 use thy_isa::{MachState, Regs, Status};
 use thy_nvm::MemNvm;
 use thy_out::{MemShelf, MemSink};
+use thy_trial::{Part, Restored};
 
 /// A program file of three instructions at the address 65536: `addi a7,zero,93; addi a0,zero,7; ecall`.
 static EXIT_SEVEN: [u8; 132] = [
@@ -239,32 +240,80 @@ fn state_with(rt: &impl Abort, alloc: Global, memory: &[u8], console: &[u8], pc:
     }
 }
 
-/// Compares a state with another one, in all of it and in its registers.
+/// This part of a state.
+fn read(rt: &impl Abort, alloc: Global, part: Part, state: &MachState) -> Restored {
+    part_of(alloc, part, state).expect(rt, "memory")
+}
+
+/// Compares a state with another one, in all of it and in its processor.
 fn compare(
     rt: &impl Abort,
+    alloc: Global,
     one: &MachState,
     other: &MachState,
     states: bool,
-    registers: bool,
+    processors: bool,
     at: &str,
 ) {
-    check(rt, Compared::State.are_same(one, other) == states, at);
+    let state = read(rt, alloc, Part::State, one);
+    let processor = read(rt, alloc, Part::Processor, one);
+    let others_state = read(rt, alloc, Part::State, other);
+    let others_processor = read(rt, alloc, Part::Processor, other);
     check(
         rt,
-        Compared::Registers.are_same(one, other) == registers,
+        are_same(Part::State, &state, &others_state) == states,
+        at,
+    );
+    check(
+        rt,
+        are_same(Part::Processor, &processor, &others_processor) == processors,
+        at,
+    );
+    check(
+        rt,
+        !are_same(Part::State, &processor, &others_processor),
+        at,
+    );
+    check(rt, !are_same(Part::State, &state, &others_processor), at);
+    check(
+        rt,
+        !are_same(Part::Processor, &processor, &others_state),
         at,
     );
 }
 
 #[test]
-fn registers_are_compared_without_memory_and_console(rt: HostRuntime) {
+fn processors_are_compared_without_memory_and_what_the_console_shows(rt: HostRuntime) {
     let alloc = rt.alloc();
     let state = state_with(&rt, alloc, &[1, 2], &[3], 4);
     let memory = state_with(&rt, alloc, &[1, 5], &[3], 4);
-    let console = state_with(&rt, alloc, &[1, 2], &[3, 6], 4);
+    let console = state_with(&rt, alloc, &[1, 2], &[6], 4);
+    let longer = state_with(&rt, alloc, &[1, 2], &[3, 6], 4);
     let pc = state_with(&rt, alloc, &[1, 2], &[3], 8);
-    compare(&rt, &state, &state, true, true, "the same");
-    compare(&rt, &state, &memory, false, true, "memory");
-    compare(&rt, &state, &console, false, true, "console");
-    compare(&rt, &state, &pc, false, false, "pc");
+    compare(&rt, alloc, &state, &state, true, true, "the same");
+    compare(&rt, alloc, &state, &memory, false, true, "memory");
+    compare(&rt, alloc, &state, &console, false, true, "console");
+    compare(&rt, alloc, &state, &longer, false, false, "its length");
+    compare(&rt, alloc, &state, &pc, false, false, "pc");
+}
+
+#[test]
+fn without_memory_the_text_is_the_same(rt: HostRuntime) {
+    let whole = called(
+        &rt,
+        rt.alloc(),
+        "sweep --from 680 run F --pages 8 --btt 8 --ptt 8",
+    );
+    let processor = called(
+        &rt,
+        rt.alloc(),
+        "sweep --from 680 --compare registers run F --pages 8 --btt 8 --ptt 8",
+    );
+    check(&rt, whole.is_put && processor.is_put, "both are put");
+    check(
+        &rt,
+        whole.put.as_slice() == processor.put.as_slice(),
+        "the text",
+    );
+    check(&rt, whole.status == processor.status, "the status");
 }

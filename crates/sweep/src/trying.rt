@@ -16,7 +16,7 @@ use thy_base::Mix;
 use thy_nvm::MemNvm;
 use thy_run::Plan;
 use thy_sweep::{Booted, Choices, note_boot};
-use thy_trial::{Found, PickTrial, Room, Trial, try_number, try_pick};
+use thy_trial::{Found, Part, PickTrial, Room, Trial, try_number, try_pick};
 use thy_view::{Computer, CoreError};
 
 /// The most cycles of a boot, as of a run.
@@ -84,7 +84,7 @@ fn note(found: &Found, name: Name, beside: &Beside, row: &mut Row) -> Result<(),
     }
 }
 
-/// Tries the image of a pick, unless it was tried in this cycle already, and notes it.
+/// Tries the image of a pick, unless it was tried in this cycle already, and notes it. Of a state that is restored this part is read.
 fn note_pick<M: Computer>(
     alloc: Global,
     plan: &Plan,
@@ -92,6 +92,7 @@ fn note_pick<M: Computer>(
     choices: &Choices,
     numbers: &mut Vec<u128>,
     pick: u64,
+    part: Part,
     mix: &Mix,
     beside: &Beside,
     row: &mut Row,
@@ -103,9 +104,11 @@ fn note_pick<M: Computer>(
     ensures room { IfOk result (HasRoomFor plan.now nvm.now.device) }
     ensures tried { let before = numbers.old.items in
         let after = numbers.new.items in
-        OnOk result (NotesPick M.kind plan.now nvm.now.device mix.now pick before after row.old row.new) }
+        OnOk result (NotesPick M.kind part plan.now nvm.now.device mix.now pick before after row.old row.new) }
 {
-    let trial = try_pick::<M>(alloc, plan, room, choices, numbers, pick, *mix, MOST, nvm)?;
+    let trial = try_pick::<M>(
+        alloc, plan, room, choices, numbers, pick, part, *mix, MOST, nvm,
+    )?;
     let PickTrial { found, room } = trial;
     match found {
         None => Ok(room),
@@ -146,6 +149,7 @@ fn try_picks<M: Computer>(
             choices,
             &mut numbers,
             pick,
+            asked.compared,
             mix,
             beside,
             row,
@@ -155,7 +159,7 @@ fn try_picks<M: Computer>(
     Ok(room)
 }
 
-/// Tries the image of a number, of the `count` images that there are, and notes it.
+/// Tries the image of a number, of the `count` images that there are, and notes it, as `note_pick` does.
 fn note_number<M: Computer>(
     alloc: Global,
     plan: &Plan,
@@ -163,6 +167,7 @@ fn note_number<M: Computer>(
     choices: &Choices,
     count: u64,
     number: u64,
+    part: Part,
     mix: &Mix,
     beside: &Beside,
     row: &mut Row,
@@ -174,9 +179,11 @@ fn note_number<M: Computer>(
     requires count { count ≡ count_of choices.now }
     requires number { number < count }
     ensures room { IfOk result (HasRoomFor plan.now nvm.now.device) }
-    ensures tried { OnOk result (NotesNumber M.kind plan.now nvm.now.device mix.now number row.old row.new) }
+    ensures tried { OnOk result (NotesNumber M.kind part plan.now nvm.now.device mix.now number row.old row.new) }
 {
-    let trial = try_number::<M>(alloc, plan, room, choices, count, number, *mix, MOST, nvm)?;
+    let trial = try_number::<M>(
+        alloc, plan, room, choices, count, number, part, *mix, MOST, nvm,
+    )?;
     let Trial { found, room } = trial;
     match note(&found, Name::Number(number), beside, row) {
         Ok(()) => Ok(room),
@@ -191,6 +198,7 @@ fn try_all<M: Computer>(
     room: Room,
     choices: &Choices,
     count: u64,
+    part: Part,
     mix: &Mix,
     beside: &Beside,
     row: &mut Row,
@@ -202,12 +210,12 @@ fn try_all<M: Computer>(
     requires count { count ≡ count_of choices.now }
     ensures room { IfOk result (HasRoomFor plan.now nvm.now.device) }
     ensures tried { let n = nvm.now.device in
-        OnOk result (TriesImages M.kind plan.now n mix.now (crash_images n) row.old row.new) }
+        OnOk result (TriesImages M.kind part plan.now n mix.now (crash_images n) row.old row.new) }
 {
     let mut room = room;
     for number in 0..count {
         room = note_number::<M>(
-            alloc, plan, room, choices, count, number, mix, beside, row, nvm,
+            alloc, plan, room, choices, count, number, part, mix, beside, row, nvm,
         )?;
     }
     Ok(room)
@@ -262,7 +270,20 @@ pub fn try_cycle<M: Computer>(
     let images = choices.count();
     row.images = images;
     match count_for(&choices, asked.all) {
-        Some(count) => { try_all::<M>(alloc, plan, room, &choices, count, &mix, beside, row, nvm) }
+        Some(count) => {
+            try_all::<M>(
+                alloc,
+                plan,
+                room,
+                &choices,
+                count,
+                asked.compared,
+                &mix,
+                beside,
+                row,
+                nvm,
+            )
+        }
         None => try_picks::<M>(alloc, plan, room, &choices, asked, &mix, beside, row, nvm),
     }
 }

@@ -11,7 +11,7 @@ use Rattle.thy_block.specs.Device.{Device}
 use Rattle.thy_block.specs.Geometry.{program_size, console_room}
 use Rattle.thy_block.specs.Flat.{flat, console_bytes}
 use Rattle.thy_block.proofs.FlatLemmas.{flat-take}
-use Rattle.thy_block.proofs.MemoryLaws.{room_inside}
+use Rattle.thy_block.proofs.MemoryLaws.{room_inside, length-console_bytes}
 use Rattle.thy_hart.specs.declared.hand.Hand.TheVariants.{Nothing}
 use Rattle.thy_hart.specs.HartState.{HartState, has_written}
 use Rattle.thy_hart.specs.Laws.{IsSized}
@@ -19,12 +19,12 @@ use Rattle.thy_hart.specs.OneStep.{current}
 use Rattle.thy_isa.specs.declared.state.CpuState.{CpuState}
 use Rattle.thy_isa.specs.declared.state.MachState.{MachState}
 use Rattle.thy_isa.specs.OnBlocks.{state_from}
-use Rattle.thy_isa.specs.Step.{State, state_of, state_with, fronted}
+use Rattle.thy_isa.specs.Step.{State, cpu_of, state_of, state_with, fronted}
 use Rattle.thy_view.specs.declared.error.CoreError.{CoreError}
 use Rattle.thy_view.specs.declared.view.Phase.{Phase}
 use Rattle.thy_view.specs.declared.view.Phase.TheVariants.{Boot, Run, Halt}
 use Rattle.thy_view.specs.declared.view.View.{View}
-use Rattle.thy_view.specs.Kind.{CanRead, CanSnapshot, IsSnapshot, Snapshots, without_memory, IsProcessor}
+use Rattle.thy_view.specs.Kind.{CanRead, CanSnapshot, IsSnapshot, Snapshots, ShowsProcessor, without_memory, IsProcessor}
 use Rattle.thy_view.specs.Origin.{Origin, at}
 use Rattle.thy_view.specs.NextActor.{front_of}
 use Rattle.thy_view.specs.Views.{is_boot, is_halt, is_between}
@@ -160,6 +160,15 @@ reads_between K l m n r reads = λ o k at between.
     let s = sound-here K o k m n at in
     reads o k s (unwritten_in K l o k m n m.phase s refl between)
 
+-- if none has written a block, hart and memory make the plain machine's state
+current_is : {S : Type 0} (K : SchemeOf S) (o : Origin) (k : ℕ) (m : Machine S) (n : Device) → Sound K o k m n
+    → ((m.phase ≡ Run) ⊎ (m.phase ≡ Halt)) → IsUnwritten m → current (hart_put_back m) (memory_of K m n) ≡ at o m.hart.cpu.count
+current_is K o k m n sound e calm =
+    let run = sound-behind K o k m n sound e in
+    current_fronted (front_of m.begun) m.hart (memory_of K m n)
+    ∙ ap (fronted (front_of m.begun)) (run.follows.current calm.unwritten)
+    ∙ fronted-twice (front_of m.begun) (at o m.hart.cpu.count)
+
 -- if none has written a block, what was read is the plain machine's state
 pub snapshot_is : {S : Type 0} (K : SchemeOf S) (o : Origin) (k : ℕ) (m : Machine S) (n : Device) (s : MachState) → Sound K o k m n
     → ((m.phase ≡ Run) ⊎ (m.phase ≡ Halt)) → IsUnwritten m → state_of s ≡ current (hart_put_back m) (memory_of K m n)
@@ -167,10 +176,7 @@ pub snapshot_is : {S : Type 0} (K : SchemeOf S) (o : Origin) (k : ℕ) (m : Mach
 snapshot_is K o k m n s sound e calm is =
     let run = sound-behind K o k m n sound e in
     let shown = view-behind K o m n e in
-    let now : state_of s ≡ at o m.hart.cpu.count = is
-    ∙ current_fronted (front_of m.begun) m.hart (memory_of K m n)
-    ∙ ap (fronted (front_of m.begun)) (run.follows.current calm.unwritten)
-    ∙ fronted-twice (front_of m.begun) (at o m.hart.cpu.count) in
+    let now : state_of s ≡ at o m.hart.cpu.count = is ∙ current_is K o k m n sound e calm in
     subst (λ v. IsSnapshot o v s) (sym shown) (record {
       state = now;
       count = ap (λ (t : State). t.count) now ∙ run.counted.count;
@@ -182,6 +188,34 @@ pub snapshot_when : {S : Type 0} (K : SchemeOf S) (o : Origin) (k : ℕ) (m : Ma
     → IfOk r (λ s. IsSnapshot o (view_of K o m n) s)
 snapshot_when K o k m n (Ok s) sound e calm is = snapshot_is K o k m n s sound e calm is
 snapshot_when K o k m n (Err error) sound e calm is = tt
+
+-- ---- the processor
+
+-- the processor of the state that hart and memory make is the hart's
+cpu_current : (h : HartState) (blocks : List Block) → IsSized h blocks → cpu_of (current h blocks) ≡ h.cpu
+unfolding current state_from
+cpu_current h blocks s =
+    let len : length (console_bytes h.geometry blocks h.cpu.console_len) ≡ h.cpu.console_len = length-console_bytes h.geometry blocks h.cpu.console_len s.range s.blocks s.console in
+    ap (λ (len : ℕ). record h.cpu { console_len = len }) len
+
+-- the boot is over
+behind : (phase : Phase) → is_boot phase ≡ false → (phase ≡ Run) ⊎ (phase ≡ Halt)
+behind Boot over = absurd (cc)
+behind Run over = inl refl
+behind Halt over = inr refl
+
+-- between two instructions it is the processor of the plain machine's state
+pub processor_shown : {S : Type 0} (K : SchemeOf S) (l : IsLawful K) (m : Machine S) (cpu : CpuState) → cpu ≡ processor_of m
+    → ShowsProcessor (kind_over K) m cpu
+processor_shown K l m cpu is = λ o k n at_moment between.
+    let s : Sound K o k m n = sound-here K o k m n at_moment in
+    let calm : IsUnwritten m = unwritten_in K l o k m n m.phase s refl between in
+    let e = behind m.phase calm.booted in
+    let sized : IsSized (hart_put_back m) (memory_of K m n) = put_back_sized m (memory_of K m n) (sound-behind K o k m n s e).follows.sized in
+    is
+    ∙ sym (cpu_current (hart_put_back m) (memory_of K m n) sized)
+    ∙ ap cpu_of (current_is K o k m n s e calm)
+    ∙ ap (λ (v : View). cpu_of (at o v.count)) (sym (view-behind K o m n e))
 
 -- ---- the committed checkpoint's console
 

@@ -4,7 +4,7 @@ use crate::Machine;
 use std::alloc::{AllocError, Global};
 use thy_block::{Bytes, Geometry, Nvm, NvmError, Pick};
 use thy_dram::Dram;
-use thy_isa::MachState;
+use thy_isa::{CpuState, MachState};
 use thy_layout::Start;
 use thy_scheme::Scheme;
 use thy_view::{Advance, Computer, CoreError, Row, Stepped};
@@ -67,6 +67,10 @@ impl<S: Scheme> Computer for Machine<S> {
 
     fn snapshot<N: Nvm>(&self, alloc: Global, nvm: &mut N) -> Result<MachState, CoreError> {
         self.snapshot(alloc, nvm)
+    }
+
+    fn processor(&self) -> CpuState {
+        self.processor()
     }
 
     fn console<N: Nvm>(&self, alloc: Global, from: u64, nvm: &mut N) -> Result<Bytes, CoreError> {

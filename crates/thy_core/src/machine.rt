@@ -8,6 +8,7 @@ ghost use Rattle.thy_view.specs.Kind.{CanStep, CanRead, CanSnapshot, Simulates, 
 ghost use Rattle.thy_view.specs.Origin.{Origin};
 ghost use Rattle.thy_isa.specs.Step.{zero_cpu};
 ghost use Rattle.thy_scheme.specs.Kind.{kind_over};
+ghost use Rattle.thy_scheme.specs.Machine.{processor_of};
 ghost use Rattle.thy_scheme.specs.Sound.{IsAt, SoundStopped, IsPowered};
 ghost use Rattle.thy_core.specs.Reading.{ReadsBare, ReadsState, ShowsNone};
 
@@ -19,7 +20,7 @@ use std::alloc::{AllocError, Global};
 use std::marker::Model;
 use thy_block::{Bytes, Geometry, Nvm, NvmError, Pick};
 use thy_dram::Dram;
-use thy_isa::MachState;
+use thy_isa::{CpuState, MachState};
 use thy_layout::Start;
 use thy_scheme::Scheme;
 use thy_view::{Advance, CoreError, Row, Stepped};
@@ -191,6 +192,13 @@ impl<S: Scheme> Machine<S> {
         ensures frame { IsFramed (N.device nvm.old) (N.device nvm.new) }
     {
         snapshot::snapshot(alloc, &self.parts, nvm)
+    }
+
+    /// The processor from before the instruction under way, if there is one, with hart 0 in front. Nothing is read.
+    pub fn processor(&self) -> CpuState
+        ensures { result ≡ processor_of self.now }
+    {
+        snapshot::processor(&self.parts)
     }
 
     /// Once the boot is over, the console of the committed checkpoint from byte `from` on, also if the hart has

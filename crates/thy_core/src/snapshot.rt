@@ -57,7 +57,7 @@ fn fronted(hart: u8, cpu: &CpuState) -> CpuState
 }
 
 /// The processor with hart 0 in front.
-fn processor<S>(m: &MachineParts<S>) -> CpuState
+pub(crate) fn processor<S>(m: &MachineParts<S>) -> CpuState
     ensures { result ≡ processor_of (machine_of m.now) }
 {
     match m.begun {

@@ -12,6 +12,7 @@ mod journal;
 mod shadow;
 mod waiting;
 
+use crate::machine::by_scheme::shows_the_processor;
 use crate::support::expect::{expect, expect_at};
 use crate::support::starts::start_with;
 use std::alloc::Global;
@@ -408,6 +409,7 @@ fn stands<M: Computer>(
     let want = &plains[count as usize];
     let got = on.snapshot(rt, alloc);
     expect_at(rt, cpu_of(&got), want.cpu(0), at);
+    expect_at(rt, on.machine.processor(), want.cpu(0), at);
     let same_memory = got.memory.as_slice() == want.memory().as_slice();
     expect_at(rt, same_memory, true, at);
     let same_console = got.console.as_slice() == want.console().as_slice();
@@ -560,6 +562,11 @@ fn survives_once_loaded<M: Computer>(rt: &impl Abort, alloc: Global, row: &Row, 
             cut::<M>(rt, alloc, row, seed, &plains, &whole, at, pick);
         }
     }
+}
+
+#[test]
+fn the_processor_is_shown_at_start_and_end(rt: HostRuntime) {
+    shows_the_processor::<Machine<Thynvm>>(&rt, rt.alloc());
 }
 
 #[test]

@@ -1,45 +1,45 @@
 -- An image that was tried.
-use Rattle.std.proofs.Common.{◌≡◌, ℕ, zero, suc, ◌+◌, ◌≤◌, ◌==◌, ◌&&◌, ◌||◌, Bool, true, false, if◌then◌else◌, Option, Some, None, refl, sym, ◌∙◌, ap, subst, inl, inr}
+use Rattle.std.proofs.Common.{◌≡◌, ℕ, zero, suc, ◌+◌, ◌==◌, ◌&&◌, ◌||◌, true, false, if◌then◌else◌, Option, Some, None, refl, sym, ◌∙◌, ap, subst, inl, inr}
 use Rattle.std.specs.Prelude.{not, is_some}
 use Rattle.thy_block.specs.declared.mark.Mark.{Mark}
 use Rattle.thy_block.specs.Device.{Device}
 use Rattle.thy_block.specs.Marks.{mark}
-use Rattle.thy_isa.specs.declared.state.MachState.{MachState}
-use Rattle.thy_isa.specs.Step.{state_of}
 use Rattle.thy_run.specs.World.{World, TakesStep, line, seen}
 use Rattle.thy_run.proofs.StepAlong.{core_of}
 use Rattle.thy_sweep.specs.declared.lead.Booted.{Booted}
-use Rattle.thy_trial.specs.Trials.{IsCopied, IsBooted, IsUnended, BootsOn, BootsTo, BootsWithin, LeadsTo, IsRestored, Restores, IsLeftAt, IsLeftBy, has_restored}
+use Rattle.thy_trial.specs.declared.part.Part.{Part}
+use Rattle.thy_trial.specs.declared.part.Restored.{Restored}
+use Rattle.thy_trial.specs.Trials.{IsCopied, IsUnended, BootsOn, BootsTo, BootsWithin, LeadsTo, IsReadOf, IsRestored, Restores, IsLeftAt, IsLeftBy, has_restored}
 use Rattle.thy_view.specs.declared.did.Did.{Did}
 use Rattle.thy_view.specs.declared.did.Did.TheVariants.{Loaded, Restarted}
-use Rattle.thy_view.specs.declared.view.Phase.{Phase}
 use Rattle.thy_view.specs.declared.view.Phase.TheVariants.{Run, Halt}
 use Rattle.thy_view.specs.declared.view.View.{View}
 use Rattle.thy_view.specs.CoreStep.{CoreStep, phase_at}
 use Rattle.thy_view.specs.declared.error.CoreError.{CoreError}
 use Rattle.thy_view.specs.declared.error.CoreError.TheVariants.{Memory, Nvm as NvmFailed}
-use Rattle.thy_view.specs.Kind.{HasFailedToRead, KindOf, IsSnapshot}
+use Rattle.thy_view.specs.Kind.{HasFailedToRead, KindOf}
 use Rattle.thy_view.specs.Origin.{Origin, at, runs_at}
 use Rattle.thy_view.specs.Views.{is_between, is_boot, is_halt}
 
 -- ---- the state that is read
 
-none_at : (o : Origin) (m : Option Mark) → is_some m ≡ false → IsRestored o m None
-none_at o None none = refl
-none_at o (Some m) none = absurd (cc)
+none_at : (o : Origin) (part : Part) (m : Option Mark) → is_some m ≡ false → IsRestored o part m None
+none_at o part None none = refl
+none_at o part (Some m) none = absurd (cc)
 
-pub none_restored : (o : Origin) (b : Option Booted) → has_restored b ≡ false → Restores o b None
-none_restored o None none = refl
-none_restored o (Some b) none = none_at o b.mark none
+pub none_restored : (o : Origin) (part : Part) (b : Option Booted) → has_restored b ≡ false → Restores o part b None
+none_restored o part None none = refl
+none_restored o part (Some b) none = none_at o part b.mark none
 
-some_at : (o : Origin) (v : View) (m : Option Mark) (s : MachState) → is_some m ≡ true → IsLeftAt v m → (is_between v ≡ true → IsSnapshot o v s) → IsRestored o m (Some s)
-some_at o v None s some left reads = absurd (cc)
-some_at o v (Some m) s some left reads = (reads left.0).state ∙ ap (at o) left.1
+some_at : (o : Origin) (v : View) (part : Part) (m : Option Mark) (r : Restored) → is_some m ≡ true → IsLeftAt v m
+    → (is_between v ≡ true → IsReadOf (at o v.count) part r) → IsRestored o part m (Some r)
+some_at o v part None r some left reads = absurd (cc)
+some_at o v part (Some m) r some left reads = subst (λ (count : ℕ). IsReadOf (at o count) part r) left.1 (reads left.0)
 
-pub some_restored : (o : Origin) (v : View) (b : Option Booted) (s : MachState) → has_restored b ≡ true → IsLeftBy v b → (is_between v ≡ true → IsSnapshot o v s)
-    → Restores o b (Some s)
-some_restored o v None s some left reads = absurd (cc)
-some_restored o v (Some b) s some left reads = some_at o v b.mark s some left reads
+pub some_restored : (o : Origin) (v : View) (part : Part) (b : Option Booted) (r : Restored) → has_restored b ≡ true → IsLeftBy v b
+    → (is_between v ≡ true → IsReadOf (at o v.count) part r) → Restores o part b (Some r)
+some_restored o v part None r some left reads = absurd (cc)
+some_restored o v part (Some b) r some left reads = some_at o v part b.mark r some left reads
 
 -- reading that failed for memory has no fault
 pub no_fault : (e : CoreError) (old new : Device) → HasFailedToRead e old new → (e ≡ NvmFailed → ⊥) → new.faults ≡ old.faults
@@ -69,6 +69,7 @@ pub record LeavesAt {M : Type 0} (K : KindOf M) (o : Origin) (copy : World M) (n
   pub boots : BootsTo K o copy last most b
   pub at_moment : K.is_at (line o last) last.cycles next new
   pub left : IsLeftBy (K.view (line o last) next new) b
+  pub seen_left : IsLeftBy (seen K o last) b
 
 stepped_at : {M : Type 0} (K : KindOf M) (o : Origin) (before last : World M) → TakesStep K o before last → K.is_at (line o last) last.cycles last.machine last.device
 stepped_at {M = M} K o before last step =
@@ -99,9 +100,9 @@ module _ {M : Type 0} (K : KindOf M) (o : Origin) (pick : ℕ) (w copy : World M
   pub leaves_at : (b : Option Booted) → BootsWithin K o copy next new most b → LeavesAt K o copy next new most b
   leaves_at None (last, unended, machine, device) =
       let there = moved None last machine device (unended_at last unended) tt in
-      record { last = last; boots = unended; at_moment = there.0; left = there.1 }
+      record { last = last; boots = unended; at_moment = there.0; left = there.1; seen_left = tt }
   leaves_at (Some b) (last, booted, within, machine, device) =
       let left : IsLeftAt (seen K o last) b.mark =
       left_at (line o last) (seen K o booted.before) (seen K o last) booted.step.r.did b.mark (core_of K o booted.before last booted.step) booted.leads in
       let there = moved (Some b) last machine device (stepped_at K o booted.before last booted.step) left in
-      record { last = last; boots = (booted, within); at_moment = there.0; left = there.1 }
+      record { last = last; boots = (booted, within); at_moment = there.0; left = there.1; seen_left = left }

@@ -9,6 +9,7 @@ use Rattle.thy_run.specs.declared.plan.Plan.{Plan}
 use Rattle.thy_run.specs.Going.{origin_of}
 use Rattle.thy_run.specs.World.{World, line}
 use Rattle.thy_sweep.specs.Choices.{number_of, places_of}
+use Rattle.thy_trial.specs.declared.part.Part.{Part}
 use Rattle.thy_trial.specs.declared.room.Found.{Found}
 use Rattle.thy_trial.specs.declared.room.Room.{Room}
 use Rattle.thy_trial.specs.declared.room.Trial.{Trial}
@@ -34,22 +35,22 @@ abbrev pub CanTryOf : {M : Type 0} → KindOf M → Plan → Device → Mix → 
 CanTryOf {M = M} K plan n mix most = (w : World M) × IsRunAt K (origin_of plan) w n mix × FewBefore w most
 
 -- what it came to, from each run that is here, to try this image
-abbrev pub TriesOf : {M : Type 0} → KindOf M → Plan → ℕ → Device → List Block → Mix → ℕ → Result Trial CoreError → Type 0
-TriesOf {M = M} K plan pick n g mix most result =
+abbrev pub TriesOf : {M : Type 0} → KindOf M → Plan → ℕ → Part → Device → List Block → Mix → ℕ → Result Trial CoreError → Type 0
+TriesOf {M = M} K plan pick part n g mix most result =
     (w : World M) → IsRunAt K (origin_of plan) w n mix → FewBefore w most
-    → IfOk result (λ t. IsTried K (origin_of plan) pick g w most t.found.booted t.found.state)
+    → IfOk result (λ t. IsTried K (origin_of plan) pick part g w most t.found.booted t.found.state)
 
 -- or what a copy holds that may be left of its device
-abbrev pub TriesOver : {M : Type 0} → KindOf M → Plan → ℕ → Device → Mix → ℕ → Result Trial CoreError → Type 0
-TriesOver {M = M} K plan pick n mix most result =
+abbrev pub TriesOver : {M : Type 0} → KindOf M → Plan → ℕ → Part → Device → Mix → ℕ → Result Trial CoreError → Type 0
+TriesOver {M = M} K plan pick part n mix most result =
     (w : World M) → CanCopy K (origin_of plan) w n → w.mix ≡ mix → FewBefore w most
-    → IfOk result (λ t. IsTried K (origin_of plan) pick n.image w most t.found.booted t.found.state)
+    → IfOk result (λ t. IsTried K (origin_of plan) pick part n.image w most t.found.booted t.found.state)
 
 -- what it came to to try an image, unless it had been tried before
-abbrev pub TriesNew : {M : Type 0} → KindOf M → Plan → ℕ → Device → List Block → Mix → ℕ → Result PickTrial CoreError → Type 0
-TriesNew {M = M} K plan pick n g mix most result =
+abbrev pub TriesNew : {M : Type 0} → KindOf M → Plan → ℕ → Part → Device → List Block → Mix → ℕ → Result PickTrial CoreError → Type 0
+TriesNew {M = M} K plan pick part n g mix most result =
     (w : World M) → IsRunAt K (origin_of plan) w n mix → FewBefore w most
-    → IfOk result (λ t. IfSome t.found (λ f. IsTried K (origin_of plan) pick g w most f.booted f.state))
+    → IfOk result (λ t. IfSome t.found (λ f. IsTried K (origin_of plan) pick part g w most f.booted f.state))
 
 -- the number of an image among those that a cut can leave, as it is counted
 abbrev pub counted_at : Device → List Block → ℕ

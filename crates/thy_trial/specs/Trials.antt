@@ -14,9 +14,12 @@ use Rattle.thy_run.specs.World.{World, TakesStep, cut_off, line, seen, turns_kep
 use Rattle.thy_sweep.specs.declared.lead.Booted.{Booted}
 use Rattle.thy_trial.specs.declared.booting.BootEnd.{BootEnd}
 use Rattle.thy_trial.specs.declared.booting.BootEnd.TheVariants.{On, At as Ended, Refused as Never}
+use Rattle.thy_trial.specs.declared.part.Part.{Part}
+use Rattle.thy_trial.specs.declared.part.Part.TheVariants.{State as Whole, Processor}
+use Rattle.thy_trial.specs.declared.part.Restored.{Restored}
+use Rattle.thy_trial.specs.declared.part.Restored.TheVariants.{State as WholeState, Processor as Cpu}
 use Rattle.thy_trial.specs.declared.trial.Tried.{Tried}
-use Rattle.thy_isa.specs.declared.state.MachState.{MachState}
-use Rattle.thy_isa.specs.Step.{state_of}
+use Rattle.thy_isa.specs.Step.{State, cpu_of, state_of}
 use Rattle.thy_view.specs.declared.error.CoreError.{CoreError}
 use Rattle.thy_view.specs.declared.did.Did.{Did}
 use Rattle.thy_view.specs.declared.did.Did.TheVariants.{Loaded, Refused, Restarted}
@@ -144,16 +147,22 @@ BootsFrom {M = M} K plan m next n new mix most result =
 
 -- ---- an image that is tried
 
--- it is restored: the state is the plain machine's at the checkpoint's count
-abbrev pub IsRestored : Origin → Option Mark → Option MachState → Type 0
-IsRestored o None state = state ≡ None
-IsRestored o (Some m) None = ⊥
-IsRestored o (Some m) (Some state) = state_of state ≡ at o m.count
+-- this was read of a state, as much of it as was asked for
+abbrev pub IsReadOf : State → Part → Restored → Type 0
+IsReadOf s Whole (WholeState read) = state_of read ≡ s
+IsReadOf s Processor (Cpu read) = read ≡ cpu_of s
+IsReadOf s part read = ⊥
+
+-- it is restored: what was read is of the plain machine's state at the checkpoint's count
+abbrev pub IsRestored : Origin → Part → Option Mark → Option Restored → Type 0
+IsRestored o part None read = read ≡ None
+IsRestored o part (Some m) None = ⊥
+IsRestored o part (Some m) (Some read) = IsReadOf (at o m.count) part read
 
 -- what a boot that may be over restored
-abbrev pub Restores : Origin → Option Booted → Option MachState → Type 0
-Restores o None state = state ≡ None
-Restores o (Some b) state = IsRestored o b.mark state
+abbrev pub Restores : Origin → Part → Option Booted → Option Restored → Type 0
+Restores o part None read = read ≡ None
+Restores o part (Some b) read = IsRestored o part b.mark read
 
 -- whether it restored a checkpoint
 abbrev pub has_restored : Option Booted → Bool
@@ -169,32 +178,39 @@ abbrev pub IsLeftBy : View → Option Booted → Type 0
 IsLeftBy v None = Unit {0}
 IsLeftBy v (Some b) = IsLeftAt v b.mark
 
--- there, what is read is the state that was restored
-abbrev pub ReadsRestored : {M : Type 0} → KindOf M → M → Device → Option Booted → Result (Option MachState) CoreError → Type 0
-ReadsRestored K m n booted result =
-    (o : Origin) (k : ℕ) → K.is_at o k m n → IsLeftBy (K.view o m n) booted → IfOk result (Restores o booted)
+-- at a moment between two instructions, what is read is of the plain machine's state
+abbrev pub ReadsAs : {M : Type 0} → KindOf M → M → Device → Part → Result Restored CoreError → Type 0
+ReadsAs K m n part result =
+    (o : Origin) (k : ℕ) → K.is_at o k m n → is_between (K.view o m n) ≡ true → IfOk result (IsReadOf (at o (K.view o m n).count) part)
+
+-- where a boot left the machine, what is read is of the state that was restored
+abbrev pub ReadsRestored : {M : Type 0} → KindOf M → M → Device → Part → Option Booted → Result (Option Restored) CoreError → Type 0
+ReadsRestored K m n part booted result =
+    (o : Origin) (k : ℕ) → K.is_at o k m n → IsLeftBy (K.view o m n) booted → IfOk result (Restores o part booted)
 
 -- a boot that may be over: within a number of cycles, or it does not end
 abbrev pub BootsTo : {M : Type 0} → KindOf M → Origin → World M → World M → ℕ → Option Booted → Type 0
 BootsTo K o copy last most (Some b) = IsBooted K o copy last b × (b.cycles ≤ most)
 BootsTo K o copy last most None = IsUnended K o copy last most
 
--- an image was tried: power was cut and came on over it, and the machine booted
-pub record IsTried {M : Type 0} (K : KindOf M) (o : Origin) (pick : ℕ) (g : List Block) (w : World M) (most : ℕ)
-    (booted : Option Booted) (state : Option MachState) : Type 0 where
+-- an image was tried: power was cut and came on over it, and the machine booted; then as much was read as was asked for
+pub record IsTried {M : Type 0} (K : KindOf M) (o : Origin) (pick : ℕ) (part : Part) (g : List Block) (w : World M) (most : ℕ)
+    (booted : Option Booted) (state : Option Restored) : Type 0 where
   pub copy : World M
   pub copied : IsCopied K o pick w copy
   pub image : copy.device.image ≡ g
   pub last : World M
   pub boots : BootsTo K o copy last most booted
-  pub restores : Restores (line o last) booted state
+  -- a boot that restored a checkpoint left the machine at its count, between two instructions
+  pub left : IsLeftBy (seen K o last) booted
+  pub restores : Restores (line o last) part booted state
 
 -- an image of a run can be tried: so few cycles are done, and this is the schedule
 abbrev pub CanTry : {M : Type 0} → KindOf M → Plan → Device → Mix → ℕ → Type 0
 CanTry {M = M} K plan n mix most = (w : World M) × CanCopy K (origin_of plan) w n × (w.mix ≡ mix) × FewBefore w most
 
 -- from each such moment of a run
-abbrev pub Tries : {M : Type 0} → KindOf M → Plan → ℕ → Device → Mix → ℕ → Result Tried CoreError → Type 0
-Tries {M = M} K plan pick n mix most result =
+abbrev pub Tries : {M : Type 0} → KindOf M → Plan → ℕ → Part → Device → Mix → ℕ → Result Tried CoreError → Type 0
+Tries {M = M} K plan pick part n mix most result =
     (w : World M) → CanCopy K (origin_of plan) w n → w.mix ≡ mix → FewBefore w most
-    → IfOk result (λ t. IsTried K (origin_of plan) pick n.image w most t.booted t.state)
+    → IfOk result (λ t. IsTried K (origin_of plan) pick part n.image w most t.booted t.state)

@@ -7,11 +7,11 @@ ghost use Rattle.thy_trial.specs.Rooms.{CanTryOf, HasRoomFor, ListsPick, TriesNe
 ghost use Rattle.thy_trial.specs.Trials.{CanTry};
 ghost use Rattle.thy_view.specs.Kind.{IsDramOf};
 
+use crate::part::{Part, Restored};
 use crate::trial::try_copy;
 use std::alloc::{AllocError, Global};
 use thy_block::{Mix, Nvm, Shape};
 use thy_dram::Dram;
-use thy_isa::MachState;
 use thy_nvm::{MemNvm, Overlay, Spare};
 use thy_run::Plan;
 use thy_sweep::{Booted, Choices};
@@ -31,8 +31,8 @@ pub struct Room {
 pub struct Found {
     /// How its boot ended; nothing if it did not end within the cycles that it had.
     pub booted: Option<Booted>,
-    /// The state that was restored, if one was.
-    pub state: Option<MachState>,
+    /// What was read of the state that was restored, if one was.
+    pub state: Option<Restored>,
 }
 
 /// An image that was tried, and the room for the next one.
@@ -70,16 +70,17 @@ fn try_over<'a, M: Computer>(
     copy: Overlay<'a>,
     dram: Dram,
     pick: u64,
+    part: Part,
     mix: Mix,
     most: u64,
 ) -> Result<Trial, CoreError>
     requires dram { IsDramOf plan.now.geometry dram }
     requires can { CanTry M.kind plan.now copy.device mix most }
-    ensures tried { TriesOver M.kind plan.now pick copy.entry.device mix most result }
+    ensures tried { TriesOver M.kind plan.now pick part copy.entry.device mix most result }
     ensures room { IfOk result (λ t. HasRoomFor plan.now copy.entry.device t.room) }
 {
     let mut copy = copy;
-    let tried = try_copy::<M, Overlay<'a>>(alloc, plan, dram, pick, mix, most, &mut copy)?;
+    let tried = try_copy::<M, Overlay<'a>>(alloc, plan, dram, pick, part, mix, most, &mut copy)?;
     let spare = copy.into_spare();
     Ok(Trial {
         found: Found {
@@ -129,6 +130,7 @@ pub fn try_pick<M: Computer>(
     choices: &Choices,
     numbers: &mut Vec<u128>,
     pick: u64,
+    part: Part,
     mix: Mix,
     most: u64,
     nvm: &MemNvm,
@@ -137,7 +139,7 @@ pub fn try_pick<M: Computer>(
     requires can { CanTryOf M.kind plan.now nvm.now.device mix most }
     requires choices { choices.now ≡ places_of nvm.now.device }
     ensures tried { let n = nvm.now.device in
-        TriesNew M.kind plan.now pick n (picked n.whole pick n.image n.queue) mix most result }
+        TriesNew M.kind plan.now pick part n (picked n.whole pick n.image n.queue) mix most result }
     ensures listed { IfOk result (λ t. ListsPick pick nvm.now.device numbers.old.items numbers.new.items t.found) }
     ensures room { IfOk result (λ t. HasRoomFor plan.now nvm.now.device t.room) }
 {
@@ -153,7 +155,7 @@ pub fn try_pick<M: Computer>(
         });
     }
     list(numbers, number)?;
-    match try_over::<M>(alloc, plan, copy, dram, pick, mix, most) {
+    match try_over::<M>(alloc, plan, copy, dram, pick, part, mix, most) {
         Ok(trial) => Ok(PickTrial {
             found: Some(trial.found),
             room: trial.room,
@@ -173,6 +175,7 @@ pub fn try_number<M: Computer>(
     choices: &Choices,
     count: u64,
     number: u64,
+    part: Part,
     mix: Mix,
     most: u64,
     nvm: &MemNvm,
@@ -183,11 +186,11 @@ pub fn try_number<M: Computer>(
     requires count { count ≡ count_of choices.now }
     requires number { number < count }
     ensures tried { let n = nvm.now.device in
-        TriesOf M.kind plan.now 0 n (chosen (places_of n) number n.image) mix most result }
+        TriesOf M.kind plan.now 0 part n (chosen (places_of n) number n.image) mix most result }
     ensures room { IfOk result (λ t. HasRoomFor plan.now nvm.now.device t.room) }
 {
     let Room { spare, dram } = room;
     let mut copy = Overlay::of(spare, nvm, 0);
     choices.choose(count, number, &mut copy);
-    try_over::<M>(alloc, plan, copy, dram, 0, mix, most)
+    try_over::<M>(alloc, plan, copy, dram, 0, part, mix, most)
 }

@@ -2,15 +2,15 @@
 ghost use Rattle.std.specs.Prelude.{◌≡◌, IfOk, IfErr};
 ghost use Rattle.thy_block.specs.Counts.{Rose};
 ghost use Rattle.thy_block.specs.Device.{IsFramed};
-ghost use Rattle.thy_trial.specs.Trials.{CanTry, IsLostDram, ReadsRestored, Tries, has_restored};
+ghost use Rattle.thy_trial.specs.Trials.{CanTry, IsLostDram, ReadsAs, ReadsRestored, Tries, has_restored};
 ghost use Rattle.thy_view.specs.Kind.{CanRead, HasFailedToRead, IsDramOf};
 ghost use Rattle.thy_view.specs.declared.error.CoreError.TheVariants.{Nvm as NvmFailed};
 
 use crate::booting::boot;
+use crate::part::{Part, Restored};
 use std::alloc::Global;
 use thy_block::{Mix, Nvm};
 use thy_dram::Dram;
-use thy_isa::MachState;
 use thy_run::Plan;
 use thy_sweep::Booted;
 use thy_view::{Computer, CoreError};
@@ -20,8 +20,8 @@ use thy_view::{Computer, CoreError};
 pub struct Tried {
     /// How its boot ended; nothing if it did not end within the cycles that it had.
     pub booted: Option<Booted>,
-    /// The state that was restored, if one was.
-    pub state: Option<MachState>,
+    /// What was read of the state that was restored, if one was.
+    pub state: Option<Restored>,
     /// The DRAM, for the next one.
     pub dram: Dram,
 }
@@ -56,27 +56,49 @@ fn has_restored(booted: Option<Booted>) -> bool
     }
 }
 
-/// The state that a boot restored, if it restored a checkpoint; else nothing is read, and nothing fails.
+/// Reads this part of the state of a machine between two instructions. For the processor the device is left alone.
+fn read<M: Computer, N: Nvm>(
+    alloc: Global,
+    machine: &M,
+    part: Part,
+    nvm: &mut N,
+) -> Result<Restored, CoreError>
+    requires { CanRead M.kind machine.now (N.device nvm.old) }
+    ensures state { ReadsAs M.kind machine.now (N.device nvm.old) part result }
+    ensures frame { IsFramed (N.device nvm.old) (N.device nvm.new) }
+    ensures err { IfErr result (λ e. HasFailedToRead e (N.device nvm.old) (N.device nvm.new)) }
+{
+    match part {
+        Part::State => {
+            let state = machine.snapshot(alloc, nvm)?;
+            Ok(Restored::State(state))
+        }
+        Part::Processor => Ok(Restored::Processor(machine.processor())),
+    }
+}
+
+/// Reads this part of the state that a boot restored, if it restored a checkpoint; else nothing is read, and nothing fails.
 fn restored<M: Computer, N: Nvm>(
     alloc: Global,
     machine: &M,
+    part: Part,
     booted: Option<Booted>,
     nvm: &mut N,
-) -> Result<Option<MachState>, CoreError>
+) -> Result<Option<Restored>, CoreError>
     requires { CanRead M.kind machine.now (N.device nvm.old) }
-    ensures state { ReadsRestored M.kind machine.now (N.device nvm.old) booted result }
+    ensures state { ReadsRestored M.kind machine.now (N.device nvm.old) part booted result }
     ensures frame { IsFramed (N.device nvm.old) (N.device nvm.new) }
     ensures err { IfErr result (λ e. HasFailedToRead e (N.device nvm.old) (N.device nvm.new)) }
 {
     if !has_restored(booted) {
         return Ok(None);
     }
-    let state = machine.snapshot(alloc, nvm)?;
+    let state = read(alloc, machine, part, nvm)?;
     Ok(Some(state))
 }
 
 /// Lets power come on over a device that holds what a cut may leave of a run's device, boots the machine by the run's schedule,
-/// and reads the state that it restored.
+/// and reads this part of the state that it restored.
 ///
 /// # Errors
 /// `Memory` if memory runs out, `Nvm` if the device fails.
@@ -85,13 +107,14 @@ pub fn try_copy<M: Computer, N: Nvm>(
     plan: &Plan,
     dram: Dram,
     pick: u64,
+    part: Part,
     mix: Mix,
     most: u64,
     nvm: &mut N,
 ) -> Result<Tried, CoreError>
     requires dram { IsDramOf plan.now.geometry dram }
     requires can { CanTry M.kind plan.now (N.device nvm.old) mix most }
-    ensures tried { Tries M.kind plan.now pick (N.device nvm.old) mix most result }
+    ensures tried { Tries M.kind plan.now pick part (N.device nvm.old) mix most result }
     ensures dram { IfOk result (λ t. IsDramOf plan.now.geometry t.dram) }
     ensures frame { IsFramed (N.device nvm.old) (N.device nvm.new) }
     ensures fault { IfErr result (λ e. e ≡ NvmFailed → Rose (N.device nvm.old).faults (N.device nvm.new).faults) }
@@ -101,7 +124,7 @@ pub fn try_copy<M: Computer, N: Nvm>(
     let Ok(booted) = boot(&mut machine, plan, mix, most, nvm) else {
         return Err(CoreError::Nvm);
     };
-    let state = restored(alloc, &machine, booted, nvm)?;
+    let state = restored(alloc, &machine, part, booted, nvm)?;
     let dram = machine.cut(pick);
     Ok(Tried {
         booted,

@@ -14,8 +14,9 @@ use Rattle.thy_block.specs.Counts.{Rose}
 use Rattle.thy_block.specs.Device.{Device, CountAlike, HasFailed, fitted}
 use Rattle.thy_block.specs.Places.{dram_blocks}
 use Rattle.thy_dram.specs.Contents.{Contents, fresh}
+use Rattle.thy_isa.specs.declared.state.CpuState.{CpuState}
 use Rattle.thy_isa.specs.declared.state.MachState.{MachState}
-use Rattle.thy_isa.specs.Step.{State, state_of}
+use Rattle.thy_isa.specs.Step.{State, cpu_of, state_of}
 use Rattle.thy_block.specs.Flat.{AllLong}
 use Rattle.thy_layout.specs.Decoded.{Reading, Nothing}
 use Rattle.thy_layout.specs.declared.start.Start.{Start}
@@ -214,6 +215,11 @@ abbrev pub Snapshots : {M : Type 0} → KindOf M → M → Device → Result Mac
 Snapshots K m n result =
     (o : Origin) (k : ℕ) → K.is_at o k m n → is_between (K.view o m n) ≡ true
     → IfOk result (λ s. IsSnapshot o (K.view o m n) s)
+
+-- at such a moment it is the processor of the state that is read there
+abbrev pub ShowsProcessor : {M : Type 0} → KindOf M → M → CpuState → Type 0
+ShowsProcessor K m cpu =
+    (o : Origin) (k : ℕ) (n : Device) → K.is_at o k m n → is_between (K.view o m n) ≡ true → cpu ≡ cpu_of (at o (K.view o m n).count)
 
 -- a state without its memory and its console: the processor's part
 abbrev pub without_memory : State → State

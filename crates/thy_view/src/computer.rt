@@ -3,7 +3,7 @@ ghost use Rattle.std.specs.Prelude.{◌≡◌, ◌<◌, ◌≤◌, ℕ, Ok, None
 ghost use Rattle.thy_block.specs.Device.{Device, IsFramed, CountsFault};
 ghost use Rattle.thy_dram.specs.Contents.{lost};
 ghost use Rattle.thy_view.specs.Advances.{IfAdvanced, IsOthersCycle, SimulatesRow, row_of};
-ghost use Rattle.thy_view.specs.Kind.{KindOf, IsLawful, CanStep, CanRead, CanSnapshot, IsDramOf, Simulates, FailsSafe, Snapshots, SnapshotsStopped, ShowsConsole, LeavesAlonePast, ShowsLoading, HasFailedToRead};
+ghost use Rattle.thy_view.specs.Kind.{KindOf, IsLawful, CanStep, CanRead, CanSnapshot, IsDramOf, Simulates, FailsSafe, Snapshots, SnapshotsStopped, ShowsProcessor, ShowsConsole, LeavesAlonePast, ShowsLoading, HasFailedToRead};
 ghost use Rattle.thy_view.specs.Origin.{Origin};
 ghost use Rattle.thy_view.specs.declared.view.View.{View};
 
@@ -11,7 +11,7 @@ use crate::{Advance, CoreError, Row, Stepped};
 use std::alloc::{AllocError, Global};
 use thy_block::{Bytes, Geometry, Nvm, NvmError, Pick};
 use thy_dram::Dram;
-use thy_isa::MachState;
+use thy_isa::{CpuState, MachState};
 use thy_layout::Start;
 
 /// A machine: hart, memory and checkpoint engine, over an NVM. One step is one cycle. Only `power_on`, `snapshot`
@@ -104,6 +104,11 @@ pub trait Computer: Drop {
         ensures same { OnOk result (N.device nvm.new ≡ N.device nvm.old) }
         ensures err { IfErr result (λ e. HasFailedToRead e (N.device nvm.old) (N.device nvm.new)) }
         ensures frame { IsFramed (N.device nvm.old) (N.device nvm.new) };
+
+    /// The processor of the state that `snapshot` reads, if no instruction is under way. Neither memory nor the device is
+    /// read.
+    fn processor(&self) -> CpuState
+        ensures { ShowsProcessor kind self.now result };
 
     /// Once the boot is over, the console of the committed checkpoint from byte `from` on, also if the hart has gone
     /// on since. If there is no such byte, the device is left alone.

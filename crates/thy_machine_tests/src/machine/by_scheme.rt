@@ -7,7 +7,7 @@ use crate::support::expect::{expect, expect_at};
 use std::alloc::Global;
 use std::process::Abort;
 use thy_base::{EndCause, Mark, Nvm};
-use thy_isa::Status;
+use thy_isa::{Reg, Status};
 use thy_layout::EngineStep;
 use thy_plain::Plain;
 use thy_view::{Computer, Did};
@@ -275,6 +275,24 @@ pub(super) fn takes_716_cycles<M: Computer>(rt: &impl Abort, alloc: Global) {
         },
     ];
     expect(rt, whole.checkpoints.as_slice(), want.as_slice());
+}
+
+/// Whether a machine shows the processor of that program's state at its start, and at its end: the call is its third instruction,
+/// and an exit leaves program counter and registers.
+pub(super) fn shows_the_processor<M: Computer>(rt: &impl Abort, alloc: Global) {
+    let mut on = Powered::<M>::new(rt, alloc, &EXIT_SEVEN, 0);
+    let booted = boot(rt, &mut on);
+    let start = on.machine.processor();
+    expect(rt, (start.pc, start.count), (65536, 0));
+    expect(rt, start.status, Status::Running);
+    let mut story = Story::from(alloc, 0);
+    finished(rt, &mut on, &mut story, booted.ended);
+    let end = on.machine.processor();
+    expect(rt, (end.pc, end.count), (65544, 3));
+    expect(rt, end.status, Status::Exited(7));
+    expect(rt, end.regs.get(Reg::new(10)), 7);
+    expect(rt, end.regs.get(Reg::new(17)), 93);
+    expect(rt, (end.console_len, end.cursor), (0, 0));
 }
 
 /// What a restart finds of that program. Cycle 714 writes the commit block, 715 lets it land, and 716 is the barrier.

@@ -3,7 +3,7 @@
 //! recovery after that.
 use crate::machine::by_scheme::{
     DRAWN, EXIT_SEVEN, NINE_STORES, Steps, committed, cut_twice, finds_what_has_landed, follows,
-    restarts, takes_716_cycles, writes_of,
+    restarts, shows_the_processor, takes_716_cycles, writes_of,
 };
 use crate::machine::waiting::TWO_EPOCHS;
 use crate::machine::{plain_machines, survives_once_loaded};
@@ -32,6 +32,11 @@ static STEPS: Steps = Steps {
 #[test]
 fn three_instructions_take_716_cycles(rt: HostRuntime) {
     takes_716_cycles::<Machine<Journal>>(&rt, rt.alloc());
+}
+
+#[test]
+fn the_processor_is_shown_at_start_and_end(rt: HostRuntime) {
+    shows_the_processor::<Machine<Journal>>(&rt, rt.alloc());
 }
 
 #[test]

@@ -3,7 +3,8 @@
 //! recovery and the copies after a first one.
 use crate::machine::by_scheme::{
     DRAWN, EXIT_SEVEN, NINE_STORES, Steps, checkpoints, committed, cut_twice,
-    finds_what_has_landed, follows, restarts, takes_716_cycles, to_seal, writes_of,
+    finds_what_has_landed, follows, restarts, shows_the_processor, takes_716_cycles, to_seal,
+    writes_of,
 };
 use crate::machine::waiting::TWO_EPOCHS;
 use crate::machine::{
@@ -65,6 +66,11 @@ fn survives_some(rt: &impl Abort, alloc: Global, row: &Row, seed: u64) {
 #[test]
 fn three_instructions_take_716_cycles(rt: HostRuntime) {
     takes_716_cycles::<Machine<Shadow>>(&rt, rt.alloc());
+}
+
+#[test]
+fn the_processor_is_shown_at_start_and_end(rt: HostRuntime) {
+    shows_the_processor::<Machine<Shadow>>(&rt, rt.alloc());
 }
 
 #[test]

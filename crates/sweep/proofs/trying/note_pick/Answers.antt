@@ -21,7 +21,7 @@ returns-in-None-clause-tried g c =
     let l = subst (λ (x : Option Found). ListsPick pick n before after x) c.in-None.is c.in_ok-trial.ensures.listed in
     record {
       tries = [];
-      has = HasTried-none g.M.Computer.kind c.args.plan.now n c.args.mix.now c.args.row.now;
+      has = HasTried-none g.M.Computer.kind c.args.part c.args.plan.now n c.args.mix.now c.args.row.now;
       are = tt;
       lists = l.0 ∙ sym (append-nil before);
       known = ap (is_listed (number_by pick n)) l.0 ∙ l.1;
@@ -44,7 +44,7 @@ returns-in-Ok-clause-tried g c =
       has = record {
         each = (
           λ w at few.
-              subst (λ (x : Option Found). IfSome x (λ y. IsTried K (origin_of plan) pick image w most_cycles y.booted y.state)) c.in-Some.is
+              subst (λ (x : Option Found). IfSome x (λ y. IsTried K (origin_of plan) pick c.args.part image w most_cycles y.booted y.state)) c.in-Some.is
               (c.in_ok-trial.ensures.tried w at few),
           tt,
         );

@@ -12,7 +12,7 @@ use Rattle.sweep.proofs.trying.try_all.Goals as goal
 pub loop-number-init : goal.loop-number-init
 loop-number-init g c = record {
   room = c.requires.room;
-  tried = TriesImages-none g.M.Computer.kind c.args.plan.now c.args.nvm.now.device c.args.mix.now c.args.row.now;
+  tried = TriesImages-none g.M.Computer.kind c.args.part c.args.plan.now c.args.nvm.now.device c.args.mix.now c.args.row.now;
 }
 
 pub loop-number-preserved : goal.loop-number-preserved
@@ -33,8 +33,8 @@ loop-number-preserved g c =
     record {
       room = c.in_ok-room.ensures.room;
       tried =
-          subst (λ (images : List (List Block)). TriesImages K plan n mix images old new) (sym (take_more (crash_images n) i [] less))
-          (TriesImages-on K plan n mix (take i (crash_images n)) (get_or (crash_images n) i []) i old c.loop-number.row new c.loop-number.invariant.tried one is);
+          subst (λ (images : List (List Block)). TriesImages K c.args.part plan n mix images old new) (sym (take_more (crash_images n) i [] less))
+          (TriesImages-on K c.args.part plan n mix (take i (crash_images n)) (get_or (crash_images n) i []) i old c.loop-number.row new c.loop-number.invariant.tried one is);
     }
 
 pub returns-clause-tried : goal.returns-clause-tried
@@ -43,5 +43,5 @@ returns-clause-tried g c =
     let l = c.loop-number in
     let count : c.args.count ≡ length (crash_images n) = c.requires.count ∙ ap count_of c.requires.choices ∙ (numbers_images n).count in
     let end : length (crash_images n) ≤ l.number = omega (arith, count, c.loop-number-test.false) in
-    subst (λ (images : List (List Block)). TriesImages g.M.Computer.kind c.args.plan.now n c.args.mix.now images c.args.row.now l.row)
+    subst (λ (images : List (List Block)). TriesImages g.M.Computer.kind c.args.part c.args.plan.now n c.args.mix.now images c.args.row.now l.row)
     (take_all l.number (crash_images n) end) l.invariant.tried

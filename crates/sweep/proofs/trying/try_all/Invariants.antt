@@ -8,5 +8,5 @@ use Rattle.sweep.proofs.trying.try_all.Given as goal
 abbrev pub invariant-loop-number : goal.invariant-loop-number
 invariant-loop-number g l = record {
   room : HasRoomFor l.plan l.nvm.device l.room;
-  tried : TriesImages g.M.Computer.kind l.plan l.nvm.device l.mix (take l.number (crash_images l.nvm.device)) l.initial.row l.row;
+  tried : TriesImages g.M.Computer.kind l.part l.plan l.nvm.device l.mix (take l.number (crash_images l.nvm.device)) l.initial.row l.row;
 }

@@ -13,7 +13,7 @@ returns-in-Some-clause-images g c =
     let n : Device = c.args.nvm.now.device in
     let old : Row = record c.args.row.now { images = c.count-images.result } in
     on_ok_weaker c.try_all.result
-    (λ (h : TriesImages g.M.Computer.kind c.args.plan.now n c.args.mix (crash_images n) old c.try_all.new.row).
+    (λ (h : TriesImages g.M.Computer.kind c.args.asked.now.compared c.args.plan.now n c.args.mix (crash_images n) old c.try_all.new.row).
     h.has.images ∙ c.count-images.ensures ∙ ap (λ (ps : List Place). min (count_of ps) (2 ^ 128 - 1)) c.in-Ok.ensures)
     c.try_all.ensures.tried
 
@@ -27,7 +27,7 @@ returns-in-Some-clause-tried g c =
     let new : Row = c.try_all.new.row in
     let all : wants a.all (places_of n) ≡ true = ap (wants a.all) (sym c.in-Ok.ensures) ∙ c.in-Some.ensures.some in
     on_ok_weaker c.try_all.result
-    (λ (h : TriesImages K plan n c.args.mix (crash_images n) old new).
+    (λ (h : TriesImages K a.compared plan n c.args.mix (crash_images n) old new).
     subst (λ k. TriesAsked K plan n c.args.mix a (record c.args.row.now { images = k }) new) (sym h.has.images)
     (asked-all K plan n c.args.mix a old new all h))
     c.try_all.ensures.tried

@@ -26,7 +26,7 @@ loop-i-preserved g c =
       room = c.in_ok-room.ensures.room;
       trying = IsTrying-on K plan n mix c.args.asked.now c.loop-i.i before after c.args.row.now c.loop-i.row c.note_pick.new.row
           c.loop-i.invariant.trying
-          (subst (λ k. NotesPick K plan n mix k before after c.loop-i.row c.note_pick.new.row) c.pick-pick.ensures c.in_ok-room.ensures.tried);
+          (subst (λ k. NotesPick K c.args.asked.now.compared plan n mix k before after c.loop-i.row c.note_pick.new.row) c.pick-pick.ensures c.in_ok-room.ensures.tried);
     }
 
 pub returns-clause-tried : goal.returns-clause-tried

@@ -52,7 +52,7 @@ returns-clause-tried g c = λ w at few.
     let can = can_copy_of K o w n c.args.mix at c.choose.new.overlay.device (ap (λ (d : Device). d.down) f ∙ ap (λ (d : Device). d.down) e)
     (ap (λ (d : Device). d.queue) f ∙ ap (λ (d : Device). d.queue) e) (subst (Crash n) (sym image) (chosen-crash n c.args.number less)) in
     IfOk-weaker c.try_over.result _ _
-    (λ t h. subst (λ (image : List Block). IsTried K o 0 image w c.args.most t.found.booted t.found.state) image h)
+    (λ t h. subst (λ (image : List Block). IsTried K o 0 c.args.part image w c.args.most t.found.booted t.found.state) image h)
     (c.try_over.ensures.tried w can at.mix few)
 
 pub returns-clause-room : goal.returns-clause-room

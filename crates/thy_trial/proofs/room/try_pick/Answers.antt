@@ -86,7 +86,7 @@ returns-in-Ok-clause-tried g c = λ w at few.
     let e = ap (λ (x : Overlaid). x.device) c.of-copy.ensures.left in
     let can = can_copy_of K o w n c.args.mix at c.of-copy.result.device (ap (λ (d : Device). d.down) e) (ap (λ (d : Device). d.queue) e)
     c.of-copy.ensures.crash in
-    subst (λ (image : List Block). IsTried K o c.args.pick image w c.args.most c.in-Ok.trial.found.booted c.in-Ok.trial.found.state)
+    subst (λ (image : List Block). IsTried K o c.args.pick c.args.part image w c.args.most c.in-Ok.trial.found.booted c.in-Ok.trial.found.state)
     (ap (λ (d : Device). d.image) e) (c.in-Ok.ensures.tried w can at.mix few)
 
 pub returns-in-Ok-clause-room : goal.returns-in-Ok-clause-room

@@ -1,4 +1,4 @@
-use Rattle.std.proofs.Common.{◌≡◌, ◌≤◌, refl, sym, ◌∙◌, ap, subst, inl}
+use Rattle.std.proofs.Common.{refl, sym, ◌∙◌, subst}
 use Rattle.std.proofs.lemmas.Result.{err_from_is_err_and}
 use Rattle.thy_block.specs.Counts.{Rose}
 use Rattle.thy_run.specs.Going.{origin_of}
@@ -59,6 +59,7 @@ returns-clause-tried g c = λ w can mix few.
       image = refl;
       last = there.last;
       boots = there.boots;
+      left = there.seen_left;
       restores = c.in_ok-state.ensures.state (line o there.last) there.last.cycles there.at_moment there.left;
     }
 

@@ -1,5 +1,5 @@
 use Rattle.std.proofs.Common.{Option, sym, subst, inl, inr}
-use Rattle.thy_isa.specs.declared.state.MachState.{MachState}
+use Rattle.thy_trial.specs.declared.part.Restored.{Restored}
 use Rattle.sweep.specs.Findings.{IsOfSealed}
 use Rattle.sweep.proofs.beside.Beside.has.Goals as goal
 
@@ -8,4 +8,4 @@ returns-then-are_same c = λ e. inl (c.are_same.ensures c.if-are_same.true)
 
 pub returns-in-Some : goal.returns-in-Some
 returns-in-Some c = λ e.
-    inr (subst (λ (o : Option MachState). IsOfSealed c.args.self.now.compared o c.args.state.now) (sym c.in-Some.is) (c.are_same-in-Some.ensures e))
+    inr (subst (λ (o : Option Restored). IsOfSealed c.args.self.now.compared o c.args.state.now) (sym c.in-Some.is) (c.are_same-in-Some.ensures e))
