@@ -13,6 +13,7 @@ use Rattle.thy_run.specs.Going.{origin_of, given_of, world_at}
 use Rattle.thy_run.specs.Seeing.{IsDoneBy}
 use Rattle.thy_run.specs.World.{World, Ran}
 use Rattle.thy_sweep.specs.declared.sums.Sums.{Sums}
+use Rattle.thy_sweep.specs.Lying.{LiesOn, lying}
 use Rattle.thy_sweep.specs.Repeats.{ActedOnce, IsAsBefore, IsSeen, recounted}
 use Rattle.thy_sweep.specs.Sums.{no_rows, with_row}
 use Rattle.thy_view.specs.declared.did.Stepped.{Stepped}
@@ -23,7 +24,7 @@ use Rattle.sweep.specs.declared.account.Kept.{Kept}
 use Rattle.sweep.specs.declared.asked.Asked.{Asked}
 use Rattle.sweep.specs.declared.row.Row.{Row}
 use Rattle.sweep.proofs.RowLemmas.{asked-extended}
-use Rattle.sweep.specs.Kept.{IsRowAt, IsRowOf, sums_of, closed_into, differs_in, differs_of, differs_into, extended, IsIn, IsInOpen, IsInOne, StaysThrough, LooksTo, HasRows}
+use Rattle.sweep.specs.Kept.{IsRowAt, IsRowOf, sums_of, closed_into, differs_in, differs_of, differs_into, extended, IsInOpen, IsInOne, StaysThrough, LooksTo, HasRows}
 use Rattle.sweep.specs.Findings.{has}
 use Rattle.sweep.specs.Still.{IsKept, IsLooked}
 
@@ -118,11 +119,11 @@ looked_kept old new n now looked kept acted e =
     still_seen new.queue.items new.first n now (looked_stays old new n now looked kept acted e)
     (subst (λ (b : Block). IsSeen new.queue.items b n) (sym looked.first) (subst (λ (q : List Write). IsSeen q old.first n) (sym looked.queue) seen))
 
-module _ {M : Type 0} (K : KindOf M) (plan : Plan) (fitted : Device) (a : Asked) where
+module _ {M : Type 0} (K : KindOf M) (plan : Plan) (fitted : Device) (levels : Bool) (a : Asked) where
   -- A row is one of the run, and began before. Unless it has changed, the device is as it was after the row's first cycle, and
   -- was so after each cycle since.
   pub record IsOpenRow (k : Kept) (done : ℕ) (n : Device) (row : Row) : Type 0 where
-    pub is_row : IsRowOf K plan fitted a row
+    pub is_row : IsRowOf K plan fitted levels a row
     pub early : row.first ≤ done
     pub same : k.changed ≡ false → IsAsBefore is_row.world.device n
     pub through : k.changed ≡ false → StaysThrough K plan fitted is_row.world.device row.first done
@@ -130,19 +131,19 @@ module _ {M : Type 0} (K : KindOf M) (plan : Plan) (fitted : Device) (a : Asked)
   -- each row is one of the run, each cycle that is asked for is in one, and what is kept is of the open row's device
   pub record IsKeeping (done : ℕ) (account : Account) (n : Device) : Type 0 where
     pub closed : List Row
-    pub each : AllByRecursion (IsRowOf K plan fitted a) closed
+    pub each : AllByRecursion (IsRowOf K plan fitted levels a) closed
     pub sums : account.sums ≡ sums_of closed no_rows
     pub current : IfSome account.current (IsOpenRow account.kept done n)
     pub kept : IsKept account.kept n
     pub differs : account.differs ≡ differs_into account.current (differs_of closed false)
     pub covers : (k : ℕ) → 1 ≤ k → k ≤ done → has a k ≡ true → IsInOpen k account.current ⊎ IsInOne k closed
 
-  pub HasRows-kept : (done : ℕ) (account : Account) (n : Device) → IsKeeping done account n → HasRows K plan fitted a done account
+  pub HasRows-kept : (done : ℕ) (account : Account) (n : Device) → IsKeeping done account n → HasRows K plan fitted levels a done account
   HasRows-kept done account n h = record {
     closed = h.closed;
     each = h.each;
     sums = h.sums;
-    current = some-weaker (IsOpenRow account.kept done n) (IsRowOf K plan fitted a) account.current (λ r x. x.is_row) h.current;
+    current = some-weaker (IsOpenRow account.kept done n) (IsRowOf K plan fitted levels a) account.current (λ r x. x.is_row) h.current;
     differs = h.differs;
     covers = h.covers;
   }
@@ -159,18 +160,20 @@ module _ {M : Type 0} (K : KindOf M) (plan : Plan) (fitted : Device) (a : Asked)
       ]
 
   -- a row with one cycle more says the same of its first cycle
-  row-extended : (cycle count : ℕ) (row : Row) → (h : IsRowOf K plan fitted a row) → StaysThrough K plan fitted h.world.device row.first cycle
-      → IsRowOf K plan fitted a (extended cycle count row)
+  row-extended : (cycle count : ℕ) (row : Row) → (h : IsRowOf K plan fitted levels a row) → StaysThrough K plan fitted h.world.device row.first cycle
+      → IsRowOf K plan fitted levels a (extended cycle count row)
   row-extended cycle count row h through = record {
     world = h.world;
     ran = h.ran;
+    memory = h.memory;
+    lies = h.lies;
     says = record {
       queued = h.says.queued;
       images = h.says.images;
       before = record h.says.before { last = cycle };
       empty = h.says.empty;
       untried = h.says.untried;
-      tried = asked-extended K plan h.world.device h.world.mix a h.says.before row cycle count h.says.tried;
+      tried = asked-extended K plan (lying levels h.memory h.world.device) h.world.mix a h.says.before row cycle count h.says.tried;
     };
     stays = through;
   }
@@ -212,7 +215,7 @@ module _ {M : Type 0} (K : KindOf M) (plan : Plan) (fitted : Device) (a : Asked)
   in-now done count k n None some h = absurd (cc)
   in-now done count k n (Some row) some h = (omega (arith, h.early), omega arith)
 
-  all-opened : (k : Kept) (done : ℕ) (n : Device) (o : Option Row) → IfSome o (IsOpenRow k done n) → AllByRecursion (IsRowOf K plan fitted a) (opened o)
+  all-opened : (k : Kept) (done : ℕ) (n : Device) (o : Option Row) → IfSome o (IsOpenRow k done n) → AllByRecursion (IsRowOf K plan fitted levels a) (opened o)
   all-opened k done n None h = tt
   all-opened k done n (Some row) h = (h.is_row, tt)
 
@@ -230,10 +233,10 @@ module _ {M : Type 0} (K : KindOf M) (plan : Plan) (fitted : Device) (a : Asked)
   }
 
   -- after one more
-  pub IsKeeping-looked : (n new : Device) (mix : Mix) (done : ℕ) (w : World M) (old next : Account)
+  pub IsKeeping-looked : (n memory new : Device) (mix : Mix) (done : ℕ) (w : World M) (old next : Account)
       → Ran K (origin_of plan) (given_of plan fitted) (done + 1) w → w.device ≡ new → w.mix ≡ mix → ActedOnce n new → IsKeeping done old n
-      → LooksTo K plan new mix a (done + 1) old next → IsKeeping (done + 1) next new
-  IsKeeping-looked n new mix done w old next ran device mixes acted h (inl keeps) =
+      → LooksTo K plan (lying levels memory new) mix a (done + 1) old next → IsKeeping (done + 1) next new
+  IsKeeping-looked n memory new mix done w old next ran device mixes acted h (inl keeps) =
       let looked : IsLooked old.kept next.kept w.device = subst (IsLooked old.kept next.kept) (sym device) keeps.looked in
       let once : ActedOnce n w.device = subst (ActedOnce n) (sym device) acted in
       record {
@@ -287,7 +290,7 @@ module _ {M : Type 0} (K : KindOf M) (plan : Plan) (fitted : Device) (a : Asked)
                   ])
             ];
       }
-  IsKeeping-looked n new mix done w old next ran device mixes acted h (inr o) =
+  IsKeeping-looked n memory new mix done w old next ran device mixes acted h (inr o) =
       let here : Ran K (origin_of plan) (given_of plan fitted) o.row.first w
       = subst (λ (k : ℕ). Ran K (origin_of plan) (given_of plan fitted) k w) (sym o.first) ran in
       let alone : StaysThrough K plan fitted w.device o.row.first (done + 1) = λ k late few.
@@ -295,7 +298,7 @@ module _ {M : Type 0} (K : KindOf M) (plan : Plan) (fitted : Device) (a : Asked)
       (w, subst (λ (i : ℕ). Ran K (origin_of plan) (given_of plan fitted) i w) e ran, refl)) in
       record {
         closed = h.closed ++ opened old.current;
-        each = all-append (IsRowOf K plan fitted a) h.closed (opened old.current) h.each (all-opened old.kept done n old.current h.current);
+        each = all-append (IsRowOf K plan fitted levels a) h.closed (opened old.current) h.each (all-opened old.kept done n old.current h.current);
         sums = o.sums ∙ closes old.current old.sums ∙ ap (sums_of (opened old.current)) h.sums ∙ sym (sums-append h.closed (opened old.current) no_rows);
         current =
             subst (λ (x : Option Row). IfSome x (IsOpenRow next.kept (done + 1) new)) (sym o.opened)
@@ -303,9 +306,11 @@ module _ {M : Type 0} (K : KindOf M) (plan : Plan) (fitted : Device) (a : Asked)
               is_row = record {
                 world = w;
                 ran = here;
+                memory = memory;
+                lies = subst (LiesOn levels memory) (sym device) o.lies;
                 says =
-                    subst (λ (d : Device). IsRowAt K plan d w.mix a o.row) (sym device)
-                    (subst (λ (x : Mix). IsRowAt K plan new x a o.row) (sym mixes) o.says);
+                    subst (λ (d : Device). IsRowAt K plan (lying levels memory d) w.mix a o.row) (sym device)
+                    (subst (λ (x : Mix). IsRowAt K plan (lying levels memory new) x a o.row) (sym mixes) o.says);
                 stays = subst (λ (k : ℕ). StaysThrough K plan fitted w.device o.row.first k) (sym o.last) alone;
               };
               early = omega (arith, o.first);

@@ -8,6 +8,7 @@ use Rattle.thy_run.specs.Going.{origin_of, given_of}
 use Rattle.thy_run.specs.World.{World, Ran}
 use Rattle.thy_sweep.specs.declared.sums.Sums.{Sums}
 use Rattle.thy_sweep.specs.Choices.{count_of, places_of}
+use Rattle.thy_sweep.specs.Lying.{LiesOn, Lying, lying}
 use Rattle.thy_sweep.specs.Repeats.{IsAsBefore}
 use Rattle.thy_sweep.specs.Sums.{no_rows, with_row}
 use Rattle.thy_view.specs.Kind.{KindOf}
@@ -21,14 +22,14 @@ use Rattle.sweep.specs.Rows.{TriesAsked}
 use Rattle.sweep.specs.Still.{IsKept, IsLooked}
 
 -- a row says how many writes are queued on a device and how many images a cut can leave, and what was tried of these
-pub record IsRowAt {M : Type 0} (K : KindOf M) (plan : Plan) (n : Device) (mix : Mix) (a : Asked) (row : Row) : Type 0 where
-  pub queued : row.queued ≡ length n.queue
-  pub images : row.images ≡ min (count_of (places_of n)) (2 ^ 128 - 1)
+pub record IsRowAt {M : Type 0} (K : KindOf M) (plan : Plan) (d : Lying) (mix : Mix) (a : Asked) (row : Row) : Type 0 where
+  pub queued : row.queued ≡ length d.seen.queue
+  pub images : row.images ≡ min (count_of (places_of d.memory)) (2 ^ 128 - 1)
   -- the row before anything was tried
   pub before : Row
   pub empty : before.leads.items ≡ []
   pub untried : before.tried ≡ 0
-  pub tried : TriesAsked K plan n mix a before row
+  pub tried : TriesAsked K plan d mix a before row
 
 -- after each of these cycles of a run the device is this one, but for its counts
 abbrev pub StaysThrough : {M : Type 0} → KindOf M → Plan → (fitted n : Device) → (first last : ℕ) → Type 0
@@ -36,10 +37,13 @@ StaysThrough {M = M} K plan fitted n first last =
     (k : ℕ) → first ≤ k → k ≤ last → (w : World M) × Ran K (origin_of plan) (given_of plan fitted) k w × IsAsBefore n w.device
 
 -- a row is one of a run: it says this after its first cycle, and each of its cycles leaves the device as the first does
-pub record IsRowOf {M : Type 0} (K : KindOf M) (plan : Plan) (fitted : Device) (a : Asked) (row : Row) : Type 0 where
+pub record IsRowOf {M : Type 0} (K : KindOf M) (plan : Plan) (fitted : Device) (levels : Bool) (a : Asked) (row : Row) : Type 0 where
   pub world : World M
   pub ran : Ran K (origin_of plan) (given_of plan fitted) row.first world
-  pub says : IsRowAt K plan world.device world.mix a row
+  -- the device in memory after the first cycle
+  pub memory : Device
+  pub lies : LiesOn levels memory world.device
+  pub says : IsRowAt K plan (lying levels memory world.device) world.mix a row
   pub stays : StaysThrough K plan fitted world.device row.first row.last
 
 -- the sums of rows
@@ -89,18 +93,19 @@ pub record KeepsRow (a : Asked) (n : Device) (cycle : ℕ) (old new : Account) :
   pub looked : IsLooked old.kept new.kept n
 
 -- a row of this cycle was opened
-pub record OpensRow {M : Type 0} (K : KindOf M) (plan : Plan) (n : Device) (mix : Mix) (a : Asked) (cycle : ℕ) (old new : Account) : Type 0 where
+pub record OpensRow {M : Type 0} (K : KindOf M) (plan : Plan) (d : Lying) (mix : Mix) (a : Asked) (cycle : ℕ) (old new : Account) : Type 0 where
   pub row : Row
   pub opened : new.current ≡ Some row
   pub sums : new.sums ≡ closed_into old.current old.sums
   pub first : row.first ≡ cycle
   pub last : row.last ≡ cycle
-  pub says : IsRowAt K plan n mix a row
-  pub kept : IsKept new.kept n
+  pub lies : LiesOn d.levels d.memory d.seen
+  pub says : IsRowAt K plan d mix a row
+  pub kept : IsKept new.kept d.seen
   pub differs : new.differs ≡ (old.differs || differs_in row)
 
-abbrev pub LooksTo : {M : Type 0} → KindOf M → Plan → Device → Mix → Asked → ℕ → Account → Account → Type 0
-LooksTo K plan n mix a cycle old new = KeepsRow a n cycle old new ⊎ OpensRow K plan n mix a cycle old new
+abbrev pub LooksTo : {M : Type 0} → KindOf M → Plan → Lying → Mix → Asked → ℕ → Account → Account → Type 0
+LooksTo K plan d mix a cycle old new = KeepsRow a d.seen cycle old new ⊎ OpensRow K plan d mix a cycle old new
 
 -- a cycle is in a row
 abbrev pub IsIn : ℕ → Row → Type 0
@@ -116,17 +121,17 @@ IsInOne k (r ∷ rs) = IsIn k r ⊎ IsInOne k rs
 
 -- Each row, also the open one, is one of the run, and the sums count the others. Each of the cycles so far that are asked for is in
 -- one. A state differs if one does in a row.
-pub record HasRows {M : Type 0} (K : KindOf M) (plan : Plan) (fitted : Device) (a : Asked) (done : ℕ) (account : Account) : Type 0 where
+pub record HasRows {M : Type 0} (K : KindOf M) (plan : Plan) (fitted : Device) (levels : Bool) (a : Asked) (done : ℕ) (account : Account) : Type 0 where
   pub closed : List Row
-  pub each : AllByRecursion (IsRowOf K plan fitted a) closed
+  pub each : AllByRecursion (IsRowOf K plan fitted levels a) closed
   pub sums : account.sums ≡ sums_of closed no_rows
-  pub current : IfSome account.current (IsRowOf K plan fitted a)
+  pub current : IfSome account.current (IsRowOf K plan fitted levels a)
   pub differs : account.differs ≡ differs_into account.current (differs_of closed false)
   pub covers : (k : ℕ) → 1 ≤ k → k ≤ done → has a k ≡ true → IsInOpen k account.current ⊎ IsInOne k closed
 
 -- What is kept of a sweep: rows of all its cycles, except that there is none of the cycle with which a run ends. Nothing is said if
 -- memory ran out.
-abbrev pub KeepsRows : {M : Type 0} → KindOf M → Plan → Device → Asked → Account → Swept → Type 0
-KeepsRows K plan fitted a account Short = Unit {0}
-KeepsRows K plan fitted a account (Stopped ending) = (done : ℕ) × (ending.cycles ≤ done + 1) × HasRows K plan fitted a done account
-KeepsRows K plan fitted a account (Reached cycle) = HasRows K plan fitted a cycle account
+abbrev pub KeepsRows : {M : Type 0} → KindOf M → Plan → Device → Bool → Asked → Account → Swept → Type 0
+KeepsRows K plan fitted levels a account Short = Unit {0}
+KeepsRows K plan fitted levels a account (Stopped ending) = (done : ℕ) × (ending.cycles ≤ done + 1) × HasRows K plan fitted levels a done account
+KeepsRows K plan fitted levels a account (Reached cycle) = HasRows K plan fitted levels a cycle account

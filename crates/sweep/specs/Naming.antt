@@ -1,5 +1,5 @@
 -- Which orders can be swept, and which names OUT may have.
-use Rattle.std.specs.Prelude.{◌≡◌, ℕ, nat_lt, Bool, true, false, ◌||◌, is_some, List, [], length, Option, Some, None}
+use Rattle.std.specs.Prelude.{◌≡◌, ℕ, nat_lt, Bool, true, false, ◌||◌, ◌&&◌, is_some, List, [], length, Option, Some, None}
 use Rattle.std.specs.Str.{bytes_eq}
 use Rattle.thy_arguments.specs.Settings.{Job, Order, run, resume, bench, compare, plain, make}
 
@@ -10,21 +10,20 @@ is_name out (Some name) = bytes_eq name out
 
 -- a job has options that a sweep has not
 abbrev pub is_cut : Job → Bool
-is_cut job =
-    ((nat_lt 0 (length job.config.cuts) || nat_lt 0 (length job.config.tears)) || is_some job.save) || nat_lt 0 job.config.gap
+is_cut job = (nat_lt 0 (length job.config.cuts) || nat_lt 0 (length job.config.tears)) || is_some job.save
 
--- it has, or OUT is the name of its input
-abbrev pub is_barred : List ℕ → Job → Bool
-is_barred out job = is_name out job.input || is_cut job
+-- it has, or levelled wear over blocks that may be torn, or OUT is the name of its input
+abbrev pub is_barred : List ℕ → Bool → Job → Bool
+is_barred out torn job = (is_name out job.input || is_cut job) || (torn && nat_lt 0 job.config.gap)
 
 -- an order is refused because of OUT or of an option, or because it does not run the machine once
-abbrev pub is_refused : List ℕ → Order → Bool
-is_refused out (run file job) = bytes_eq file out || is_barred out job
-is_refused out (resume image job) = bytes_eq image out || is_barred out job
-is_refused out (bench n job) = is_barred out job
-is_refused out (compare file job) = true
-is_refused out (plain file job) = true
-is_refused out (make n name) = true
+abbrev pub is_refused : List ℕ → Bool → Order → Bool
+is_refused out torn (run file job) = bytes_eq file out || is_barred out torn job
+is_refused out torn (resume image job) = bytes_eq image out || is_barred out torn job
+is_refused out torn (bench n job) = is_barred out torn job
+is_refused out torn (compare file job) = true
+is_refused out torn (plain file job) = true
+is_refused out torn (make n name) = true
 
 -- a job lists no cuts
 abbrev pub IsUncutJob : Job → Type 0

@@ -1,13 +1,14 @@
 -- What a call of the program does outside: it refuses, or it sweeps a run, and then puts OUT.
-use Rattle.std.specs.Prelude.{◌≡◌, ◌⊎◌, ℕ, true, false, List, Ok}
+use Rattle.std.specs.Prelude.{◌≡◌, ◌⊎◌, ℕ, nat_lt, Bool, true, false, List, Ok}
 use Rattle.thy_answer.specs.declared.refusal.Refusal.{Refusal}
 use Rattle.thy_answer.specs.declared.refusal.Refusal.TheVariants.{Words, Device as DeviceRefusal}
 use Rattle.thy_answer.specs.Answering.{Outside, Closes, RunDue, WordsDue, report_of_refusal, with_device}
+use Rattle.thy_answer.specs.Levelling.{IsFoundAs, IsLeftAs}
 use Rattle.thy_answer.specs.Machines.{Choice}
 use Rattle.thy_answer.specs.Sources.{ProgramSource, file as of_file, image as of_image, made as of_made}
 use Rattle.thy_block.specs.declared.block.Block.{Block}
 use Rattle.thy_block.specs.declared.nvm.FitError.{FitError}
-use Rattle.thy_block.specs.Device.{HasFailedToFit, fitted}
+use Rattle.thy_block.specs.Device.{Device, HasFailedToFit, fitted}
 use Rattle.thy_block.specs.Outside.{Stream}
 use Rattle.thy_execute.specs.Planning.{IsPlanOf, shape_of}
 use Rattle.thy_run.specs.declared.plan.Plan.{Plan}
@@ -26,6 +27,10 @@ use Rattle.sweep.specs.Sweeping.{SweepsRun}
 
 -- ---- a run that is swept
 
+-- the run goes over the lines that a device holds
+abbrev pub levels_of : Plan → Bool
+levels_of plan = nat_lt 0 plan.config.gap
+
 -- The run of a plan was swept over a device that was fitted for it, and concluded. It is one of the plan, and each row that is kept
 -- says what a cut leaves in this run, and to what images of these led that were tried.
 pub record IsSweptOver {M : Type 0} (K : KindOf M) (out : List ℕ) (asked : Asked) (source : ProgramSource) (plan : Plan)
@@ -35,7 +40,7 @@ pub record IsSweptOver {M : Type 0} (K : KindOf M) (out : List ℕ) (asked : Ask
   -- the report when the run is over
   pub report : Stream
   pub ran : SweepsRun K plan before.device after.device asked (sinks before.terminal before.report) (sinks after.terminal report) swept
-  pub rows : KeepsRows K plan before.device asked account swept
+  pub rows : KeepsRows K plan before.device (levels_of plan) asked account swept
   pub concluded : IsConcluded out asked source plan.geometry.limit account swept before.shelf after.shelf report after.report status
 
 -- memory ran out before its first cycle
@@ -61,11 +66,20 @@ pub record IsUnfitted (e : FitError) (before after : Outside) (status : ℕ) : T
   pub shelf : after.shelf ≡ before.shelf
   pub unrun : IsUnrun (DeviceRefusal e) before after status
 
--- a plan is run over a device that is fitted with these first blocks
+-- the run of a plan was swept over the device that it sees, which with a gap is not the one that was handed in, and was fitted
+-- with these first blocks
+pub record IsSweptSeen {M : Type 0} (K : KindOf M) (out : List ℕ) (asked : Asked) (source : ProgramSource) (plan : Plan) (blocks : List Block)
+    (before after : Outside) (status : ℕ) : Type 0 where
+  pub found : Device
+  pub left : Device
+  pub is_found : IsFoundAs plan.config.gap before.device found
+  pub is_left : IsLeftAs plan.config.gap after.device left
+  pub sweeps : SweepsOver K out asked source plan (with_device (fitted (shape_of K plan) blocks found) before) (with_device left after) status
+
+-- or the device was not fitted
 abbrev pub SweepsPlan : {M : Type 0} → KindOf M → List ℕ → Asked → ProgramSource → Plan → List Block → Outside → Outside → ℕ → Type 0
 SweepsPlan K out asked source plan blocks before after status =
-    ((e : FitError) × IsUnfitted e before after status)
-    ⊎ SweepsOver K out asked source plan (with_device (fitted (shape_of K plan) blocks before.device) before) after status
+    ((e : FitError) × IsUnfitted e before after status) ⊎ IsSweptSeen K out asked source plan blocks before after status
 
 -- the run of a job was swept, from what its source means
 pub record IsSweptOf {M : Type 0} (K : KindOf M) (out : List ℕ) (asked : Asked) (source : ProgramSource) (job : Job)
@@ -73,7 +87,7 @@ pub record IsSweptOf {M : Type 0} (K : KindOf M) (out : List ℕ) (asked : Asked
   pub plan : Plan
   pub blocks : List Block
   pub is_plan : IsPlanOf source job before.shelf plan blocks
-  pub sweeps : SweepsOver K out asked source plan (with_device (fitted (shape_of K plan) blocks before.device) before) after status
+  pub sweeps : IsSweptSeen K out asked source plan blocks before after status
 
 -- or there is a reason why it was not begun
 abbrev pub SweepsJob : {M : Type 0} → KindOf M → List ℕ → Asked → ProgramSource → Job → Outside → Outside → ℕ → Type 0
@@ -98,9 +112,9 @@ pub record SweepsOrder (c : Choice) (out : List ℕ) (asked : Asked) (order : Or
   pub sweeps : SweepsJob (c job.config.scheme).kind out asked source job before after status
 
 -- why the arguments are refused: what they mean, or OUT or an option
-abbrev pub IsRefusedFor : List ℕ → List (List ℕ) → WordsError → Type 0
-IsRefusedFor out words e =
-    WordsDue words e ⊎ ((order : Order) × (settings_of words ≡ Ok order) × (is_refused out order ≡ true) × (e ≡ Usage))
+abbrev pub IsRefusedFor : List ℕ → Bool → List (List ℕ) → WordsError → Type 0
+IsRefusedFor out torn words e =
+    WordsDue words e ⊎ ((order : Order) × (settings_of words ≡ Ok order) × (is_refused out torn order ≡ true) × (e ≡ Usage))
 
 -- a line says so, and all else is left alone
 pub record IsTurnedDown (e : WordsError) (before after : Outside) (status : ℕ) : Type 0 where
@@ -113,9 +127,9 @@ pub record IsTurnedDown (e : WordsError) (before after : Outside) (status : ℕ)
 -- the arguments ask for an order, which is swept
 abbrev pub SweepsWords : Choice → List ℕ → Asked → List (List ℕ) → Outside → Outside → ℕ → Type 0
 SweepsWords c out asked words before after status =
-    (order : Order) × (settings_of words ≡ Ok order) × (is_refused out order ≡ false) × SweepsOrder c out asked order before after status
+    (order : Order) × (settings_of words ≡ Ok order) × (is_refused out asked.torn order ≡ false) × SweepsOrder c out asked order before after status
 
 -- what a call does, with OUT, these options and these arguments
 abbrev pub Sweeps : Choice → List ℕ → Asked → List (List ℕ) → Outside → Outside → ℕ → Type 0
 Sweeps c out asked words before after status =
-    ((e : WordsError) × IsRefusedFor out words e × IsTurnedDown e before after status) ⊎ SweepsWords c out asked words before after status
+    ((e : WordsError) × IsRefusedFor out asked.torn words e × IsTurnedDown e before after status) ⊎ SweepsWords c out asked words before after status

@@ -10,8 +10,7 @@ ghost use Rattle.thy_block.specs.Device.{block_at};
 use crate::row::Row;
 use std::alloc::{AllocError, Global};
 use thy_base::{Block, Write};
-use thy_nvm::MemNvm;
-use thy_sweep::{Lead, Sums, is_still};
+use thy_sweep::{Lead, OverMemory, Sums, is_still};
 
 /// How many restarts of an epoch's checkpoint there were.
 #[derive(Clone, Copy, Debug)]
@@ -86,21 +85,24 @@ fn count_leads(restarts: &mut Vec<Restarts>, leads: &[Lead]) -> Result<(), Alloc
 }
 
 /// Keeps the queue of a device.
-fn keep_queue(queue: &mut Vec<Write>, nvm: &MemNvm) -> Result<(), AllocError>
-    ensures { OnOk result (queue.new.items ≡ nvm.now.device.queue) }
+fn keep_queue<N: OverMemory>(queue: &mut Vec<Write>, nvm: &N) -> Result<(), AllocError>
+    requires { (N.device nvm.now).down ≡ false }
+    ensures { OnOk result (queue.new.items ≡ (N.device nvm.now).queue) }
 {
     queue.clear();
-    for i in 0..nvm.waits() {
+    for i in 0..nvm.queued() {
         queue.push(nvm.waiting(i))?;
     }
     Ok(())
 }
 
 /// The block that has landed at the place of a device's oldest queued write, if there is one.
-fn first_of(nvm: &MemNvm) -> Block
-    ensures { (w : Written) (ws : List Written) → nvm.now.device.queue ≡ w ∷ ws → result ≡ block_at nvm.now.device.image w.at }
+fn first_of<N: OverMemory>(nvm: &N) -> Block
+    requires { (N.device nvm.now).down ≡ false }
+    ensures { let n = N.device nvm.now in
+        (w : Written) (ws : List Written) → n.queue ≡ w ∷ ws → result ≡ block_at n.image w.at }
 {
-    if nvm.waits() == 0 {
+    if nvm.queued() == 0 {
         return Block::ZERO;
     }
     let at = nvm.waiting(0).at;
@@ -109,8 +111,9 @@ fn first_of(nvm: &MemNvm) -> Block
 
 impl Kept {
     /// Keeps a device as it is.
-    fn keep(&mut self, nvm: &MemNvm) -> Result<(), AllocError>
-        ensures { OnOk result (IsKept self.new nvm.now.device) }
+    fn keep<N: OverMemory>(&mut self, nvm: &N) -> Result<(), AllocError>
+        requires { (N.device nvm.now).down ≡ false }
+        ensures { OnOk result (IsKept self.new (N.device nvm.now)) }
     {
         keep_queue(&mut self.queue, nvm)?;
         self.first = first_of(nvm);
@@ -119,8 +122,9 @@ impl Kept {
     }
 
     /// Looks at the device after a cycle.
-    fn look(&mut self, nvm: &MemNvm)
-        ensures { IsLooked self.old self.new nvm.now.device }
+    fn look<N: OverMemory>(&mut self, nvm: &N)
+        requires { (N.device nvm.now).down ≡ false }
+        ensures { IsLooked self.old self.new (N.device nvm.now) }
     {
         if self.changed {
             return;
@@ -160,8 +164,9 @@ impl Account {
     }
 
     /// Looks at the device after a cycle.
-    pub fn look(&mut self, nvm: &MemNvm)
-        ensures looked { IsLooked self.old.kept self.new.kept nvm.now.device }
+    pub fn look<N: OverMemory>(&mut self, nvm: &N)
+        requires { (N.device nvm.now).down ≡ false }
+        ensures looked { IsLooked self.old.kept self.new.kept (N.device nvm.now) }
         ensures differs { self.new.differs ≡ self.old.differs }
         ensures current { self.new.current ≡ self.old.current }
         ensures sums { self.new.sums ≡ self.old.sums }
@@ -223,9 +228,15 @@ impl Account {
     ///
     /// # Errors
     /// Memory ran out.
-    pub fn open(&mut self, alloc: Global, row: Row, nvm: &MemNvm) -> Result<(), AllocError>
+    pub fn open<N: OverMemory>(
+        &mut self,
+        alloc: Global,
+        row: Row,
+        nvm: &N,
+    ) -> Result<(), AllocError>
+        requires { (N.device nvm.now).down ≡ false }
         ensures current { OnOk result (self.new.current ≡ Some row) }
-        ensures kept { OnOk result (IsKept self.new.kept nvm.now.device) }
+        ensures kept { OnOk result (IsKept self.new.kept (N.device nvm.now)) }
         ensures differs { OnOk result (self.new.differs ≡ (self.old.differs || differs_in row)) }
         ensures sums { OnOk result (self.new.sums ≡ closed_into self.old.current self.old.sums) }
     {

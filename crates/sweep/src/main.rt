@@ -3,7 +3,7 @@
 //! led, how long they took, and what was lost. Each state that is restored is compared with the plain machine's.
 //!
 //! Open specs/Swept.antt and src/top.rt first, then src/running.rt and src/trying.rt; src/row.rt and src/account.rt make the text. It stands on thy_trial,
-//! thy_files, thy_out and thy_nvm; nothing stands on it.
+//! thy_files, thy_out, thy_gap and thy_nvm; nothing stands on it.
 #![tactic(auto)]
 
 mod account;

@@ -16,31 +16,28 @@ fn is_name(out: &str, name: &Option<String>) -> bool
     }
 }
 
-/// Whether a job has options that a sweep has not: cuts, picks, a name to save under; or levelled wear.
+/// Whether a job has options that a sweep has not: cuts, picks, or a name to save under.
 fn is_cut(job: &Job) -> bool
     ensures { result ≡ is_cut (job_of job.now) }
 {
-    job.config.cuts.len() > 0
-        || job.config.tears.len() > 0
-        || job.save.is_some()
-        || job.config.gap > 0
+    job.config.cuts.len() > 0 || job.config.tears.len() > 0 || job.save.is_some()
 }
 
-/// Whether a job has such options, or OUT as the name of its input.
-fn is_barred(out: &str, job: &Job) -> bool
-    ensures { result ≡ is_barred out.now (job_of job.now) }
+/// Whether a job has such options, or OUT as the name of its input, or levelled wear if blocks may be torn.
+fn is_barred(out: &str, torn: bool, job: &Job) -> bool
+    ensures { result ≡ is_barred out.now torn (job_of job.now) }
 {
-    is_name(out, &job.input) || is_cut(job)
+    is_name(out, &job.input) || is_cut(job) || torn && job.config.gap > 0
 }
 
-/// Whether a command is not to be swept, or has the name OUT.
-pub fn is_refused(out: &str, command: &Command) -> bool
-    ensures { result ≡ is_refused out.now (order_of command.now) }
+/// Whether a command is not to be swept, with blocks that may be torn or not, or has the name OUT.
+pub fn is_refused(out: &str, torn: bool, command: &Command) -> bool
+    ensures { result ≡ is_refused out.now torn (order_of command.now) }
 {
     match command {
-        Command::Run { file, job } => file.as_str() == out || is_barred(out, job),
-        Command::Resume { image, job } => image.as_str() == out || is_barred(out, job),
-        Command::Bench { job, .. } => is_barred(out, job),
+        Command::Run { file, job } => file.as_str() == out || is_barred(out, torn, job),
+        Command::Resume { image, job } => image.as_str() == out || is_barred(out, torn, job),
+        Command::Bench { job, .. } => is_barred(out, torn, job),
         Command::Compare { .. } | Command::Plain { .. } | Command::Make { .. } => true,
     }
 }

@@ -1,5 +1,6 @@
 //! The run of a sweep, cycle by cycle, with what is tried after each.
-ghost use Rattle.std.specs.Prelude.{◌≡◌, ◌<◌, true, false, [], None, IfOk, OnOk, length};
+ghost use Rattle.std.specs.Prelude.{◌≡◌, ◌<◌, ◌^◌, true, false, [], None, IfOk, OnOk, length};
+ghost use Rattle.thy_execute.specs.Planning.{HasStayed};
 ghost use Rattle.thy_run.specs.Going.{IsPlanned};
 ghost use Rattle.thy_run.specs.Rounds.{IsFitted};
 ghost use Rattle.thy_run.specs.Sending.{sinks};
@@ -7,6 +8,7 @@ ghost use Rattle.sweep.specs.Findings.{counted};
 ghost use Rattle.sweep.specs.Kept.{KeepsRows, LooksTo, OpensRow};
 ghost use Rattle.sweep.specs.Still.{IsLooked};
 ghost use Rattle.sweep.specs.Sweeping.{CanLook, SweepsRun};
+ghost use Rattle.thy_sweep.specs.Lying.{blocks_below, lying};
 ghost use Rattle.thy_sweep.specs.Sums.{no_rows};
 ghost use Rattle.thy_trial.specs.Rooms.{HasRoomFor};
 
@@ -18,10 +20,10 @@ use crate::trying::try_cycle;
 use std::alloc::{AllocError, Global};
 use thy_base::{Nvm, Shape, Sink};
 use thy_isa::Status;
-use thy_nvm::MemNvm;
 use thy_run::{Ending, Plan, Progress, SingleCycle, Stop, begin, end, single};
+use thy_sweep::OverMemory;
 use thy_text::{Event, Events};
-use thy_trial::{Part, Room};
+use thy_trial::{Part, Room, Tryable};
 use thy_view::{Computer, CoreError, Did};
 
 /// What is known of a run in addition to its machine.
@@ -88,16 +90,17 @@ impl Watch {
     }
 
     /// Follows the run past a cycle that did this.
-    fn pass(
+    fn pass<N: OverMemory>(
         &mut self,
         alloc: Global,
         did: Did,
         start: u64,
         events: &Events,
-        nvm: &MemNvm,
+        nvm: &N,
     ) -> Result<(), AllocError>
+        requires { (N.device nvm.now).down ≡ false }
         ensures compared { self.new.beside.compared ≡ self.old.beside.compared }
-        ensures looked { IsLooked self.old.account.kept self.new.account.kept nvm.now.device }
+        ensures looked { IsLooked self.old.account.kept self.new.account.kept (N.device nvm.now) }
         ensures differs { self.new.account.differs ≡ self.old.account.differs }
         ensures current { self.new.account.current ≡ self.old.account.current }
         ensures sums { self.new.account.sums ≡ self.old.account.sums }
@@ -109,7 +112,7 @@ impl Watch {
 }
 
 /// Tries the images of a cycle that leaves others than the open row does, and opens a row.
-fn try_row<M: Computer>(
+fn try_row<M: Computer, N: Tryable>(
     alloc: Global,
     plan: &Plan,
     room: Room,
@@ -117,18 +120,19 @@ fn try_row<M: Computer>(
     progress: &Progress<M>,
     cycle: u64,
     watch: &mut Watch,
-    nvm: &MemNvm,
+    nvm: &N,
 ) -> Result<Room, CoreError>
-    requires can { CanLook M.kind plan.now progress.now nvm.now.device room }
+    requires can { CanLook M.kind plan.now progress.now (N.memory nvm.now) (N.device nvm.now) room }
     requires compared { watch.old.beside.compared ≡ asked.now.compared }
-    ensures room { IfOk result (HasRoomFor plan.now nvm.now.device) }
+    ensures room { IfOk result (HasRoomFor plan.now (N.memory nvm.now)) }
     ensures compared { watch.new.beside.compared ≡ watch.old.beside.compared }
-    ensures opens { let n = nvm.now.device in
+    ensures opens { let d = lying N.levels (N.memory nvm.now) (N.device nvm.now) in
         let mix = progress.now.mix in
-        OnOk result (OpensRow M.kind plan.now n mix asked.now cycle watch.old.account watch.new.account) }
+        OnOk result (OpensRow M.kind plan.now d mix asked.now cycle watch.old.account watch.new.account) }
 {
-    let mut row = Row::new(alloc, cycle, watch.count, nvm.waits());
-    let room = try_cycle::<M>(
+    nvm.recall_lying();
+    let mut row = Row::new(alloc, cycle, watch.count, nvm.queued());
+    let room = try_cycle::<M, N>(
         alloc,
         plan,
         room,
@@ -146,7 +150,7 @@ fn try_row<M: Computer>(
 
 /// Looks at a run after a cycle, and tries the images that a cut can leave then, if that is asked for and the cycle is not one more
 /// of the open row.
-fn look<M: Computer>(
+fn look<M: Computer, N: Tryable>(
     alloc: Global,
     plan: &Plan,
     room: Room,
@@ -155,15 +159,15 @@ fn look<M: Computer>(
     did: Did,
     cycle: u64,
     watch: &mut Watch,
-    nvm: &MemNvm,
+    nvm: &N,
 ) -> Result<Room, CoreError>
-    requires can { CanLook M.kind plan.now progress.now nvm.now.device room }
+    requires can { CanLook M.kind plan.now progress.now (N.memory nvm.now) (N.device nvm.now) room }
     requires compared { watch.old.beside.compared ≡ asked.now.compared }
-    ensures room { IfOk result (HasRoomFor plan.now nvm.now.device) }
+    ensures room { IfOk result (HasRoomFor plan.now (N.memory nvm.now)) }
     ensures compared { watch.new.beside.compared ≡ watch.old.beside.compared }
-    ensures looks { let n = nvm.now.device in
+    ensures looks { let d = lying N.levels (N.memory nvm.now) (N.device nvm.now) in
         let mix = progress.now.mix in
-        OnOk result (LooksTo M.kind plan.now n mix asked.now cycle watch.old.account watch.new.account) }
+        OnOk result (LooksTo M.kind plan.now d mix asked.now cycle watch.old.account watch.new.account) }
 {
     let start = plan.start.state.count;
     if let Err(error) = watch.pass(alloc, did, start, &progress.events, nvm) {
@@ -177,12 +181,12 @@ fn look<M: Computer>(
     if more {
         return Ok(room);
     }
-    try_row::<M>(alloc, plan, room, asked, progress, cycle, watch, nvm)
+    try_row::<M, N>(alloc, plan, room, asked, progress, cycle, watch, nvm)
 }
 
 /// Makes the run of a plan over a device that was fitted for it, and tries after each cycle that is asked for the images that a cut
-/// can leave then.
-pub fn sweep_run<M: Computer, T: Sink, R: Sink>(
+/// can leave then. The shape is of the device in memory.
+pub fn sweep_run<M: Computer, T: Sink, R: Sink, N: Tryable>(
     alloc: Global,
     plan: &Plan,
     shape: &Shape,
@@ -190,23 +194,26 @@ pub fn sweep_run<M: Computer, T: Sink, R: Sink>(
     terminal: &mut T,
     report: &mut R,
     watch: &mut Watch,
-    nvm: &mut MemNvm,
+    nvm: &mut N,
 ) -> Swept
     requires planned { IsPlanned plan.now }
     requires uncut { plan.now.config.cuts ≡ [] }
-    requires fitted { IsFitted M.kind plan.now nvm.old.device }
-    requires blocks { shape.now.blocks ≡ length nvm.old.device.image }
-    requires queue { shape.now.queue ≡ nvm.old.device.queue_room }
+    requires fitted { IsFitted M.kind plan.now (N.device nvm.old) }
+    requires sized { 0 < length (N.device nvm.old).image }
+    requires blocks { shape.now.blocks ≡ blocks_below N.levels (length (N.device nvm.old).image) }
+    requires queue { shape.now.queue ≡ (N.device nvm.old).queue_room }
+    requires cuts { shape.now.cuts < 2 ^ 64 }
     requires some { 0 < shape.now.queue }
     requires closed { watch.old.account.current ≡ None }
     requires unkept { watch.old.account.kept.changed ≡ true }
     requires same { watch.old.account.differs ≡ false }
     requires fresh { watch.old.account.sums ≡ no_rows }
     requires compared { watch.old.beside.compared ≡ asked.now.compared }
-    ensures rows { KeepsRows M.kind plan.now nvm.old.device asked.now watch.new.account result }
+    ensures rows { KeepsRows M.kind plan.now (N.device nvm.old) N.levels asked.now watch.new.account result }
     ensures run { let before = sinks (T.stream terminal.old) (R.stream report.old) in
         let after = sinks (T.stream terminal.new) (R.stream report.new) in
-        SweepsRun M.kind plan.now nvm.old.device nvm.new.device asked.now before after result }
+        SweepsRun M.kind plan.now (N.device nvm.old) (N.device nvm.new) asked.now before after result }
+    ensures stays { HasStayed (N.device nvm.old) (N.device nvm.new) }
 {
     let Ok(mut progress) = begin::<M>(alloc, plan) else {
         return Swept::Short;
@@ -222,7 +229,8 @@ pub fn sweep_run<M: Computer, T: Sink, R: Sink>(
             SingleCycle::Breaks(stop) => return Swept::Stopped(end(stop, progress, done)),
         };
         let did = stepped.did;
-        let Ok(next) = look::<M>(
+        nvm.recall_lying();
+        let Ok(next) = look::<M, N>(
             alloc,
             plan,
             room,

@@ -107,10 +107,25 @@ fn check(rt: &impl Abort, holds: bool, at: &str) {
 /// turn. A boot that restores it takes ten cycles. A boot that loads the file takes 523 actions up to its first barrier and 2 more.
 /// In every fourth cycle a write lands, if one is queued then: after cycle 697 the second cycle of the boot is the first of these,
 /// and finds none; 174 others do, the last one with the commit block. After cycle 698 it is the boot's first, and the commit block
-/// lands by the barrier. The second commit block is written in cycle 721, and the program has ended then.
-static TEXTS: [(&str, u8, &str); 4] = [
+/// lands by the barrier. The second commit block is written in cycle 721, and the program has ended then. With --gap each barrier moves
+/// a line here, which no machine sees: the text is the same.
+static TEXTS: [(&str, u8, &str); 5] = [
     (
         "sweep --from 697 --to 700 run F --pages 8 --btt 8 --ptt 8",
+        0,
+        "cycles 697 697 counts 0 0 queued 0 images 1 tried 1, none times 1 boot 699 699\n\
+         cycles 698 698 counts 0 0 queued 1 images 2 tried 2, none times 1 boot 698 698, epoch 0 at 0 times 1 boot 10 10\n\
+         cycles 699 700 counts 0 0 queued 0 images 1 tried 1, epoch 0 at 0 times 1 boot 10 10\n\
+         states 4 rows 3\n\
+         restarts 0 2\n\
+         reloads 2\n\
+         decided 1\n\
+         longest boot 699\n\
+         lost most 0 sum 0\n\
+         to 700\n",
+    ),
+    (
+        "sweep --from 697 --to 700 run F --pages 8 --btt 8 --ptt 8 --gap 1",
         0,
         "cycles 697 697 counts 0 0 queued 0 images 1 tried 1, none times 1 boot 699 699\n\
          cycles 698 698 counts 0 0 queued 1 images 2 tried 2, none times 1 boot 698 698, epoch 0 at 0 times 1 boot 10 10\n\
@@ -177,6 +192,30 @@ fn the_text_has_each_row_and_the_sums(rt: HostRuntime) {
     }
 }
 
+/// The last cycles of a run, and the same with levelled wear, also if processors alone are compared.
+static LAST: [&str; 4] = [
+    "sweep --from 690 run F --pages 8 --btt 8 --ptt 8",
+    "sweep --from 690 run F --pages 8 --btt 8 --ptt 8 --gap 1",
+    "sweep --from 690 run F --pages 8 --btt 8 --ptt 8 --gap 7",
+    "sweep --from 690 --compare registers run F --pages 8 --btt 8 --ptt 8 --gap 7",
+];
+
+#[test]
+fn levelled_wear_changes_no_row(rt: HostRuntime) {
+    let direct = called(&rt, rt.alloc(), LAST[0]);
+    check(&rt, direct.is_put, LAST[0]);
+    for line in &LAST {
+        let text = direct.put.as_slice();
+        expect_same(&rt, rt.alloc(), line, text);
+    }
+}
+
+/// Calls, and compares the text that is put with this one.
+fn expect_same(rt: &impl Abort, alloc: Global, line: &str, text: &[u8]) {
+    let given = called(rt, alloc, line);
+    check(rt, given.put.as_slice() == text, line);
+}
+
 /// Calls that are refused, and their reports.
 static REFUSED: [(&str, &str); 18] = [
     ("sweep run O", "usage\n"),
@@ -184,7 +223,7 @@ static REFUSED: [(&str, &str); 18] = [
     ("sweep compare F", "usage\n"),
     ("sweep run F --cuts 5", "usage\n"),
     ("sweep run F --save G", "usage\n"),
-    ("sweep run F --gap 5", "usage\n"),
+    ("sweep --torn run F --gap 5", "usage\n"),
     ("sweep --from 1 --from 2 run F", "usage\n"),
     ("sweep --torn --to 5 --torn run F", "usage\n"),
     ("sweep --torn --all 5 run F", "usage\n"),

@@ -1,18 +1,19 @@
 //! The call: the run with what is tried, and then OUT.
-ghost use Rattle.std.specs.Prelude.{◌≡◌, ◌<◌, [], None, length, map};
+ghost use Rattle.std.specs.Prelude.{◌≡◌, ◌<◌, ◌^◌, [], None, length, map};
 ghost use Rattle.std.specs.String.{string_bytes};
 ghost use Rattle.thy_answer.specs.Answering.{outside};
 ghost use Rattle.thy_answer.specs.Kept.{named};
 ghost use Rattle.thy_answer.specs.Machines.{by_scheme};
 ghost use Rattle.thy_base.specs.Config.{fault_of as range_fault, parameters_of};
 ghost use Rattle.thy_block.specs.declared.parameters.Parameters.{Parameters as Numbers};
-ghost use Rattle.thy_execute.specs.Planning.{CanRun, shape_of};
+ghost use Rattle.thy_execute.specs.Planning.{CanRun, HasStayed, shape_of};
 ghost use Rattle.thy_files.specs.Restoring.{ReadsFiles};
 ghost use Rattle.thy_run.specs.Going.{IsPlanned};
 ghost use Rattle.thy_run.specs.Rounds.{IsFitted};
 ghost use Rattle.thy_arguments.specs.Settings.{IsInRange, job_of, order_of};
 ghost use Rattle.sweep.specs.Naming.{IsUncut};
-ghost use Rattle.sweep.specs.Swept.{Sweeps, SweepsJob, SweepsOrder, SweepsOver, SweepsPlan};
+ghost use Rattle.sweep.specs.Swept.{Sweeps, SweepsJob, SweepsOrder, SweepsOver, SweepsPlan, levels_of};
+ghost use Rattle.thy_sweep.specs.Lying.{blocks_below};
 
 use crate::asked::Asked;
 use crate::concluding::{conclude, report_short};
@@ -24,11 +25,13 @@ use thy_arguments::{Command, Job, WordsError, settings};
 use thy_base::{Block, Geometry, Nvm, SchemeName, Shape, Shelf, Sink};
 use thy_core::Machine;
 use thy_files::{Beginning, prepare};
+use thy_gap::Gap;
 use thy_journal::Journal;
 use thy_nvm::MemNvm;
 use thy_run::Plan;
 use thy_shadow::Shadow;
 use thy_thynvm::Thynvm;
+use thy_trial::Tryable;
 use thy_view::Computer;
 
 /// The shape that the device of a plan's machine is fitted with.
@@ -43,8 +46,9 @@ fn shape_of<M: Computer>(plan: &Plan) -> Shape
     }
 }
 
-/// Makes the run of a plan over a device that was fitted for it, with what is tried, and writes OUT. Returns the exit status.
-fn sweep_fitted<M: Computer, H: Shelf, T: Sink, R: Sink>(
+/// Makes the run of a plan over a device that was fitted for it, with what is tried, and writes OUT. The shape is of the device in
+/// memory. Returns the exit status.
+fn sweep_fitted<M: Computer, H: Shelf, T: Sink, R: Sink, N: Tryable>(
     alloc: Global,
     out: &str,
     asked: &Asked,
@@ -54,29 +58,115 @@ fn sweep_fitted<M: Computer, H: Shelf, T: Sink, R: Sink>(
     shelf: &mut H,
     terminal: &mut T,
     report: &mut R,
-    nvm: &mut MemNvm,
+    nvm: &mut N,
 ) -> u8
     requires planned { IsPlanned plan.now }
     requires uncut { plan.now.config.cuts ≡ [] }
-    requires fitted { IsFitted M.kind plan.now nvm.old.device }
-    requires blocks { shape.now.blocks ≡ length nvm.old.device.image }
-    requires queue { shape.now.queue ≡ nvm.old.device.queue_room }
+    requires levels { N.levels ≡ levels_of plan.now }
+    requires fitted { IsFitted M.kind plan.now (N.device nvm.old) }
+    requires sized { 0 < length (N.device nvm.old).image }
+    requires blocks { shape.now.blocks ≡ blocks_below N.levels (length (N.device nvm.old).image) }
+    requires queue { shape.now.queue ≡ (N.device nvm.old).queue_room }
+    requires cuts { shape.now.cuts < 2 ^ 64 }
     requires some { 0 < shape.now.queue }
-    ensures { let before = outside (H.stock shelf.old) nvm.old.device
+    ensures sweeps { let before = outside (H.stock shelf.old) (N.device nvm.old)
         (T.stream terminal.old) (R.stream report.old) in
-        let after = outside (H.stock shelf.new) nvm.new.device
+        let after = outside (H.stock shelf.new) (N.device nvm.new)
         (T.stream terminal.new) (R.stream report.new) in
         SweepsOver M.kind out.now asked.now (named source.entry) plan.now before after result }
+    ensures stays { HasStayed (N.device nvm.old) (N.device nvm.new) }
 {
     let Ok(mut watch) = Watch::new(alloc, plan, asked.compared) else {
         return report_short(report);
     };
-    let swept = sweep_run::<M, T, R>(alloc, plan, shape, asked, terminal, report, &mut watch, nvm);
+    let swept = sweep_run::<M, T, R, N>(
+        alloc, plan, shape, asked, terminal, report, &mut watch, nvm,
+    );
     let limit = plan.geometry.numbers().limit;
     let Watch { account, .. } = watch;
     conclude(
         alloc, out, source, asked, swept, account, limit, shelf, report,
     )
+}
+
+/// Makes the run of a plan without levelling over a device in memory that is made for it, with these first blocks, with what is tried,
+/// and writes OUT. Returns the exit status.
+fn sweep_direct<M: Computer, H: Shelf, T: Sink, R: Sink>(
+    alloc: Global,
+    out: &str,
+    asked: &Asked,
+    source: ProgramSource,
+    plan: &Plan,
+    blocks: Vec<Block>,
+    shelf: &mut H,
+    terminal: &mut T,
+    report: &mut R,
+    nvm: &mut MemNvm,
+) -> u8
+    requires direct { plan.now.config.gap ≡ 0 }
+    requires can { CanRun plan.now blocks.items }
+    requires reads { ReadsFiles M.kind plan.now.geometry }
+    requires uncut { plan.now.config.cuts ≡ [] }
+    ensures { let before = outside (H.stock shelf.old) nvm.old.device
+        (T.stream terminal.old) (R.stream report.old) in
+        let after = outside (H.stock shelf.new) nvm.new.device
+        (T.stream terminal.new) (R.stream report.new) in
+        SweepsPlan M.kind out.now asked.now (named source.entry) plan.now blocks.items before after result }
+{
+    let shape = shape_of::<M>(plan);
+    match nvm.fit(alloc, &shape, blocks) {
+        Ok(()) => sweep_fitted::<M, H, T, R, MemNvm>(
+            alloc, out, asked, source, plan, &shape, shelf, terminal, report, nvm,
+        ),
+        Err(error) => refuse(alloc, Refusal::Device(error), report).status,
+    }
+}
+
+/// Makes the run of a plan with wear levelling, over lines on a device in memory. They are made for it, with these first blocks. Writes
+/// OUT, and returns the exit status.
+fn sweep_levelled<M: Computer, H: Shelf, T: Sink, R: Sink>(
+    alloc: Global,
+    out: &str,
+    asked: &Asked,
+    source: ProgramSource,
+    plan: &Plan,
+    blocks: Vec<Block>,
+    shelf: &mut H,
+    terminal: &mut T,
+    report: &mut R,
+    nvm: &mut MemNvm,
+) -> u8
+    requires levelled { 0 < plan.now.config.gap }
+    requires can { CanRun plan.now blocks.items }
+    requires reads { ReadsFiles M.kind plan.now.geometry }
+    requires uncut { plan.now.config.cuts ≡ [] }
+    ensures { let before = outside (H.stock shelf.old) nvm.old.device
+        (T.stream terminal.old) (R.stream report.old) in
+        let after = outside (H.stock shelf.new) nvm.new.device
+        (T.stream terminal.new) (R.stream report.new) in
+        SweepsPlan M.kind out.now asked.now (named source.entry) plan.now blocks.items before after result }
+{
+    let shape = shape_of::<M>(plan);
+    let mut lines = Gap::over(nvm, plan.config.gap);
+    match lines.fit(alloc, &shape, blocks) {
+        Ok(()) => {
+            let below = Shape {
+                blocks: lines.inner_blocks(),
+                queue: shape.queue,
+                cuts: shape.cuts,
+            };
+            let status = sweep_fitted::<M, H, T, R, Gap<&mut MemNvm>>(
+                alloc, out, asked, source, plan, &below, shelf, terminal, report, &mut lines,
+            );
+            lines.recall_meaning();
+            let _loan = lines.into_inner();
+            status
+        }
+        Err(error) => {
+            let _loan = lines.into_inner();
+            refuse(alloc, Refusal::Device(error), report).status
+        }
+    }
 }
 
 /// Makes the run of a plan over a device that is made for it, with these first blocks, with what is tried, and writes OUT. Returns the
@@ -102,12 +192,14 @@ fn sweep_plan<M: Computer, H: Shelf, T: Sink, R: Sink>(
         (T.stream terminal.new) (R.stream report.new) in
         SweepsPlan M.kind out.now asked.now (named source.entry) plan.now blocks.items before after result }
 {
-    let shape = shape_of::<M>(plan);
-    match nvm.fit(alloc, &shape, blocks) {
-        Ok(()) => sweep_fitted::<M, H, T, R>(
-            alloc, out, asked, source, plan, &shape, shelf, terminal, report, nvm,
-        ),
-        Err(error) => refuse(alloc, Refusal::Device(error), report).status,
+    if plan.config.gap == 0 {
+        sweep_direct::<M, H, T, R>(
+            alloc, out, asked, source, plan, blocks, shelf, terminal, report, nvm,
+        )
+    } else {
+        sweep_levelled::<M, H, T, R>(
+            alloc, out, asked, source, plan, blocks, shelf, terminal, report, nvm,
+        )
     }
 }
 
@@ -269,7 +361,7 @@ fn sweep_words<A: Computer, B: Computer, C: Computer, H: Shelf, T: Sink, R: Sink
         Ok(command) => command,
         Err(error) => return refuse(alloc, Refusal::Words(error), report).status,
     };
-    let refused = is_refused(out, &command);
+    let refused = is_refused(out, asked.torn, &command);
     if refused {
         return refuse(alloc, Refusal::Words(WordsError::Usage), report).status;
     }

@@ -3,6 +3,7 @@ ghost use Rattle.std.specs.Prelude.{◌≡◌, ◌<◌, ◌-◌, ◌^◌, ◌&&�
 ghost use Rattle.thy_block.specs.Counts.{next};
 ghost use Rattle.thy_sweep.specs.Choices.{count_of, places_of};
 ghost use Rattle.thy_sweep.specs.Images.{crash_images};
+ghost use Rattle.thy_sweep.specs.Lying.{lying};
 ghost use Rattle.thy_trial.specs.Rooms.{CanTryOf, HasRoomFor};
 ghost use Rattle.sweep.specs.Findings.{IsKnown, IsNamed, is_load};
 ghost use Rattle.sweep.specs.Rows.{NotesNumber, NotesPick, TriesAsked, TriesImages, TriesPicks, noted_if, picks_of, wants};
@@ -13,10 +14,9 @@ use crate::beside::Beside;
 use crate::row::{Name, Row};
 use std::alloc::{AllocError, Global};
 use thy_base::Mix;
-use thy_nvm::MemNvm;
 use thy_run::Plan;
 use thy_sweep::{Booted, Choices, note_boot};
-use thy_trial::{Found, Part, PickTrial, Room, Trial, try_number, try_pick};
+use thy_trial::{Found, Part, PickTrial, Room, Trial, Tryable, try_number, try_pick};
 use thy_view::{Computer, CoreError};
 
 /// The most cycles of a boot, as of a run.
@@ -85,7 +85,7 @@ fn note(found: &Found, name: Name, beside: &Beside, row: &mut Row) -> Result<(),
 }
 
 /// Tries the image of a pick, unless it was tried in this cycle already, and notes it. Of a state that is restored this part is read.
-fn note_pick<M: Computer>(
+fn note_pick<M: Computer, N: Tryable>(
     alloc: Global,
     plan: &Plan,
     room: Room,
@@ -96,17 +96,18 @@ fn note_pick<M: Computer>(
     mix: &Mix,
     beside: &Beside,
     row: &mut Row,
-    nvm: &MemNvm,
+    nvm: &N,
 ) -> Result<Room, CoreError>
-    requires room { HasRoomFor plan.now nvm.now.device room }
-    requires can { CanTryOf M.kind plan.now nvm.now.device mix.now most_cycles }
-    requires choices { choices.now ≡ places_of nvm.now.device }
-    ensures room { IfOk result (HasRoomFor plan.now nvm.now.device) }
-    ensures tried { let before = numbers.old.items in
+    requires room { HasRoomFor plan.now (N.memory nvm.now) room }
+    requires can { CanTryOf M.kind plan.now (N.device nvm.now) mix.now most_cycles }
+    requires choices { choices.now ≡ places_of (N.memory nvm.now) }
+    ensures room { IfOk result (HasRoomFor plan.now (N.memory nvm.now)) }
+    ensures tried { let d = lying N.levels (N.memory nvm.now) (N.device nvm.now) in
+        let before = numbers.old.items in
         let after = numbers.new.items in
-        OnOk result (NotesPick M.kind part plan.now nvm.now.device mix.now pick before after row.old row.new) }
+        OnOk result (NotesPick M.kind part plan.now d mix.now pick before after row.old row.new) }
 {
-    let trial = try_pick::<M>(
+    let trial = try_pick::<M, N>(
         alloc, plan, room, choices, numbers, pick, part, *mix, MOST, nvm,
     )?;
     let PickTrial { found, room } = trial;
@@ -120,7 +121,7 @@ fn note_pick<M: Computer>(
 }
 
 /// Tries the images of picks, each once.
-fn try_picks<M: Computer>(
+fn try_picks<M: Computer, N: Tryable>(
     alloc: Global,
     plan: &Plan,
     room: Room,
@@ -129,20 +130,21 @@ fn try_picks<M: Computer>(
     mix: &Mix,
     beside: &Beside,
     row: &mut Row,
-    nvm: &MemNvm,
+    nvm: &N,
 ) -> Result<Room, CoreError>
-    requires room { HasRoomFor plan.now nvm.now.device room }
-    requires can { CanTryOf M.kind plan.now nvm.now.device mix.now most_cycles }
-    requires choices { choices.now ≡ places_of nvm.now.device }
-    ensures room { IfOk result (HasRoomFor plan.now nvm.now.device) }
-    ensures tried { let count = picks_of asked.now in
-        OnOk result (TriesPicks M.kind plan.now nvm.now.device mix.now asked.now count row.old row.new) }
+    requires room { HasRoomFor plan.now (N.memory nvm.now) room }
+    requires can { CanTryOf M.kind plan.now (N.device nvm.now) mix.now most_cycles }
+    requires choices { choices.now ≡ places_of (N.memory nvm.now) }
+    ensures room { IfOk result (HasRoomFor plan.now (N.memory nvm.now)) }
+    ensures tried { let d = lying N.levels (N.memory nvm.now) (N.device nvm.now) in
+        let count = picks_of asked.now in
+        OnOk result (TriesPicks M.kind plan.now d mix.now asked.now count row.old row.new) }
 {
     let mut numbers = Vec::new(alloc);
     let mut room = room;
     for i in 0..asked.picks() {
         let pick = asked.pick(i);
-        room = note_pick::<M>(
+        room = note_pick::<M, N>(
             alloc,
             plan,
             room,
@@ -160,7 +162,7 @@ fn try_picks<M: Computer>(
 }
 
 /// Tries the image of a number, of the `count` images that there are, and notes it, as `note_pick` does.
-fn note_number<M: Computer>(
+fn note_number<M: Computer, N: Tryable>(
     alloc: Global,
     plan: &Plan,
     room: Room,
@@ -171,17 +173,18 @@ fn note_number<M: Computer>(
     mix: &Mix,
     beside: &Beside,
     row: &mut Row,
-    nvm: &MemNvm,
+    nvm: &N,
 ) -> Result<Room, CoreError>
-    requires room { HasRoomFor plan.now nvm.now.device room }
-    requires can { CanTryOf M.kind plan.now nvm.now.device mix.now most_cycles }
-    requires choices { choices.now ≡ places_of nvm.now.device }
+    requires room { HasRoomFor plan.now (N.memory nvm.now) room }
+    requires can { CanTryOf M.kind plan.now (N.device nvm.now) mix.now most_cycles }
+    requires choices { choices.now ≡ places_of (N.memory nvm.now) }
     requires count { count ≡ count_of choices.now }
     requires number { number < count }
-    ensures room { IfOk result (HasRoomFor plan.now nvm.now.device) }
-    ensures tried { OnOk result (NotesNumber M.kind part plan.now nvm.now.device mix.now number row.old row.new) }
+    ensures room { IfOk result (HasRoomFor plan.now (N.memory nvm.now)) }
+    ensures tried { let d = lying N.levels (N.memory nvm.now) (N.device nvm.now) in
+        OnOk result (NotesNumber M.kind part plan.now d mix.now number row.old row.new) }
 {
-    let trial = try_number::<M>(
+    let trial = try_number::<M, N>(
         alloc, plan, room, choices, count, number, part, *mix, MOST, nvm,
     )?;
     let Trial { found, room } = trial;
@@ -192,7 +195,7 @@ fn note_number<M: Computer>(
 }
 
 /// Tries every image that there is.
-fn try_all<M: Computer>(
+fn try_all<M: Computer, N: Tryable>(
     alloc: Global,
     plan: &Plan,
     room: Room,
@@ -202,19 +205,19 @@ fn try_all<M: Computer>(
     mix: &Mix,
     beside: &Beside,
     row: &mut Row,
-    nvm: &MemNvm,
+    nvm: &N,
 ) -> Result<Room, CoreError>
-    requires room { HasRoomFor plan.now nvm.now.device room }
-    requires can { CanTryOf M.kind plan.now nvm.now.device mix.now most_cycles }
-    requires choices { choices.now ≡ places_of nvm.now.device }
+    requires room { HasRoomFor plan.now (N.memory nvm.now) room }
+    requires can { CanTryOf M.kind plan.now (N.device nvm.now) mix.now most_cycles }
+    requires choices { choices.now ≡ places_of (N.memory nvm.now) }
     requires count { count ≡ count_of choices.now }
-    ensures room { IfOk result (HasRoomFor plan.now nvm.now.device) }
-    ensures tried { let n = nvm.now.device in
-        OnOk result (TriesImages M.kind part plan.now n mix.now (crash_images n) row.old row.new) }
+    ensures room { IfOk result (HasRoomFor plan.now (N.memory nvm.now)) }
+    ensures tried { let d = lying N.levels (N.memory nvm.now) (N.device nvm.now) in
+        OnOk result (TriesImages M.kind part plan.now d mix.now (crash_images d.memory) row.old row.new) }
 {
     let mut room = room;
     for number in 0..count {
-        room = note_number::<M>(
+        room = note_number::<M, N>(
             alloc, plan, room, choices, count, number, part, mix, beside, row, nvm,
         )?;
     }
@@ -246,7 +249,7 @@ fn count_for(choices: &Choices, all: u64) -> Option<u64>
 ///
 /// # Errors
 /// `Memory` if memory runs out.
-pub fn try_cycle<M: Computer>(
+pub fn try_cycle<M: Computer, N: Tryable>(
     alloc: Global,
     plan: &Plan,
     room: Room,
@@ -254,16 +257,17 @@ pub fn try_cycle<M: Computer>(
     mix: Mix,
     beside: &Beside,
     row: &mut Row,
-    nvm: &MemNvm,
+    nvm: &N,
 ) -> Result<Room, CoreError>
-    requires room { HasRoomFor plan.now nvm.now.device room }
-    requires can { CanTryOf M.kind plan.now nvm.now.device mix most_cycles }
-    ensures room { IfOk result (HasRoomFor plan.now nvm.now.device) }
-    ensures images { OnOk result (row.new.images ≡ min (count_of (places_of nvm.now.device)) (2 ^ 128 - 1)) }
-    ensures tried { let old = record row.old { images = row.new.images } in
-        OnOk result (TriesAsked M.kind plan.now nvm.now.device mix asked.now old row.new) }
+    requires room { HasRoomFor plan.now (N.memory nvm.now) room }
+    requires can { CanTryOf M.kind plan.now (N.device nvm.now) mix most_cycles }
+    ensures room { IfOk result (HasRoomFor plan.now (N.memory nvm.now)) }
+    ensures images { OnOk result (row.new.images ≡ min (count_of (places_of (N.memory nvm.now))) (2 ^ 128 - 1)) }
+    ensures tried { let d = lying N.levels (N.memory nvm.now) (N.device nvm.now) in
+        let old = record row.old { images = row.new.images } in
+        OnOk result (TriesAsked M.kind plan.now d mix asked.now old row.new) }
 {
-    let choices = match Choices::of(alloc, nvm) {
+    let choices = match Choices::of(alloc, nvm.below()) {
         Ok(choices) => choices,
         Err(error) => return Err(CoreError::Memory(error)),
     };
@@ -271,7 +275,7 @@ pub fn try_cycle<M: Computer>(
     row.images = images;
     match count_for(&choices, asked.all) {
         Some(count) => {
-            try_all::<M>(
+            try_all::<M, N>(
                 alloc,
                 plan,
                 room,
@@ -284,6 +288,6 @@ pub fn try_cycle<M: Computer>(
                 nvm,
             )
         }
-        None => try_picks::<M>(alloc, plan, room, &choices, asked, &mix, beside, row, nvm),
+        None => try_picks::<M, N>(alloc, plan, room, &choices, asked, &mix, beside, row, nvm),
     }
 }

@@ -29,6 +29,10 @@ pub record Levelled (N : Type 0) : Type 0 where
 abbrev pub over : {N : Type 0} → N → ℕ → Levelled N
 over inner every = record { inner = inner; every = every; registers = no_lines; since = 0; moves = 0; cuts = 0 }
 
+-- the lines over a copy of the inner device, with no cut yet
+abbrev pub over_copy : {N C : Type 0} → C → Levelled N → Levelled C
+over_copy copy g = record { inner = copy; every = g.every; registers = g.registers; since = g.since; moves = g.moves; cuts = 0 }
+
 -- a device says that its barriers make no write of their own
 abbrev pub is_plain : Wear → Bool
 is_plain Plain = true

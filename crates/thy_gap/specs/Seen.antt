@@ -1,6 +1,6 @@
 -- Part of the claim.
 -- What is seen of an inner device through registers.
-use Rattle.std.specs.Prelude.{ℕ, ◌==◌, if◌then◌else◌, List, [], ◌∷◌, ◌++◌, map, Option, Some, None}
+use Rattle.std.specs.Prelude.{ℕ, ◌==◌, if◌then◌else◌, Bool, true, false, List, [], ◌∷◌, ◌++◌, map, Option, Some, None}
 use Rattle.std.specs.List.{range_with_len}
 use Rattle.thy_block.specs.declared.block.Block.{Block}
 use Rattle.thy_block.specs.declared.nvm.Write.{Write}
@@ -15,6 +15,11 @@ unmap r image = map (λ x. block_at image (place r x)) (range_with_len 0 r.lines
 -- the image of the lines that an inner image means by its registers
 abbrev pub unmapped : List Block → List Block
 unmapped g = unmap (registers_in g) g
+
+-- what an image is to a run over its device: itself, or the lines that it holds
+abbrev pub seen_as : Bool → List Block → List Block
+seen_as false g = g
+seen_as true g = unmapped g
 
 -- a write of a line, if there is one
 abbrev pub write_to : Option ℕ → Block → List Write

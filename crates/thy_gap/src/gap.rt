@@ -1,17 +1,19 @@
 //! A device whose lines wander over an inner one.
 ghost use Rattle.std.specs.Prelude.{◌≡◌, ◌+◌, ◌^◌, ◌<◌, ◌≤◌, false, length, IfOk, OnOk, OnErr, IfErr, MatchResult, slice_index_or, []};
-ghost use Rattle.thy_block.specs.Device.{newest, block_at, written_to, drained, fitted, IsCut, IsSettled, IsFramed, HasFailed, HasFailedToSettle, HasFailedToWrite, HasFailedToFit, CountsFault};
+ghost use Rattle.thy_block.specs.declared.nvm.Write.{Write as Written};
+ghost use Rattle.thy_block.specs.Device.{Crash, newest, block_at, written_to, drained, fitted, IsCut, IsSettled, IsFramed, HasFailed, HasFailedToSettle, HasFailedToWrite, HasFailedToFit, CountsFault};
 ghost use Rattle.thy_block.specs.Counts.{next};
-ghost use Rattle.thy_gap.specs.Levelled.{over as levelled_over, shown, first_image, inner_fitted, IsOver, HasFitted, HasWritten, is_due as due_by, HasMovedIfDue, settled_and_moved, HasCut, counted_on, moves_on};
+ghost use Rattle.thy_gap.specs.Levelled.{over as levelled_over, over_copy, shown, first_image, inner_fitted, IsOver, HasFitted, HasWritten, is_due as due_by, HasMovedIfDue, settled_and_moved, HasCut, counted_on, moves_on};
 ghost use Rattle.thy_gap.specs.Moving.{with_counts_of};
 ghost use Rattle.thy_gap.specs.Lines.{place as place_of_line};
+ghost use Rattle.thy_gap.specs.Seen.{unmapped};
 ghost use Rattle.thy_gap.specs.Meaning.{ImageMeansSeen, CrashMeansSeen, LeftMeansSeen, RegistersMeanMoves};
 
 use crate::Registers;
 use crate::moving::{move_line, registers_kept};
 use std::alloc::{AllocError, Global};
 use std::marker::Model;
-use thy_block::{Block, FitError, Nvm, NvmError, Shape};
+use thy_block::{Block, FitError, Nvm, NvmError, Shape, Write};
 
 /// A device of n blocks, its lines, over an inner device of n + 2. Whenever a number of writes were made, the next
 /// barrier moves one line by one place, so that a line that is written often wears each place in turn. The last place
@@ -78,6 +80,85 @@ impl<N: Nvm> Gap<N> {
         ensures { result ≡ self.inner }
     {
         self.inner
+    }
+
+    /// The inner device, to look at.
+    pub fn inner(&self) -> &N
+        ensures { result.now ≡ self.now.inner }
+    {
+        &self.inner
+    }
+
+    /// The place in the inner device where a line's block has landed.
+    pub fn landed_at(&self, line: u64) -> u64
+        requires { line < length (shown N.device self.now).image }
+        ensures within { result < length (N.device self.now.inner).image }
+        ensures block { let landed = block_at (N.device self.now.inner).image result in
+            landed ≡ block_at (shown N.device self.now).image line }
+    {
+        self.registers.place(line)
+    }
+
+    /// How many blocks the inner device has.
+    pub fn inner_blocks(&self) -> u64
+        requires { 0 < length (shown N.device self.now).image }
+        ensures { result ≡ length (shown N.device self.now).image + 2 }
+    {
+        self.registers.lines + 2
+    }
+
+    /// The inner device has two blocks more, and the same room for images.
+    pub fn recall_size(&self)
+        requires { 0 < length (shown N.device self.now).image }
+        ensures blocks { length (N.device self.now.inner).image ≡ length (shown N.device self.now).image + 2 }
+        ensures room { (shown N.device self.now).left_room ≡ (N.device self.now.inner).left_room }
+    {
+        let _ = &self.cuts;
+    }
+
+    /// Each queued write of a device that is up has one in the inner device.
+    pub fn recall_queue(&self)
+        requires { (N.device self.now.inner).down ≡ false }
+        ensures { length (shown N.device self.now).queue ≤ length (N.device self.now.inner).queue }
+    {
+        let _ = &self.cuts;
+    }
+
+    /// The queued write at a position, the oldest at 0, by the one at this position in the inner device.
+    pub fn line_write(&self, i: u64, inner: &Write) -> Write
+        requires up { (N.device self.now.inner).down ≡ false }
+        requires index { i < length (shown N.device self.now).queue }
+        requires inner { (w : Written) → slice_index_or (N.device self.now.inner).queue i w ≡ inner.now }
+        ensures write { (w : Written) → slice_index_or (shown N.device self.now).queue i w ≡ result }
+        ensures place { result.at < length (shown N.device self.now).image }
+    {
+        Write {
+            at: self.registers.line(inner.at),
+            block: inner.block,
+        }
+    }
+
+    /// The lines over another inner device, which holds what a cut may leave of this one's, and keeps nothing yet.
+    pub fn over_copy<C: Nvm>(&self, copy: C) -> Gap<C>
+        requires some { 0 < length (shown N.device self.now).image }
+        requires up { (N.device self.now.inner).down ≡ false }
+        requires left { Crash (N.device self.now.inner) (C.device copy).image }
+        requires empty { (C.device copy).queue ≡ [] }
+        requires unkept { (C.device copy).left ≡ [] }
+        requires room { (C.device copy).left_room < 2 ^ 64 }
+        ensures copied { result ≡ over_copy copy self.now }
+        ensures image { (shown C.device result).image ≡ unmapped (C.device copy).image }
+        ensures crash { Crash (shown N.device self.now) (shown C.device result).image }
+        ensures queue { (shown C.device result).queue ≡ [] }
+    {
+        Gap {
+            inner: copy,
+            every: self.every,
+            registers: self.registers,
+            since: self.since,
+            moves: self.moves,
+            cuts: 0,
+        }
     }
 
     /// What an inner image means by its own registers is the device of lines, also after a call that failed. This holds

@@ -5,7 +5,7 @@
 //! blocks land whole.
 //!
 //! Open specs/Lines.antt first, then specs/Seen.antt and specs/Levelled.antt, and src/gap.rt. It stands on thy_block
-//! alone; on it stand thy_answer and thy_execute, for the option `--gap`, and thy_tests tests it.
+//! alone; on it stand thy_answer, thy_execute, thy_sweep, thy_trial and sweep, for the option `--gap`, and thy_tests tests it.
 #![tactic(auto)]
 
 mod gap;

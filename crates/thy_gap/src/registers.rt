@@ -1,6 +1,6 @@
 //! The registers: where the lines of a levelled device lie.
-ghost use Rattle.std.specs.Prelude.{◌≡◌, ◌<◌, ◌≤◌};
-ghost use Rattle.thy_gap.specs.Lines.{IsWhole, place as place_of_line, source as source_of, moved as moved_on, unmoved, no_lines, registers_block, registers_of};
+ghost use Rattle.std.specs.Prelude.{◌≡◌, ◌≢◌, ◌<◌, ◌≤◌, Some};
+ghost use Rattle.thy_gap.specs.Lines.{IsWhole, place as place_of_line, line_at, source as source_of, moved as moved_on, unmoved, no_lines, registers_block, registers_of};
 
 use thy_block::{Block, block_with, word};
 
@@ -58,6 +58,21 @@ impl Registers {
             turned
         } else {
             turned + 1
+        }
+    }
+
+    /// The line of a place that has one.
+    pub fn line(&self, place: u64) -> u64
+        requires whole { IsWhole self.now }
+        requires other { place ≢ self.now.gap }
+        requires within { place ≤ self.now.lines }
+        ensures { line_at self.now place ≡ Some result }
+    {
+        let turned = if place < self.gap { place } else { place - 1 };
+        if turned < self.start {
+            turned + (self.lines - self.start)
+        } else {
+            turned - self.start
         }
     }
 

@@ -309,6 +309,10 @@ fn leave_store(state: &mut Held, hart: u8, width: Width, pc: u64, at: u64, value
     ensures console { state.new.console ≡ state.old.console }
     ensures runs { result ≡ true }
 {
+    // With one hart no reservation can go, and the rest is what the loop has already.
+    if state.processor.harts() < 2 {
+        return jump(state, hart, pc);
+    }
     let effect = Effect::Write {
         width,
         pc,

@@ -3,7 +3,7 @@ ghost use Rattle.std.specs.Prelude.{◌≡◌, true, ◌+◌, ◌<◌, ◌≤◌
 ghost use Rattle.thy_block.specs.Bytes.{bytes_of};
 ghost use Rattle.thy_block.specs.Geometry.{program_size};
 ghost use Rattle.thy_elf.specs.Image.{contents_of};
-ghost use Rattle.thy_isa.specs.Step.{State, cpu_of, fronted, state_of, is_running};
+ghost use Rattle.thy_isa.specs.Step.{cpu_of, fronted, state_of, is_running};
 ghost use Rattle.thy_isa.specs.Storable.{IsStorable};
 ghost use Rattle.thy_plain.specs.Machine.{in_state, loaded, stepped, stepped_by, after_steps, StopsAt};
 
@@ -158,10 +158,11 @@ impl Plain {
         if !self.is_running() {
             return 0;
         }
-        let before = self.state.count;
+        let before = self.count();
         for done in 0..limit {
             if !self.advance() {
-                return self.state.count - before;
+                let now = self.count();
+                return now - before;
             }
         }
         limit

@@ -1,5 +1,6 @@
 pub mod Choices
 pub mod Images
 pub mod Leads
+pub mod Lying
 pub mod Repeats
 pub mod Sums

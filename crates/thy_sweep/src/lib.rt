@@ -1,13 +1,15 @@
 //! What a sweep tries and keeps. After each cycle of a run it boots copies of what a cut could leave there. Here is said
-//! which images these are, and boots are counted by the checkpoints to which they led.
+//! which images these are, and boots are counted by the checkpoints to which they led. The run's device is one in memory, or the lines
+//! that one holds (`OverMemory`).
 //!
-//! Open specs/Images.antt and specs/Leads.antt first, and src/lead.rt. It stands on thy_block and thy_nvm; thy_trial and the program
+//! Open specs/Images.antt and specs/Leads.antt first, and src/lead.rt. It stands on thy_block, thy_nvm and thy_gap; thy_trial and the program
 //! sweep stand on it.
 #![tactic(auto)]
 
 mod choices;
 mod images;
 mod lead;
+mod over_memory;
 mod repeats;
 mod seen;
 mod sums;
@@ -15,6 +17,7 @@ mod sums;
 pub use choices::{Choices, the_images_of_a_cut_are_numbered};
 pub use images::every_image_of_a_cut_is_listed;
 pub use lead::{Booted, Lead, leads_are_of_their_boots, note_boot};
+pub use over_memory::OverMemory;
 pub use repeats::the_same_queue_is_the_same_device;
 pub use seen::is_still;
 pub use sums::Sums;

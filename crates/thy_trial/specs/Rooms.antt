@@ -1,5 +1,5 @@
 -- Images that a cut can leave of a run's device in memory, tried one after another.
-use Rattle.std.specs.Prelude.{◌≡◌, ℕ, ◌-◌, ◌^◌, min, true, false, List, [], ◌∷◌, ◌++◌, length, Option, Some, None, Result, IfOk, IfSome}
+use Rattle.std.specs.Prelude.{◌≡◌, ℕ, ◌-◌, ◌<◌, ◌^◌, min, true, false, List, [], ◌∷◌, ◌++◌, length, Option, Some, None, Result, IfOk, IfSome}
 use Rattle.thy_block.specs.declared.block.Block.{Block}
 use Rattle.thy_block.specs.declared.mix.Mix.{Mix}
 use Rattle.thy_block.specs.Device.{Device}
@@ -14,16 +14,17 @@ use Rattle.thy_trial.specs.declared.room.Found.{Found}
 use Rattle.thy_trial.specs.declared.room.Room.{Room}
 use Rattle.thy_trial.specs.declared.room.Trial.{Trial}
 use Rattle.thy_trial.specs.declared.room.PickTrial.{PickTrial}
-use Rattle.thy_trial.specs.Trials.{CanCopy, FewBefore, IsTried}
+use Rattle.thy_trial.specs.Trials.{FewBefore, IsTried}
 use Rattle.thy_view.specs.declared.error.CoreError.{CoreError}
 use Rattle.thy_view.specs.Kind.{KindOf, IsDramOf}
 use Rattle.thy_view.specs.Origin.{Origin}
 
--- there is room for a copy of a device, and for a machine of a plan
+-- there is room for a copy of a device in memory, and for a machine of a plan
 pub record HasRoomFor (plan : Plan) (n : Device) (room : Room) : Type 0 where
   pub dram : IsDramOf plan.geometry room.dram
   pub blocks : room.spare.blocks ≡ length n.image
   pub queue : room.spare.queue ≡ n.queue_room
+  pub cuts : room.spare.cuts < 2 ^ 64
 
 -- a run is here, with this device and this schedule
 pub record IsRunAt {M : Type 0} (K : KindOf M) (o : Origin) (w : World M) (n : Device) (schedule : Mix) : Type 0 where
@@ -31,8 +32,10 @@ pub record IsRunAt {M : Type 0} (K : KindOf M) (o : Origin) (w : World M) (n : D
   pub device : w.device ≡ n
   pub mix : w.mix ≡ schedule
 
+-- a run is here, with this device, which has blocks, and has cycles left for a boot
 abbrev pub CanTryOf : {M : Type 0} → KindOf M → Plan → Device → Mix → ℕ → Type 0
-CanTryOf {M = M} K plan n mix most = (w : World M) × IsRunAt K (origin_of plan) w n mix × FewBefore w most
+CanTryOf {M = M} K plan n mix most =
+    (w : World M) × IsRunAt K (origin_of plan) w n mix × FewBefore w most × (0 < length n.image)
 
 -- what it came to, from each run that is here, to try this image
 abbrev pub TriesOf : {M : Type 0} → KindOf M → Plan → ℕ → Part → Device → List Block → Mix → ℕ → Result Trial CoreError → Type 0
@@ -40,11 +43,12 @@ TriesOf {M = M} K plan pick part n g mix most result =
     (w : World M) → IsRunAt K (origin_of plan) w n mix → FewBefore w most
     → IfOk result (λ t. IsTried K (origin_of plan) pick part g w most t.found.booted t.found.state)
 
--- or what a copy holds that may be left of its device
-abbrev pub TriesOver : {M : Type 0} → KindOf M → Plan → ℕ → Part → Device → Mix → ℕ → Result Trial CoreError → Type 0
-TriesOver {M = M} K plan pick part n mix most result =
-    (w : World M) → CanCopy K (origin_of plan) w n → w.mix ≡ mix → FewBefore w most
-    → IfOk result (λ t. IsTried K (origin_of plan) pick part n.image w most t.found.booted t.found.state)
+-- there is room again for a copy of a device in memory, as this copy had
+pub record GivesBack (plan : Plan) (copy : Device) (room : Room) : Type 0 where
+  pub dram : IsDramOf plan.geometry room.dram
+  pub blocks : room.spare.blocks ≡ length copy.image
+  pub queue : room.spare.queue ≡ copy.queue_room
+  pub cuts : room.spare.cuts ≡ copy.left_room
 
 -- what it came to to try an image, unless it had been tried before
 abbrev pub TriesNew : {M : Type 0} → KindOf M → Plan → ℕ → Part → Device → List Block → Mix → ℕ → Result PickTrial CoreError → Type 0

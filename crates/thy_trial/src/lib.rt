@@ -9,9 +9,11 @@ mod laws;
 mod part;
 mod room;
 mod trial;
+mod tryable;
 
 pub use booting::boot;
 pub use laws::a_run_goes_on_over_a_copy;
 pub use part::{Part, Restored};
 pub use room::{Found, PickTrial, Room, Trial, try_number, try_pick};
 pub use trial::{Tried, try_copy};
+pub use tryable::Tryable;

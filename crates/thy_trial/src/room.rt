@@ -1,18 +1,18 @@
-//! Images that a cut can leave of a run's device in memory, tried over its own image one after another.
+//! Images that a cut can leave of a run's device, tried over the image of the device in memory on which it lies, one after another.
 ghost use Rattle.std.specs.Prelude.{◌≡◌, ◌<◌, ◌&&◌, [], ◌∷◌, ◌++◌, IfOk, OnOk};
+ghost use Rattle.thy_gap.specs.Seen.{seen_as};
 ghost use Rattle.thy_nvm.specs.Calls.{is_listed};
 ghost use Rattle.thy_nvm.specs.Pick.{picked};
 ghost use Rattle.thy_sweep.specs.Choices.{chosen, count_of, places_of};
-ghost use Rattle.thy_trial.specs.Rooms.{CanTryOf, HasRoomFor, ListsPick, TriesNew, TriesOf, TriesOver};
-ghost use Rattle.thy_trial.specs.Trials.{CanTry};
+ghost use Rattle.thy_trial.specs.Rooms.{CanTryOf, HasRoomFor, ListsPick, TriesNew, TriesOf};
 ghost use Rattle.thy_view.specs.Kind.{IsDramOf};
 
 use crate::part::{Part, Restored};
-use crate::trial::try_copy;
+use crate::tryable::Tryable;
 use std::alloc::{AllocError, Global};
 use thy_block::{Mix, Nvm, Shape};
 use thy_dram::Dram;
-use thy_nvm::{MemNvm, Overlay, Spare};
+use thy_nvm::{Overlay, Spare};
 use thy_run::Plan;
 use thy_sweep::{Booted, Choices};
 use thy_view::{Computer, CoreError};
@@ -63,37 +63,6 @@ impl Room {
     }
 }
 
-/// Tries what a copy holds, and gives its room back.
-fn try_over<'a, M: Computer>(
-    alloc: Global,
-    plan: &Plan,
-    copy: Overlay<'a>,
-    dram: Dram,
-    pick: u64,
-    part: Part,
-    mix: Mix,
-    most: u64,
-) -> Result<Trial, CoreError>
-    requires dram { IsDramOf plan.now.geometry dram }
-    requires can { CanTry M.kind plan.now copy.device mix most }
-    ensures tried { TriesOver M.kind plan.now pick part copy.entry.device mix most result }
-    ensures room { IfOk result (λ t. HasRoomFor plan.now copy.entry.device t.room) }
-{
-    let mut copy = copy;
-    let tried = try_copy::<M, Overlay<'a>>(alloc, plan, dram, pick, part, mix, most, &mut copy)?;
-    let spare = copy.into_spare();
-    Ok(Trial {
-        found: Found {
-            booted: tried.booted,
-            state: tried.state,
-        },
-        room: Room {
-            spare,
-            dram: tried.dram,
-        },
-    })
-}
-
 /// Whether a number is listed.
 fn lists(numbers: &[u128], number: u128) -> bool
     ensures { result ≡ is_listed number numbers.now }
@@ -118,12 +87,12 @@ fn list(numbers: &mut Vec<u128>, number: u128) -> Result<(), CoreError>
     }
 }
 
-/// Tries the image that a cut with this pick leaves of a run's device, unless its number is listed; then it is. The image is not
-/// copied. An image of torn blocks has no number, and is tried in any case.
+/// Tries the image that a cut with this pick leaves of the device in memory on which a run's device lies, unless its number is listed;
+/// then it is. The image is not copied. An image of torn blocks has no number, and is tried in any case.
 ///
 /// # Errors
 /// `Memory` if memory runs out.
-pub fn try_pick<M: Computer>(
+pub fn try_pick<M: Computer, N: Tryable>(
     alloc: Global,
     plan: &Plan,
     room: Room,
@@ -133,20 +102,23 @@ pub fn try_pick<M: Computer>(
     part: Part,
     mix: Mix,
     most: u64,
-    nvm: &MemNvm,
+    nvm: &N,
 ) -> Result<PickTrial, CoreError>
-    requires room { HasRoomFor plan.now nvm.now.device room }
-    requires can { CanTryOf M.kind plan.now nvm.now.device mix most }
-    requires choices { choices.now ≡ places_of nvm.now.device }
-    ensures tried { let n = nvm.now.device in
-        TriesNew M.kind plan.now pick part n (picked n.whole pick n.image n.queue) mix most result }
-    ensures listed { IfOk result (λ t. ListsPick pick nvm.now.device numbers.old.items numbers.new.items t.found) }
-    ensures room { IfOk result (λ t. HasRoomFor plan.now nvm.now.device t.room) }
+    requires room { HasRoomFor plan.now (N.memory nvm.now) room }
+    requires can { CanTryOf M.kind plan.now (N.device nvm.now) mix most }
+    requires choices { choices.now ≡ places_of (N.memory nvm.now) }
+    ensures tried { let n = N.memory nvm.now in
+        let image = seen_as N.levels (picked n.whole pick n.image n.queue) in
+        TriesNew M.kind plan.now pick part (N.device nvm.now) image mix most result }
+    ensures listed { let n = N.memory nvm.now in
+        IfOk result (λ t. ListsPick pick n numbers.old.items numbers.new.items t.found) }
+    ensures room { IfOk result (λ t. HasRoomFor plan.now (N.memory nvm.now) t.room) }
 {
     let Room { spare, dram } = room;
-    let copy = Overlay::of(spare, nvm, pick);
+    let below = nvm.below();
+    let copy = Overlay::of(spare, below, pick);
     let number = choices.number_of(&copy);
-    let known = is_known(nvm.lands_whole(), numbers.as_slice(), number);
+    let known = is_known(below.lands_whole(), numbers.as_slice(), number);
     if known {
         let spare = copy.into_spare();
         return Ok(PickTrial {
@@ -155,7 +127,7 @@ pub fn try_pick<M: Computer>(
         });
     }
     list(numbers, number)?;
-    match try_over::<M>(alloc, plan, copy, dram, pick, part, mix, most) {
+    match nvm.try_over::<M>(alloc, plan, copy, dram, pick, part, mix, most) {
         Ok(trial) => Ok(PickTrial {
             found: Some(trial.found),
             room: trial.room,
@@ -164,11 +136,11 @@ pub fn try_pick<M: Computer>(
     }
 }
 
-/// Tries the image of a number, of the `count` images that a cut can leave of a run's device.
+/// Tries the image of a number, of the `count` images that a cut can leave of the device in memory on which a run's device lies.
 ///
 /// # Errors
 /// `Memory` if memory runs out.
-pub fn try_number<M: Computer>(
+pub fn try_number<M: Computer, N: Tryable>(
     alloc: Global,
     plan: &Plan,
     room: Room,
@@ -178,19 +150,20 @@ pub fn try_number<M: Computer>(
     part: Part,
     mix: Mix,
     most: u64,
-    nvm: &MemNvm,
+    nvm: &N,
 ) -> Result<Trial, CoreError>
-    requires room { HasRoomFor plan.now nvm.now.device room }
-    requires can { CanTryOf M.kind plan.now nvm.now.device mix most }
-    requires choices { choices.now ≡ places_of nvm.now.device }
+    requires room { HasRoomFor plan.now (N.memory nvm.now) room }
+    requires can { CanTryOf M.kind plan.now (N.device nvm.now) mix most }
+    requires choices { choices.now ≡ places_of (N.memory nvm.now) }
     requires count { count ≡ count_of choices.now }
     requires number { number < count }
-    ensures tried { let n = nvm.now.device in
-        TriesOf M.kind plan.now 0 part n (chosen (places_of n) number n.image) mix most result }
-    ensures room { IfOk result (λ t. HasRoomFor plan.now nvm.now.device t.room) }
+    ensures tried { let n = N.memory nvm.now in
+        let image = seen_as N.levels (chosen (places_of n) number n.image) in
+        TriesOf M.kind plan.now 0 part (N.device nvm.now) image mix most result }
+    ensures room { IfOk result (λ t. HasRoomFor plan.now (N.memory nvm.now) t.room) }
 {
     let Room { spare, dram } = room;
-    let mut copy = Overlay::of(spare, nvm, 0);
+    let mut copy = Overlay::of(spare, nvm.below(), 0);
     choices.choose(count, number, &mut copy);
-    try_over::<M>(alloc, plan, copy, dram, 0, part, mix, most)
+    nvm.try_over::<M>(alloc, plan, copy, dram, 0, part, mix, most)
 }

@@ -2,6 +2,7 @@ use Rattle.std.proofs.Common.{◌≡◌, ◌||◌, sym, ◌∙◌, ap, subst, in
 use Rattle.std.proofs.lemmas.Result.{on_ok_weaker}
 use Rattle.std.specs.Prelude.{Option, is_some, option_map}
 use Rattle.thy_block.specs.Device.{Device}
+use Rattle.thy_sweep.specs.Lying.{Lying, lying}
 use Rattle.sweep.specs.declared.account.Account.{Account}
 use Rattle.sweep.specs.declared.account.Kept.{Kept}
 use Rattle.sweep.specs.declared.row.Row.{Row}
@@ -16,7 +17,7 @@ returns-then-not-has-clause-looks g c =
 pub returns-then-more-clause-looks : goal.returns-then-more-clause-looks
 returns-then-more-clause-looks g c =
     let old : Kept = c.args.watch.now.account.kept in
-    let n : Device = c.args.nvm.now.device in
+    let n : Device = g.N.Nvm.device c.args.nvm.now in
     let count = c.pass.new.self.count in
     inl (record {
       sums = c.repeats-more.ensures.sums ∙ c.pass.ensures.sums;
@@ -32,20 +33,21 @@ returns-then-more-clause-looks g c =
 
 pub returns-clause-looks : goal.returns-clause-looks
 returns-clause-looks g c =
-    let n : Device = c.args.nvm.now.device in
+    let d : Lying = lying g.N.OverMemory.levels (g.N.OverMemory.memory c.args.nvm.now) (g.N.Nvm.device c.args.nvm.now) in
     let old : Account = c.args.watch.now.account in
     let mid : Account = c.repeats-more.new.self in
     let current : mid.current ≡ old.current = c.repeats-more.ensures.other c.if-more.false ∙ c.pass.ensures.current in
     let sums : mid.sums ≡ old.sums = c.repeats-more.ensures.sums ∙ c.pass.ensures.sums in
     let differs : mid.differs ≡ old.differs = c.repeats-more.ensures.differs ∙ c.pass.ensures.differs in
     on_ok_weaker c.try_row.result
-    (λ (h : OpensRow g.M.Computer.kind c.args.plan.now n c.args.progress.now.mix c.args.asked.now c.args.cycle mid c.try_row.new.watch.account).
+    (λ (h : OpensRow g.M.Computer.kind c.args.plan.now d c.args.progress.now.mix c.args.asked.now c.args.cycle mid c.try_row.new.watch.account).
     inr (record {
       row = h.row;
       opened = h.opened;
       sums = h.sums ∙ ap (λ (o : Option Row). closed_into o mid.sums) current ∙ ap (closed_into old.current) sums;
       first = h.first;
       last = h.last;
+      lies = h.lies;
       says = h.says;
       kept = h.kept;
       differs = h.differs ∙ ap (λ b. b || differs_in h.row) differs;

@@ -10,7 +10,7 @@ invariant-loop-done g l =
     let before = sinks (g.T.Sink.stream l.fn.terminal) (g.R.Sink.stream l.fn.report) in
     let now = sinks (g.T.Sink.stream l.terminal) (g.R.Sink.stream l.report) in
     record {
-      swept : IsSwept g.M.Computer.kind l.plan l.initial.nvm.device l.progress l.nvm.device l.done before now l.room;
-      rows : IsKeeping g.M.Computer.kind l.plan l.initial.nvm.device l.asked l.done l.watch.account l.nvm.device;
+      swept : IsSwept g.M.Computer.kind l.plan (g.N.Nvm.device l.initial.nvm) g.N.OverMemory.levels l.progress (g.N.Nvm.device l.nvm) l.done before now l.room;
+      rows : IsKeeping g.M.Computer.kind l.plan (g.N.Nvm.device l.initial.nvm) g.N.OverMemory.levels l.asked l.done l.watch.account (g.N.Nvm.device l.nvm);
       compared : l.watch.beside.compared ≡ l.asked.compared;
     }

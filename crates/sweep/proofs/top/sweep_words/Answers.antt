@@ -15,7 +15,7 @@ returns-in-Err g c =
 
 pub returns-then-refused : goal.returns-then-refused
 returns-then-refused g c =
-    let why : is_refused c.args.out.now (order_of c.in-Ok.command) ≡ true = sym c.is_refused-refused.ensures ∙ c.if-refused.true in
+    let why : is_refused c.args.out.now c.args.asked.now.torn (order_of c.in-Ok.command) ≡ true = sym c.is_refused-refused.ensures ∙ c.if-refused.true in
     inl (
       Usage,
       inr (order_of c.in-Ok.command, c.in-Ok.ensures.exact, why, refl),
@@ -30,9 +30,9 @@ returns-then-refused g c =
 
 pub sweep_command-requires-clause-uncut : goal.sweep_command-requires-clause-uncut
 sweep_command-requires-clause-uncut g c =
-    uncut_of c.args.out.now (order_of c.in-Ok.command) (sym c.is_refused-refused.ensures ∙ c.if-refused.false)
+    uncut_of c.args.out.now c.args.asked.now.torn (order_of c.in-Ok.command) (sym c.is_refused-refused.ensures ∙ c.if-refused.false)
 
 pub returns : goal.returns
 returns g c =
-    let free : is_refused c.args.out.now (order_of c.in-Ok.command) ≡ false = sym c.is_refused-refused.ensures ∙ c.if-refused.false in
+    let free : is_refused c.args.out.now c.args.asked.now.torn (order_of c.in-Ok.command) ≡ false = sym c.is_refused-refused.ensures ∙ c.if-refused.false in
     inr (order_of c.in-Ok.command, c.in-Ok.ensures.exact, free, c.sweep_command.ensures)

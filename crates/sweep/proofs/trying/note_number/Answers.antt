@@ -6,7 +6,7 @@ use Rattle.sweep.proofs.trying.note_number.Goals as goal
 
 pub returns-in-Ok-clause-tried : goal.returns-in-Ok-clause-tried
 returns-in-Ok-clause-tried g c =
-    let n : Device = c.args.nvm.now.device in
+    let n : Device = g.N.OverMemory.memory c.args.nvm.now in
     let f : Found = c.in_ok-trial.trial.found in
     record {
       one = record { pick = 0; image = chosen (places_of n) c.args.number n.image; booted = f.booted; state = f.state };

@@ -1,4 +1,4 @@
-use Rattle.std.proofs.Common.{◌≡◌, ◌∷◌, ◌++◌, [], ℕ, ◌∙◌, ap, subst, sym, refl, arith}
+use Rattle.std.proofs.Common.{◌≡◌, ◌∷◌, ◌++◌, [], ℕ, ◌∙◌, subst, sym, refl, arith}
 use Rattle.thy_observe.specs.declared.changes.Change.{Change}
 use Rattle.thy_observe.specs.declared.replay.Replay.{Replay}
 use Rattle.thy_observe.specs.Replaying.{AddsOne, IsReplay, executed_by, pc_in}

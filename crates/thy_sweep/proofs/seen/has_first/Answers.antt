@@ -8,20 +8,20 @@ use Rattle.thy_sweep.proofs.RepeatLemmas.{seen_first}
 use Rattle.thy_sweep.proofs.seen.has_first.Goals as goal
 
 pub returns-clause-seen : goal.returns-clause-seen
-returns-clause-seen c = λ e. record {
+returns-clause-seen g c = λ e. record {
   queued = refl;
   landed = λ v vs q.
       let oldest : c.waiting-at.result ≡ v = sym (c.waiting-at.ensures.write v) ∙ ap (λ xs. get_or xs 0 v) q in
       same_block c.args.first.now c.landed.result (sym c.eq.ensures ∙ e) ∙ c.landed.ensures
-      ∙ ap (λ (x : Write). block_at c.args.nvm.now.device.image x.at) oldest;
+      ∙ ap (λ (x : Write). block_at (g.N.Nvm.device c.args.nvm.now).image x.at) oldest;
 }
 
 pub returns-clause-every : goal.returns-clause-every
-returns-clause-every c = λ seen.
-    let n = c.args.nvm.now.device in
+returns-clause-every g c = λ seen.
+    let n = (g.N.Nvm.device c.args.nvm.now) in
     let first = c.args.first.now in
     let oldest = c.waiting-at.result in
-    let some : 0 < length n.queue = omega (arith, c.waits.ensures, c.if-waits-eq0.false) in
+    let some : 0 < length n.queue = omega (arith, c.queued.ensures, c.if-queued-eq0.false) in
     let here : first ≡ c.landed.result
     = seen_first n first oldest seen some ∙ ap (λ (x : Write). block_at n.image x.at) (c.waiting-at.ensures.write oldest) ∙ sym c.landed.ensures in
     c.eq.ensures ∙ subst (λ (b : Block). is_same_block first b ≡ true) here (block_same first)

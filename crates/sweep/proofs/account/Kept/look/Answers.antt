@@ -8,14 +8,14 @@ yes_of true e = refl
 yes_of false e = absurd (cc)
 
 pub returns-then-self : goal.returns-then-self
-returns-then-self c = record { queue = refl; first = refl; before = λ e. e; stays = λ e. absurd (cc (e, c.if-self.true)) }
+returns-then-self g c = record { queue = refl; first = refl; before = λ e. e; stays = λ e. absurd (cc (e, c.if-self.true)) }
 
 pub returns : goal.returns
-returns c = record {
+returns g c = record {
   queue = refl;
   first = refl;
   before = λ e. c.if-self.false;
   stays = λ e.
-      subst (λ (q : List Write). StaysSince q c.args.self.now.first c.args.nvm.now.device) c.as_slice.ensures.value
+      subst (λ (q : List Write). StaysSince q c.args.self.now.first (g.N.Nvm.device c.args.nvm.now)) c.as_slice.ensures.value
       (c.is_still-still.ensures.stays (yes_of c.is_still-still.result e));
 }

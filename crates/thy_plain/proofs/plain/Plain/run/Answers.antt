@@ -34,24 +34,24 @@ pub returns-then-not-is_running-clause-state : goal.returns-then-not-is_running-
 returns-then-not-is_running-clause-state c = sym (after_none c.args.self.now)
 
 -- the machine after the step that ended the program
-last : (c : goal.Then-not-advance) → c.advance.new.self ≡ after_steps (c.loop-done.done + 1) c.args.self.now
+last : (c : goal.After-count-now) → c.advance.new.self ≡ after_steps (c.loop-done.done + 1) c.args.self.now
 last c = c.advance.ensures.state ∙ ap stepped c.loop-done.invariant.state ∙ after_more c.args.self.now c.loop-done.done
 
 -- the program ran before that step
-ran : (c : goal.Then-not-advance) → is_running (steps c.args.self.now.setting c.loop-done.done c.args.self.now.state).status ≡ true
+ran : (c : goal.After-count-now) → is_running (steps c.args.self.now.setting c.loop-done.done c.args.self.now.state).status ≡ true
 ran c = ap (λ (n : Machine). is_running n.state.status) (sym c.loop-done.invariant.state) ∙ c.loop-done.invariant.runs
 
 -- how many steps were taken is what the count has gained
-gained : (c : goal.Then-not-advance) → c.self-in-loop-done.inside.state.count ≡ c.self.inside.state.count + (c.loop-done.done + 1)
+gained : (c : goal.After-count-now) → c.count-now.result ≡ c.count-before.result + (c.loop-done.done + 1)
 gained c =
     omega (
       arith,
-      ap (λ (n : Machine). n.state.count) c.self.view_is,
-      ap (λ (n : Machine). n.state.count) c.self-in-loop-done.view_is,
+      c.count-before.ensures,
+      c.count-now.ensures,
       count_more c.args.self.now c.advance.new.self c.loop-done.done (ran c) (last c),
     )
 
-taken : (c : goal.Then-not-advance) → c.loop-done.done + 1 ≡ c.self-in-loop-done.inside.state.count - c.self.inside.state.count
+taken : (c : goal.After-count-now) → c.loop-done.done + 1 ≡ c.count-now.result - c.count-before.result
 taken c = omega (arith, gained c)
 
 pub overflow_sub-result : goal.overflow_sub-result
