@@ -90,7 +90,7 @@ rows-and-last rows (Some r) = sym (flat_map-append epoch_row rows (r ∷ []))
 pub no-last : (text : List ℕ) (last : Option Row) → last ≡ None → text ≡ text ++ flat_map epoch_row (with_last [] last)
 no-last text last is = sym (append-nil text) ∙ ap (λ (o : Option Row). text ++ flat_map epoch_row (with_last [] o)) (sym is)
 
--- it gets the row of the one that has not, if memory is left for it
+-- the text gets the row of the stretch that has not ended, if memory is left for it
 pub last-if : {T E : Type 0} (r : Result T E) (text next : List ℕ) (last : Option Row) (row : Row) → last ≡ Some row
     → OnOk r (next ≡ text ++ epoch_row row) → OnOk r (next ≡ text ++ flat_map epoch_row (with_last [] last))
 last-if (Ok x) text next last row is more =

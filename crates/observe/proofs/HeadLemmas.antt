@@ -89,7 +89,7 @@ head-run f r asked t calls events is h =
 
 -- ---- what has to be known of the arguments
 
--- of a command that is lent
+-- what has to be known of a command that is lent
 pub lent-asked : (asked : Result Order WordsError) (r : Option (Bor Command)) (command : Option Command) (a : Asked)
     → option_map (λ (c : Bor Command). order_of c.now) r ≡ option_map order_of command → a ≡ asked_in (option_map (λ (c : Bor Command). order_of c.now) r)
     → asked_in (option_map order_of command) ≡ asked_by asked → a ≡ asked_by asked

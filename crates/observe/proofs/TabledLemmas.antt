@@ -141,7 +141,7 @@ module _ {N : Type 0} (c : Choice) (d : NvmOf N) (counted_by : N → NvmCounts) 
       → ObservedBeside c d counted_by options out name words before after status
   Beside-none name is h = subst (λ (o : Option (List ℕ)). ObservedBeside c d counted_by options out o words before after status) (sym is) h
 
-  -- its bytes are lent
+  -- the bytes of the name are lent
   pub Beside-named : (name : Option (List ℕ)) (own lent : List ℕ) → name ≡ Some own → lent ≡ own
       → Tabled c d counted_by options out lent words before after status → ObservedBeside c d counted_by options out name words before after status
   Beside-named name own lent is same h =

@@ -30,7 +30,7 @@ name_in words = (None, words)
 abbrev pub cycles_of : Options → Window
 cycles_of o = record { first = unwrap_or o.accesses_from 1; last = o.accesses_to }
 
--- a bound of them is given
+-- a first or a last cycle of the accesses is given
 abbrev pub has_cycle : Options → Bool
 has_cycle o = not (is_none o.accesses_from) || not (is_none o.accesses_to)
 
@@ -44,12 +44,12 @@ abbrev pub access_row : Accessed → List ℕ
 access_row a =
     decimal a.cycle ++ (codes "\tnvm\t" ++ (way_name a.writes ++ (tab ++ (decimal a.at ++ (tab ++ (cause_name a.cause ++ codes "\n"))))))
 
--- a row for each, or for none
+-- a row for each access, or for none
 abbrev pub access_rows : List Accessed → List ℕ
 access_rows [] = codes "none\n"
 access_rows (a ∷ rows) = flat_map access_row (a ∷ rows)
 
--- the names of the columns
+-- the first line: the names of the columns
 abbrev pub access_head : List ℕ
 access_head = codes "cycle\tdevice\taccess\tplace\tcause\n"
 

@@ -19,7 +19,7 @@ use Rattle.thy_answer.specs.Sources.{ProgramSource, ProgramDue}
 use Rattle.thy_execute.specs.Planning.{IsPlanOf, shape_of}
 use Rattle.observe.specs.Beginning.{run_in}
 
--- a job lists no cuts
+-- a job's run has no cuts
 abbrev pub IsUncutJob : Job → Type 0
 IsUncutJob job = job.config.cuts ≡ []
 
@@ -61,7 +61,7 @@ MakesRows K source job w old new before after (Ok rows) = (new ≡ old) × (afte
 MakesRows K source job w old new before after (Err status) =
     IsUnmade source job old new before after status ⊎ IsShort old new before after status
 
--- of an order
+-- the accesses in a window of an order's run were listed, or a line says why not
 pub record MakesRowsOf (c : Choice) (order : Order) (w : Window) (old new : Stock) (before after : Stream) (result : Result (Vec Accessed Global) ℕ)
     : Type 0 where
   pub source : ProgramSource

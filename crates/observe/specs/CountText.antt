@@ -44,7 +44,7 @@ cause_name NvmDrain = codes "nvmdrains"
 cause_name DramDrain = codes "dramdrains"
 cause_name Nothing = codes "nothing"
 
--- a number and what it counts
+-- the line of a number: the name of what it counts, and the number
 abbrev pub count_row : (name : List ℕ) (count : ℕ) → List ℕ
 count_row name count = name ++ (codes " " ++ (decimal count ++ codes "\n"))
 
@@ -53,7 +53,7 @@ abbrev pub causes_by : (Cause → ℕ) → (waiting : ℕ) → List ℕ
 causes_by count waiting =
     codes "causes\n" ++ (flat_map (λ c. count_row (cause_name c) (count c)) all_causes ++ count_row (codes "waiting") waiting)
 
--- of these cycles
+-- the section of the causes of these cycles
 abbrev pub causes_text : List Taken → List ℕ
 causes_text seen = causes_by (λ c. how_many_by (cause_index c) seen) (count_by has_waited seen)
 
@@ -62,7 +62,7 @@ causes_text seen = causes_by (λ c. how_many_by (cause_index c) seen) (count_by 
 abbrev pub tab : List ℕ
 tab = 9 ∷ []
 
--- the epoch that executes in it: none in a boot
+-- the column of the epoch that executes in a stretch: none in a boot
 abbrev pub epoch_cell : Option ℕ → List ℕ
 epoch_cell None = codes "-"
 epoch_cell (Some epoch) = decimal epoch
@@ -73,41 +73,41 @@ end_name end.Seal = codes "seal"
 end_name end.Cut = codes "cut"
 end_name end.Run = codes "run"
 
--- numbers, each after a tab
+-- the columns of numbers, each after a tab
 abbrev pub number_cells : List ℕ → List ℕ
 number_cells ns = flat_map (λ n. tab ++ decimal n) ns
 
--- its first and last cycle, and how it ended
+-- the columns of a stretch's first and last cycle, and of how it ended
 abbrev pub span_cells : Row → List ℕ
 span_cells r = tab ++ (decimal (next r.before) ++ (tab ++ (decimal r.to ++ (tab ++ end_name r.end))))
 
--- its row: these after the epoch, and then its numbers
+-- the row of a stretch: its epoch, its cycles and end, and then its numbers
 abbrev pub epoch_row : Row → List ℕ
 epoch_row r = (epoch_cell r.epoch ++ span_cells r) ++ (number_cells r.causes ++ (tab ++ (decimal r.waiting ++ codes "\n")))
 
--- a head line, and the names of these columns
+-- a head line, and a line with the names of the columns
 abbrev pub epochs_head : List ℕ
 epochs_head =
     (codes "epochs\nepoch" ++ (tab ++ (codes "from" ++ (tab ++ (codes "to" ++ (tab ++ codes "end"))))))
     ++ (flat_map (λ c. tab ++ cause_name c) all_causes ++ (tab ++ codes "waiting\n"))
 
--- the whole section: a row for each stretch
+-- the section of the stretches: a row for each that has ended, and for the open one if there is one
 abbrev pub epochs_by : List Row → Option Row → List ℕ
 epochs_by rows last = epochs_head ++ flat_map epoch_row (with_last rows last)
 
--- of these cycles
+-- the section of the stretches of these cycles
 abbrev pub epochs_text : List Taken → List ℕ
 epochs_text seen = epochs_by (account_of seen).rows (last_row (account_of seen))
 
 -- ---- how many writes each place of the NVM has taken
 
--- the line of a place; none if it has taken no write
+-- the line of a place of the NVM; none if it has taken no write
 abbrev pub wear_row : List ℕ → ℕ → List ℕ
 wear_row wear at =
     let count = get_or wear at 0 in
     if count == 0 then [] else decimal at ++ (codes " " ++ (decimal count ++ codes "\n"))
 
--- a head line, and a line for each place that has, rising
+-- a head line, and a line for each place that has taken a write, by rising number
 abbrev pub wear_text : List ℕ → List ℕ
 wear_text wear = codes "wear\n" ++ rows_from (wear_row wear) 0 (length wear)
 
@@ -126,7 +126,7 @@ epochs_part asked seen = if asked then epochs_text seen else []
 abbrev pub counts_text : Options → List Taken → List ℕ
 counts_text o seen = causes_part o.causes seen ++ epochs_part o.epochs seen
 
--- of the cycles that were seen
+-- a text is made so of the cycles that a watch has seen
 abbrev pub AreOf : (List Taken → List ℕ) → Watch → List ℕ → Type 0
 AreOf text w part = (seen : List Taken) → IsWatch w seen → part ≡ text seen
 
@@ -141,7 +141,7 @@ pub record NvmCounts : Type 0 where
 abbrev pub nvm_counts : Calls → List ℕ → NvmCounts
 nvm_counts calls wear = record { calls = calls; wear = wear }
 
--- by what its calls say
+-- what an NVM has counted, by what two functions say of it
 abbrev pub counts_of : {N : Type 0} → (N → Calls) → (N → List ℕ) → N → NvmCounts
 counts_of calls wear n = nvm_counts (calls n) (wear n)
 

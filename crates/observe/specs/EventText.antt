@@ -12,13 +12,13 @@ use Rattle.thy_observe.specs.EventCycles.{event_cycles_from, retired_after}
 use Rattle.observe.specs.declared.lines.Losses.{Losses}
 use Rattle.observe.specs.declared.lines.Stamp.{Stamp}
 
--- a sum, which stops at the last value of a 64-bit number
+-- a sum that saturates at the last value of a 64-bit number
 abbrev pub plus : ℕ → ℕ → ℕ
 plus a b = min (a + b) (2 ^ 64 - 1)
 
 -- ---- how many instructions are retired at an event
 
--- none in a boot
+-- the count of instructions at an event: none in a boot
 abbrev pub count_at : Option RetiredCount → Option ℕ
 count_at None = None
 count_at (Some r) = Some (plus r.from r.since)
@@ -68,7 +68,7 @@ count_cell (Some count) = decimal count
 abbrev pub stamp_cells : ℕ → Option ℕ → List ℕ
 stamp_cells cycle count = decimal cycle ++ (codes " " ++ (count_cell count ++ codes " "))
 
--- the line of an event: these, and its line in the report
+-- the line of an event: cycle and count, and then its line in the report
 abbrev pub event_line : Reporting → Stamped → List ℕ
 event_line reporting s = stamp_cells s.stamp.cycle (count_in s.event s.stamp.retired) ++ line_of reporting s.event
 
@@ -87,7 +87,7 @@ abbrev pub back_to : Option ℕ → Losses → Option ℕ → Losses
 back_to (Some at) l (Some count) = record { at = None; lost = plus l.lost (at - count) }
 back_to at l count = l
 
--- after an event of this count: a cut, or a restart or the file that is loaded again
+-- what was lost, after an event of this count: a cut, a restart, or a file that is loaded again
 abbrev pub lost_by : Losses → Event → Option ℕ → Losses
 lost_by l (Cut index cycle) count = cut_at l count
 lost_by l (Restart epoch at state) count = back_to l.at l count
@@ -97,7 +97,7 @@ lost_by l event count = l
 abbrev pub lost_in : Losses → Stamped → Losses
 lost_in l s = lost_by l s.event (count_in s.event s.stamp.retired)
 
--- after these events
+-- what was lost, after these events
 abbrev pub losses_of : Losses → List Stamped → Losses
 losses_of l [] = l
 losses_of l (s ∷ ss) = losses_of (lost_in l s) ss

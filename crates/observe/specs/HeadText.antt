@@ -23,7 +23,7 @@ abbrev pub hex_part : Option ℕ → List ℕ
 hex_part None = []
 hex_part (Some n) = codes " " ++ digits 16 false n
 
--- of two harts, which one trapped
+-- the part of a trap's line that names the hart, if there are two
 abbrev pub hart_part : (harts hart : ℕ) → List ℕ
 hart_part harts hart = if harts == 2 then codes " hart " ++ decimal hart else []
 
@@ -41,7 +41,7 @@ abbrev pub turn_after : Option ℕ → Event → Option ℕ
 turn_after before (EpochEnd epoch count cause turns) = if length turns == 0 then before else Some (get_or turns (length turns - 1) 0)
 turn_after before event = before
 
--- of these events
+-- the last turn that these events list, or the one from before if they list none
 abbrev pub last_turn : Option ℕ → List Event → Option ℕ
 last_turn before [] = before
 last_turn before (e ∷ es) = last_turn (turn_after before e) es
@@ -60,11 +60,11 @@ trap_in events base harts = trap_at (slice_get events (length events - 1)) base 
 
 -- ---- all of it
 
--- what has to be known of an order
+-- what the text's head needs to know of a job
 abbrev pub asked_for : Job → Asked
 asked_for job = record { base = job.config.base; harts = job.config.harts; plain = false }
 
--- nothing of one that is not observed
+-- nothing is known of an order that is not observed
 abbrev pub no_order : Asked
 no_order = record { base = 0; harts = 1; plain = false }
 
@@ -75,17 +75,17 @@ asked_of (bench n job) = asked_for job
 asked_of (plain name job) = record { base = job.config.base; harts = job.config.harts; plain = true }
 asked_of order = no_order
 
--- of an order, or of none
+-- what is known of an order, or nothing if there is none
 abbrev pub asked_in : Option Order → Asked
 asked_in None = no_order
 asked_in (Some order) = asked_of order
 
--- of the order that the arguments ask for, if they do
+-- what is known of the order that the arguments ask for, if they ask for one
 abbrev pub asked_by : Result Order WordsError → Asked
 asked_by (Ok order) = asked_of order
 asked_by (Err e) = no_order
 
--- lines without digests
+-- events are reported without digests, for this number of harts
 abbrev pub reporting_of : (harts : ℕ) → Reporting
 reporting_of harts = record { digest = false; harts = harts }
 
@@ -96,11 +96,11 @@ run_text asked seen calls events =
     ++ (trap_text asked.harts (trap_in events asked.base asked.harts)
     ++ totals_text asked.harts (totals_of seen) calls (losses_of no_losses (events_of seen events)).lost events)
 
--- this is the text of the cycles that a tally has
+-- a text is the head of a run whose cycles a tally has
 abbrev pub IsRunText : Asked → Tally → Calls → List Event → List ℕ → Type 0
 IsRunText asked t calls events text = (seen : List Taken) → IsTally t seen → text ≡ run_text asked seen calls events
 
--- this is the line of the plain machine's trap, which a tally has
+-- a text is the line of the plain machine's trap, which a tally has
 abbrev pub IsPlainText : Tally → List ℕ → Type 0
 IsPlainText t text = (base : ℕ) (last : State) → HasTrap t base last → text ≡ trap_text 1 (trap_of base 0 last)
 

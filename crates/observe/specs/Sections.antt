@@ -32,7 +32,7 @@ abbrev pub pcs_rows : List (ℕ × ℕ) → List ℕ
 pcs_rows [] = codes "none\n"
 pcs_rows (e ∷ table) = flat_map pcs_row (e ∷ table)
 
--- a head line, and these
+-- the section of the program counters: a head line, and their lines
 abbrev pub pcs_text : List (ℕ × ℕ) → List ℕ
 pcs_text table = codes "pcs\n" ++ pcs_rows table
 
@@ -46,19 +46,19 @@ pub record IsPcsText (g : Setting) (start : State) (seen : List Taken) (text : L
 
 -- ---- a state
 
--- after a cycle, if it is asked for
+-- the section of the state after a cycle, if that is asked for
 abbrev pub state_part : Option ℕ → Setting → State → List Taken → List ℕ
 state_part None g start seen = []
 state_part (Some cycle) g start seen = state_section (codes "state") cycle g.base (state_by g start cycle seen)
 
--- at a count
+-- the section of the state at a count, if that is asked for
 abbrev pub state_at_part : Option ℕ → Setting → State → List Taken → List ℕ
 state_at_part None g start seen = []
 state_at_part (Some count) g start seen = state_section (codes "state-at") count g.base (state_at g start count seen)
 
 -- ---- the instructions
 
--- those in a window, if they are asked for
+-- the section of the instructions in a window, if they are asked for
 abbrev pub trace_part : Bool → Window → Setting → State → List Taken → List ℕ
 trace_part asked w g start seen = if asked then trace_text (trace_of g start w seen) else []
 
@@ -72,7 +72,7 @@ pub record IsText (options : Options) (g : Setting) (start : State) (seen : List
       ++ (state_at_part options.state_at g start seen ++ trace_part options.trace (window_of options) g start seen))
   pub has_pcs : MatchBool options.pcs (IsPcsText g start seen pcs) (pcs ≡ [])
 
--- with the numbers and the start as the program has them
+-- the setting of a run that was begun, with the numbers as the program has them
 abbrev pub setting_by : Begun → Setting
 setting_by b = setting_for b.geometry (bytes_of b.start.input)
 
@@ -100,7 +100,7 @@ abbrev pub IsTracePart : Bool → Window → Begun → Changes → List ℕ → 
 IsTracePart asked w b changes part =
     (seen : List Taken) → AreChanges changes seen → part ≡ trace_part asked w (setting_by b) (start_by b) seen
 
--- all parts together
+-- the text has all parts that the options ask for, of the cycles whose changes are listed
 abbrev pub IsTextOf : Options → Begun → Changes → List ℕ → Type 0
 IsTextOf options b changes text =
     (seen : List Taken) → AreChanges changes seen → IsText options (setting_by b) (start_by b) seen text

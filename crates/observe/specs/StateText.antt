@@ -17,22 +17,22 @@ rows_from row i (suc n) = row i ++ rows_from row (i + 1) n
 
 -- ---- harts
 
--- a register
+-- the line of a register
 abbrev pub reg_row : List ℕ → ℕ → List ℕ
 reg_row regs r = codes "x" ++ (decimal r ++ (codes " " ++ (digits 16 false (reg_at regs r) ++ codes "\n")))
 
--- a hart: its program counter, and its registers but x0
+-- the lines of a hart: its program counter, and its registers but x0
 abbrev pub hart_text : (hart pc : ℕ) → List ℕ → List ℕ
 hart_text hart pc regs =
     (codes "hart " ++ (decimal hart ++ (codes " " ++ (digits 16 false pc ++ codes "\n")))) ++ rows_from (reg_row regs) 1 31
 
--- what it has reserved: how many bytes at which address
+-- what a hart has reserved: how many bytes at which address
 abbrev pub reserved_text : Reservation → List ℕ
 reserved_text (Nothing at) = codes "reserved none\n"
 reserved_text (Word at) = codes "reserved 4 " ++ (digits 16 false at ++ codes "\n")
 reserved_text (Double at) = codes "reserved 8 " ++ (digits 16 false at ++ codes "\n")
 
--- of one hart there is no reservation
+-- the lines of what hart 0 has reserved, and of hart 1; none with one hart
 abbrev pub other_text : Option OtherHart → List ℕ
 other_text None = []
 other_text (Some o) = reserved_text o.front ++ (hart_text 1 o.pc o.regs ++ reserved_text o.back)
@@ -45,7 +45,7 @@ double_row base memory i =
     let value = number_at 8 memory (8 * i) in
     if value == 0 then [] else digits 16 false (base + 8 * i) ++ (codes " " ++ (digits 16 false value ++ codes "\n"))
 
--- the address of its first byte, its length in bytes, and what is not 0
+-- the lines of memory: the address of its first byte, its length in bytes, and the numbers that are not 0
 abbrev pub memory_text : (base : ℕ) → List ℕ → List ℕ
 memory_text base memory =
     (codes "memory " ++ (digits 16 false base ++ (codes " " ++ (decimal (length memory) ++ codes "\n"))))

@@ -26,7 +26,7 @@ use Rattle.observe.specs.Observing.{IsTurnedDown, Observed, ReportsOut, is_refus
 abbrev pub is_uneven : Job → Bool
 is_uneven job = nat_lt 0 (length job.config.cuts) || nat_lt 0 job.config.gap
 
--- no accesses are listed of such a run, nor of an order that does not run the machine once
+-- an order has no accesses that can be listed: its run is such, or it does not run the machine once
 abbrev pub is_unlisted : Order → Bool
 is_unlisted (run file job) = is_uneven job
 is_unlisted (resume image job) = is_uneven job
@@ -39,7 +39,7 @@ is_unlisted (make n name) = true
 abbrev pub is_untabled : (out name : List ℕ) → Order → Bool
 is_untabled out name order = (bytes_eq name out || is_taken name order) || is_unlisted order
 
--- or because of OUT or of an option
+-- an order is refused because of the table, or because of OUT or of an option
 abbrev pub is_turned : Options → (out name : List ℕ) → Order → Bool
 is_turned options out name order = is_refused options out order || is_untabled out name order
 
@@ -75,7 +75,7 @@ pub record PutsTable {N : Type 0} (c : Choice) (d : NvmOf N) (counted_by : N →
 
 -- ---- a call
 
--- of an order
+-- what a call does outside with a name for the table, if the arguments ask for an order
 abbrev pub TablesOrder : {N : Type 0} → Choice → NvmOf N → (N → NvmCounts) → Options → (out name : List ℕ) → List (List ℕ) → Order
     → Around N → Around N → ℕ → Type 0
 TablesOrder c d counted_by options out name words order before after status =
@@ -83,20 +83,20 @@ TablesOrder c d counted_by options out name words order before after status =
     ⊎ ((is_turned options out name order ≡ false)
     × (LacksTable order before after status ⊎ PutsTable c d counted_by options out name words order before after status))
 
--- with a name for the table; arguments that ask for no order are answered as without it
+-- what a call does outside with a name for the table; arguments that ask for no order are answered as without it
 abbrev pub Tabled : {N : Type 0} → Choice → NvmOf N → (N → NvmCounts) → Options → (out name : List ℕ) → List (List ℕ)
     → Around N → Around N → ℕ → Type 0
 Tabled c d counted_by options out name words before after status =
     ((e : WordsError) × WordsDue words e × Observed c d counted_by options out words before after status)
     ⊎ ((order : Order) × (settings_of words ≡ Ok order) × TablesOrder c d counted_by options out name words order before after status)
 
--- without a name: then a bound of the window is refused
+-- what a call does outside without a name for the table: then a bound of its window is refused
 abbrev pub Unnamed : {N : Type 0} → Choice → NvmOf N → (N → NvmCounts) → Options → List ℕ → List (List ℕ) → Around N → Around N → ℕ → Type 0
 Unnamed c d counted_by options out words before after status =
     MatchBool (has_cycle options) (IsTurnedDown (Words Usage) (outside_of d before) (outside_of d after) status)
     (Observed c d counted_by options out words before after status)
 
--- with or without one
+-- what a call does outside, with or without a name for the table
 abbrev pub ObservedBeside : {N : Type 0} → Choice → NvmOf N → (N → NvmCounts) → Options → List ℕ → Option (List ℕ) → List (List ℕ)
     → Around N → Around N → ℕ → Type 0
 ObservedBeside c d counted_by options out None words before after status = Unnamed c d counted_by options out words before after status

@@ -18,7 +18,7 @@ use Rattle.observe.specs.EventText.{plus}
 
 -- ---- the totals of these cycles
 
--- how many of them are of a kind
+-- how many of these cycles are of a kind
 abbrev pub of_kind : List Taken → Kind → ℕ
 of_kind seen k = how_many (index_of k) seen
 
@@ -76,7 +76,7 @@ hart_line h = joined (
     codes "hart moved " ∷ decimal h.moved ∷ codes " retired " ∷ decimal h.retired ∷ codes " flushed " ∷ decimal h.flushed
     ∷ codes " merged " ∷ decimal h.merged ∷ codes " promoted " ∷ decimal h.promoted ∷ codes " sealed " ∷ decimal h.sealed ∷ codes "\n" ∷ [])
 
--- of two harts, what each did
+-- with two harts, a line for each that says what it did
 abbrev pub shares_lines : Shares → List ℕ
 shares_lines s = joined (
     codes "hart0 moved " ∷ decimal s.first.moved ∷ codes " retired " ∷ decimal s.first.retired
@@ -91,7 +91,7 @@ engine_line e = joined (
     ∷ codes " table " ∷ decimal e.table ∷ codes " barrier " ∷ decimal e.barrier ∷ codes " commit " ∷ decimal e.commit
     ∷ codes " committed " ∷ decimal e.committed ∷ codes "\n" ∷ [])
 
--- what the engine took while the hart waited, the device's calls, and what was lost
+-- the lines of the cycles in which the hart waited, of the device's calls, and of the instructions that were lost
 abbrev pub calls_lines : (waiting : ℕ) → Calls → (lost : ℕ) → List ℕ
 calls_lines waiting c lost = joined (
     codes "waiting " ∷ decimal waiting ∷ codes "\nnvm reads " ∷ decimal c.reads ∷ codes " writes " ∷ decimal c.writes

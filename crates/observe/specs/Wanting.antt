@@ -16,7 +16,7 @@ use Rattle.observe.specs.declared.options.Wish.TheVariants.{Pcs, State, StateAt,
 
 -- ---- the options, a row each in every table
 
--- the option of a word
+-- the option that a word names, if it names one
 abbrev pub wish_of : List ℕ → Option Wish
 wish_of word =
     if bytes_eq word (codes "--pcs") then Some Pcs
@@ -33,7 +33,7 @@ wish_of word =
     else if bytes_eq word (codes "--accesses-to") then Some AccessesTo
     else None
 
--- a number follows it
+-- an option takes a number, which follows it
 abbrev pub takes_number : Wish → Bool
 takes_number Pcs = false
 takes_number State = true
@@ -48,7 +48,7 @@ takes_number Torn = false
 takes_number AccessesFrom = true
 takes_number AccessesTo = true
 
--- it is asked for already
+-- an option is given already
 abbrev pub has : Options → Wish → Bool
 has o Pcs = o.pcs
 has o State = not (is_none o.state)
@@ -63,7 +63,7 @@ has o Torn = o.torn
 has o AccessesFrom = not (is_none o.accesses_from)
 has o AccessesTo = not (is_none o.accesses_to)
 
--- it is asked for, with this number
+-- the options with one more, and with its number if it takes one
 abbrev pub with_wish : Options → Wish → ℕ → Options
 with_wish o Pcs n = record o { pcs = true }
 with_wish o State n = record o { state = Some n }
@@ -78,7 +78,7 @@ with_wish o Torn n = record o { torn = true }
 with_wish o AccessesFrom n = record o { accesses_from = Some n }
 with_wish o AccessesTo n = record o { accesses_to = Some n }
 
--- the line that refuses a number of it that can't be read
+-- the line that refuses a number of an option that can't be read
 abbrev pub word_line : Wish → List ℕ
 word_line Pcs = codes "word pcs\n"
 word_line State = codes "word state\n"
@@ -127,15 +127,15 @@ needs_run o = asks o || counts o
 
 -- ---- the window of the trace
 
--- a bound of it is given
+-- a first or a last count of the trace is given
 abbrev pub has_bound : Options → Bool
 has_bound o = not (is_none o.trace_from) || not (is_none o.trace_to)
 
--- a bound of a trace that is not asked for
+-- a bound is given of a trace that is not asked for
 abbrev pub lacks_trace : Options → Bool
 lacks_trace o = has_bound o && not o.trace
 
--- the counts that are asked for: if no bound is given, all
+-- the counts of the trace that are asked for: if no bound is given, all
 abbrev pub window_of : Options → Window
 window_of o = record { first = unwrap_or o.trace_from 1; last = o.trace_to }
 
@@ -144,18 +144,18 @@ abbrev pub last_fault : (first : ℕ) → Option ℕ → Option WindowFault
 last_fault first None = None
 last_fault first (Some last) = if nat_lt last first then Some (Last last) else None
 
--- the bound that is refused: counts begin with 1, and rise
+-- the bound of the trace that is refused, if one is: counts begin with 1, and rise
 abbrev pub window_fault : Options → Option WindowFault
 window_fault o =
     let w = window_of o in
     if w.first == 0 then Some First else last_fault w.first w.last
 
--- the line that refuses it
+-- the line that refuses a bound of the trace
 abbrev pub window_line : WindowFault → List ℕ
 window_line First = codes "value trace-from 0\n"
 window_line (Last last) = codes "value trace-to " ++ (decimal last ++ codes "\n")
 
--- this line is reported, or that memory ran out for it
+-- a bound of the trace is refused: its line is reported, or that memory ran out for it
 abbrev pub IsWindowRefused : WindowFault → Stream → Stream → (status : ℕ) → Type 0
 IsWindowRefused fault old new status =
     (Closes (window_line fault) old new × (status ≡ 2)) ⊎ (Closes (closing_of ClosingMemory) old new × (status ≡ 9))
@@ -176,7 +176,7 @@ taken o wish name word [] = if takes_number wish then Ok (o, name ∷ word ∷ [
 taken o wish name word (next ∷ rest) =
     if takes_number wish then numbered o wish (number_in next) (name ∷ rest) else Ok (with_wish o wish 0, name ∷ next ∷ rest)
 
--- one that is given again is left, where a command has to be
+-- an option that is given again is left, where a command has to be
 abbrev pub taken_once : Options → Wish → (name word : List ℕ) → List (List ℕ) → Reading
 taken_once o wish name word rest = if has o wish then Ok (o, name ∷ word ∷ rest) else taken o wish name word rest
 
@@ -199,11 +199,11 @@ abbrev pub take_many : ℕ → Options → List (List ℕ) → Reading
 take_many zero o words = Ok (o, words)
 take_many (suc n) o words = then_more (take_one o words) (take_many n)
 
--- all are: each is given once
+-- all options are taken, each once
 abbrev pub options_in : List (List ℕ) → Reading
 options_in words = take_many most_options no_options words
 
--- what was asked for and is left is this
+-- what was read of the arguments is this, and these are left
 abbrev pub IsReading : Reading → Result Options Wish → List (List ℕ) → Type 0
 IsReading reading (Ok o) left = reading ≡ Ok (o, left)
 IsReading reading (Err wish) left = reading ≡ Err wish

@@ -44,7 +44,7 @@ pub fn cycles_of(options: Options) -> Window
     }
 }
 
-/// Whether a bound of them is given.
+/// Whether a first or a last cycle is given for the accesses.
 pub fn has_cycle(options: Options) -> bool
     ensures { result ≡ has_cycle options }
 {

@@ -21,7 +21,7 @@ pub struct Begun {
     pub geometry: Geometry,
 }
 
-/// The source of a command's program and its job, if the command runs the machine once.
+/// The source of a command's program and its job, if the command runs the machine once; else None.
 pub fn run_of(command: &Command) -> Option<(ProgramSource<'_>, &Job)>
     ensures { option_map run_of result ≡ run_in (order_of command.now) }
 {

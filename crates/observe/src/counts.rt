@@ -11,7 +11,7 @@ use crate::options::Options;
 use std::alloc::{AllocError, Global};
 use thy_observe::{Cause, End, Ledger, Row, Watch};
 
-/// The name of a cause.
+/// The name of a cause, as tables print it.
 pub(crate) fn name_of(cause: Cause) -> &'static str
     ensures { result.now ≡ cause_name cause }
 {

@@ -24,7 +24,7 @@ pub struct Asked {
 }
 
 impl Asked {
-    /// What has to be known of a command, or of none.
+    /// What has to be known of a command, or of arguments that are none.
     pub fn of(command: Option<&Command>) -> Asked
         ensures { result ≡ asked_in (option_map (λ c. order_of c.now) command.entry) }
     {

@@ -35,36 +35,36 @@ pub enum Wish {
 pub enum WindowFault {
     /// The first count is 0.
     First,
-    /// This last count is below the first one.
+    /// The last count, which this is, is below the first one.
     Last(u64),
 }
 
 /// What is asked for in addition to a run with its events, trap and totals.
 #[derive(Clone, Copy, Debug, PartialEq, Eq, Drop)]
 pub struct Options {
-    /// How often each program counter retired.
+    /// Whether it is asked how often each program counter retired.
     pub pcs: bool,
-    /// The state after this cycle.
+    /// The number of the cycle after which the state is asked for.
     pub state: Option<u64>,
-    /// The state at this count.
+    /// The count of instructions at which the state is asked for.
     pub state_at: Option<u64>,
-    /// The instructions that retired.
+    /// Whether the instructions that retired are asked for.
     pub trace: bool,
-    /// From this count on.
+    /// The count of the first instruction that is traced, if it is given.
     pub trace_from: Option<u64>,
-    /// Up to this count.
+    /// The count of the last instruction that is traced, if it is given.
     pub trace_to: Option<u64>,
-    /// How many cycles there were of each cause.
+    /// Whether it is asked how many cycles had each cause.
     pub causes: bool,
-    /// How many there were for each boot, and for each time that an epoch was executed.
+    /// Whether the cycles are asked for of each boot, and of each time that an epoch was executed.
     pub epochs: bool,
-    /// How many writes each place of the NVM has taken.
+    /// Whether the number of writes is asked for that each place of the NVM has taken.
     pub wear: bool,
-    /// The run goes over an NVM whose blocks may be torn.
+    /// Whether the run goes over an NVM whose blocks may be torn.
     pub torn: bool,
     /// The first cycle whose accesses are listed.
     pub accesses_from: Option<u64>,
-    /// The last one.
+    /// The last cycle whose accesses are listed.
     pub accesses_to: Option<u64>,
 }
 
@@ -177,7 +177,7 @@ impl Options {
         }
     }
 
-    /// These options and one more, with this number.
+    /// The options and this wish more, with its number if it takes one.
     fn with(self, wish: Wish, number: u64) -> Options
         ensures { result ≡ with_wish self wish number }
     {

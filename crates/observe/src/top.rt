@@ -34,7 +34,7 @@ use thy_view::Computer;
 /// The exit status if OUT could not be put.
 const NOT_PUT: u8 = 3;
 
-/// The exit status if memory ran out for what was to be counted.
+/// The exit status, 9, if memory ran out for what was to be counted.
 pub(crate) const NO_MEMORY: u8 = 9;
 
 /// The command that the arguments ask for, if they do; or why the call is refused: because of OUT or of an option, or because

@@ -44,7 +44,7 @@ pub struct Totals {
     pub dram_drains: u64,
     pub hart: HartCycles,
     pub engine: EngineCycles,
-    /// How many the engine took at the turn of the hart, which waited for it.
+    /// How many cycles the engine took at the turn of the hart, which waited for it.
     pub waiting: u64,
     pub shares: Shares,
 }

@@ -36,11 +36,11 @@ IsLineOf (unasked.Memory e) line = ⊥
 abbrev pub SaysShort : ℕ → Stream → Stream → Type 0
 SaysShort status old new = (status ≡ 9) × Closes (closing_of closing.Memory) old new
 
--- it has this line of a refusal; or there was no memory for it
+-- the report has this line of a refusal, or the line that says that memory ran out for it
 abbrev pub SaysLine : List ℕ → ℕ → Stream → Stream → Type 0
 SaysLine line status old new = ((status ≡ 2) × Closes line old new) ⊎ SaysShort status old new
 
--- why options are refused
+-- the report has a line that says why options are refused
 abbrev pub SaysWhy : Unasked → ℕ → Stream → Stream → Type 0
 SaysWhy why status old new = ((line : List ℕ) × IsLineOf why line × (status ≡ 2) × Closes line old new) ⊎ SaysShort status old new
 
@@ -57,7 +57,7 @@ has_ended (Stopped ending) = is_end ending.stop
 has_ended (Reached cycle) = false
 has_ended Short = false
 
--- no row was opened
+-- an account has no row, open or closed
 abbrev pub is_empty : Account → Bool
 is_empty account = is_none account.current && account.sums.cycles == 0
 
@@ -96,7 +96,7 @@ pub record PutsText (out : List ℕ) (account : Account) (closed : ℕ) (old new
   pub put : IsPut out text old new why
   pub reported : ReportsOut out why report after (due_of account closed) status
 
--- or memory ran out for it
+-- text was put under OUT, or was not, or memory ran out for it
 abbrev pub PutsOut : List ℕ → Account → ℕ → Stock → Stock → Stream → Stream → ℕ → Type 0
 PutsOut out account closed old new report after status =
     ((new ≡ old) × SaysShort status report after) ⊎ PutsText out account closed old new report after status
@@ -107,7 +107,7 @@ pub record EndsBefore (asked : Asked) (account : Account) (swept : Swept) (old n
   pub shelf : new ≡ old
   pub says : SaysLine (value_line (codes "from") asked.from) status report after
 
--- it did not: the run is closed, and OUT is put
+-- the run did not end before the first cycle that was asked for: its closing line is written, and OUT is put
 pub record PutsEnd (out : List ℕ) (source : ProgramSource) (limit : ℕ) (account : Account) (swept : Swept) (old new : Stock)
     (report after : Stream) (status : ℕ) : Type 0 where
   pub before : ends_before swept account ≡ false

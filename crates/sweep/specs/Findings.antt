@@ -74,7 +74,7 @@ IsNamed b f name old new = (IsKnown b f × (new ≡ old)) ⊎ (new ≡ old ++ (n
 
 -- ---- the plain machine beside the run
 
--- it has run to a count, or as far as its program runs: it goes back to none, and only to one that a run can have
+-- the plain machine has run to a count, or as far as its program runs: it goes back to no count, and only to one that a run can have
 abbrev pub RunsTo : ℕ → Machine → Machine → Type 0
 RunsTo count old new =
     old.state.count ≤ count → count < 2 ^ 62

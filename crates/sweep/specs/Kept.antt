@@ -46,7 +46,7 @@ pub record IsRowOf {M : Type 0} (K : KindOf M) (plan : Plan) (fitted : Device) (
   pub says : IsRowAt K plan (lying levels memory world.device) world.mix a row
   pub stays : StaysThrough K plan fitted world.device row.first row.last
 
--- the sums of rows
+-- the sums after these rows were added
 abbrev pub sums_of : List Row → Sums → Sums
 sums_of [] s = s
 sums_of (r ∷ rs) s = sums_of rs (with_row r.to_count s r.leads.items)
@@ -60,12 +60,12 @@ closed_into (Some r) s = with_row r.to_count s r.leads.items
 abbrev pub differs_in : Row → Bool
 differs_in row = nat_lt 0 (length row.differs.items)
 
--- one of rows did
+-- an image of one of these rows led to a state that differs, or one before did
 abbrev pub differs_of : List Row → Bool → Bool
 differs_of [] b = b
 differs_of (r ∷ rs) b = differs_of rs (b || differs_in r)
 
--- the open row did, if there is one
+-- an image of the open row, if there is one, led to a state that differs, or one before did
 abbrev pub differs_into : Option Row → Bool → Bool
 differs_into None b = b
 differs_into (Some r) b = b || differs_in r
@@ -81,7 +81,7 @@ pub record ExtendsRow (cycle : ℕ) (old new : Account) : Type 0 where
   pub more : new.current ≡ option_map (extended cycle count) old.current
   pub same : new.kept.changed ≡ false
 
--- it has; or it stays, because the cycle is not asked for
+-- the open row has one cycle more, or it stays, because the cycle is not asked for
 abbrev pub StaysRow : Asked → ℕ → Account → Account → Type 0
 StaysRow a cycle old new = ((new.current ≡ old.current) × (has a cycle ≡ false)) ⊎ ExtendsRow cycle old new
 

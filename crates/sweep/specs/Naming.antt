@@ -25,7 +25,7 @@ is_refused out torn (compare file job) = true
 is_refused out torn (plain file job) = true
 is_refused out torn (make n name) = true
 
--- a job lists no cuts
+-- a job's run has no cuts
 abbrev pub IsUncutJob : Job → Type 0
 IsUncutJob job = job.config.cuts ≡ []
 

@@ -45,12 +45,12 @@ abbrev pub noted_if : Option Booted → List Lead → List Lead
 noted_if None leads = leads
 noted_if (Some b) leads = noted b leads
 
--- the numbers of some images are, in order
+-- the leads after the boots of these images were noted, in order
 abbrev pub noted_all : List Try → List Lead → List Lead
 noted_all [] leads = leads
 noted_all (t ∷ ts) leads = noted_all ts (noted_if t.booted leads)
 
--- these images were counted
+-- the number of images tried, after these
 abbrev pub tried_all : List Try → ℕ → ℕ
 tried_all [] tried = tried
 tried_all (t ∷ ts) tried = tried_all ts (next tried)
@@ -67,7 +67,7 @@ pub record HasTried {M : Type 0} (K : KindOf M) (part : Part) (plan : Plan) (d :
 
 -- ---- which images are tried
 
--- how many picks are asked for, and which they are: those listed; if none is, those below the number of all
+-- how many picks are asked for, and the pick at a position: those that are listed; if none is, those below the number of all
 abbrev pub picks_of : Asked → ℕ
 picks_of a = if length a.picks.items == 0 then a.all else length a.picks.items
 

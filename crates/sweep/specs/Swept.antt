@@ -43,7 +43,7 @@ pub record IsSweptOver {M : Type 0} (K : KindOf M) (out : List ℕ) (asked : Ask
   pub rows : KeepsRows K plan before.device (levels_of plan) asked account swept
   pub concluded : IsConcluded out asked source plan.geometry.limit account swept before.shelf after.shelf report after.report status
 
--- memory ran out before its first cycle
+-- memory ran out before the first cycle of a run
 pub record IsShort (before after : Outside) (status : ℕ) : Type 0 where
   pub shelf : after.shelf ≡ before.shelf
   pub terminal : after.terminal ≡ before.terminal
@@ -89,7 +89,7 @@ pub record IsSweptOf {M : Type 0} (K : KindOf M) (out : List ℕ) (asked : Asked
   pub is_plan : IsPlanOf source job before.shelf plan blocks
   pub sweeps : IsSweptSeen K out asked source plan blocks before after status
 
--- or there is a reason why it was not begun
+-- the run of a job was swept, or there is a reason why it was not begun
 abbrev pub SweepsJob : {M : Type 0} → KindOf M → List ℕ → Asked → ProgramSource → Job → Outside → Outside → ℕ → Type 0
 SweepsJob K out asked source job before after status =
     ((r : Refusal) × RunDue source job before after r × IsUnrun r before after status)
@@ -104,7 +104,7 @@ IsJobOf (resume image job) source j = (source ≡ of_image image) × (j ≡ job)
 IsJobOf (bench n job) source j = (source ≡ of_made n) × (j ≡ job)
 IsJobOf order source j = ⊥
 
--- it is run on the machine of its scheme
+-- an order is run, and swept, on the machine of its scheme
 pub record SweepsOrder (c : Choice) (out : List ℕ) (asked : Asked) (order : Order) (before after : Outside) (status : ℕ) : Type 0 where
   pub source : ProgramSource
   pub job : Job
@@ -116,7 +116,7 @@ abbrev pub IsRefusedFor : List ℕ → Bool → List (List ℕ) → WordsError �
 IsRefusedFor out torn words e =
     WordsDue words e ⊎ ((order : Order) × (settings_of words ≡ Ok order) × (is_refused out torn order ≡ true) × (e ≡ Usage))
 
--- a line says so, and all else is left alone
+-- the arguments are refused: a line says so, and all else is left alone
 pub record IsTurnedDown (e : WordsError) (before after : Outside) (status : ℕ) : Type 0 where
   pub is_status : status ≡ (report_of_refusal (Words e)).0
   pub shelf : after.shelf ≡ before.shelf

@@ -25,7 +25,7 @@ struct Kept {
     queue: Vec<Write>,
     /// The block that had landed at the place of the oldest queued write.
     first: Block,
-    /// It is so no more.
+    /// Whether the device was different after a cycle since.
     changed: bool,
 }
 
@@ -142,7 +142,7 @@ fn has_difference(differs: bool, row: &Row) -> bool
 }
 
 impl Account {
-    /// Nothing was tried.
+    /// An account of no images.
     pub fn new(alloc: Global) -> Account
         ensures current { result.current ≡ None }
         ensures unkept { result.kept.changed ≡ true }
@@ -174,7 +174,7 @@ impl Account {
         self.kept.look(nvm);
     }
 
-    /// Whether the device is as it was when the open row began. Then one more cycle is of that row.
+    /// Whether the device is as it was when the open row began. If it is, the row takes this cycle, with its count of instructions, in.
     pub fn repeats(&mut self, cycle: u64, count: u64) -> bool
         ensures still { result ≡ true → self.new.kept.changed ≡ false }
         ensures kept { self.new.kept ≡ self.old.kept }
@@ -203,7 +203,7 @@ impl Account {
         self.differs
     }
 
-    /// Whether nothing was tried.
+    /// Whether no image was tried.
     pub fn is_empty(&self) -> bool
         ensures { result ≡ is_empty self.now }
     {
@@ -286,7 +286,7 @@ impl Account {
         self.text.push_str(line.as_str())
     }
 
-    /// The whole text.
+    /// The text of the sweep, with the open row, the sums and why the sweep stopped.
     ///
     /// # Errors
     /// Memory ran out.

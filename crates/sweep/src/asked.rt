@@ -19,17 +19,17 @@ static PICKS: [u64; 4] = [0, 1, 2, 3];
 /// Which images are tried, and after which cycles.
 #[derive(Drop)]
 pub struct Asked {
-    /// The first cycle, from 1 on.
+    /// The first cycle after which images are tried, from 1 on.
     pub from: u64,
-    /// The last cycle, if it is not the run's.
+    /// The last cycle after which images are tried; None if the run's last is.
     pub to: Option<u64>,
-    /// How many cycles lie between two after which images are tried, and one more.
+    /// The distance, in cycles, from one cycle after which images are tried to the next.
     pub step: u64,
     /// The picks of the images; if none are listed, those below `all`.
     picks: Vec<u64>,
     /// If a cut can leave at most this number of images, all of them are tried. 0 if that is not asked for.
     pub all: u64,
-    /// The run goes over an NVM whose blocks may be torn.
+    /// Whether the run goes over an NVM whose blocks may be torn.
     pub torn: bool,
     /// How much of a state that is restored is compared.
     pub compared: Part,
@@ -309,7 +309,7 @@ pub fn take_asked(alloc: Global, words: &mut Vec<String>) -> Result<Asked, Unask
 }
 
 impl Asked {
-    /// How many picks there are.
+    /// How many picks are asked for; their images are tried after each cycle that is asked for.
     pub fn picks(&self) -> u64
         ensures { result ≡ picks_of self.now }
     {
@@ -320,7 +320,7 @@ impl Asked {
         }
     }
 
-    /// The pick at a position.
+    /// The pick at position `at`, from 0: the listed one, or past the list `at` itself.
     pub fn pick(&self, at: u64) -> u64
         ensures { result ≡ pick_of self.now at }
     {
@@ -338,7 +338,7 @@ impl Asked {
         cycle >= self.from && self.step > 0 && (cycle - self.from) % self.step == 0
     }
 
-    /// Whether a cycle is the last one.
+    /// Whether a cycle is the last one after which images are tried.
     pub fn ends_at(&self, cycle: u64) -> bool
         ensures { result ≡ ends_at self.now cycle }
     {

@@ -10,24 +10,24 @@ use thy_sweep::Lead;
 pub enum Name {
     /// The least pick that gives it.
     Pick(u64),
-    /// Its number among all images.
+    /// The image's number among all that a cut can leave.
     Number(u64),
 }
 
 /// Cycles after which a cut leaves the same images, and what these lead to.
 #[derive(Drop)]
 pub struct Row {
-    /// The first and the last of them.
+    /// The numbers of the first and of the last of the row's cycles.
     pub first: u64,
     pub last: u64,
     /// How many instructions were retired after the first and after the last.
     pub from_count: u64,
     pub to_count: u64,
-    /// How many writes are queued.
+    /// How many writes are queued after each of the row's cycles.
     pub queued: u64,
     /// How many images a cut can leave.
     pub images: u128,
-    /// How many of them were tried.
+    /// How many of these images were tried.
     pub tried: u64,
     pub leads: Vec<Lead>,
     /// Images that led to a state which is not the plain machine's. There is none.
@@ -88,7 +88,7 @@ impl Row {
         }
     }
 
-    /// One more cycle leaves the same images.
+    /// Adds a cycle, after which a cut leaves the same images, and its count of instructions.
     pub fn extend(&mut self, cycle: u64, count: u64)
         ensures { self.new ≡ extended cycle count self.old }
     {
@@ -96,7 +96,7 @@ impl Row {
         self.to_count = count;
     }
 
-    /// Adds its line.
+    /// Adds the row's line to a text, and a line for each image that differs.
     ///
     /// # Errors
     /// Memory ran out.

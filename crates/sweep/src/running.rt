@@ -263,7 +263,7 @@ fn last_count(events: &Events) -> u64 {
     }
 }
 
-/// Why a sweep stopped.
+/// Why a sweep stopped, as its text says it.
 pub fn last_of(swept: &Swept) -> Last {
     match swept {
         Swept::Short => Last::Memory,

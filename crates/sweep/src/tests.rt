@@ -258,7 +258,7 @@ fn a_call_that_is_refused_puts_nothing(rt: HostRuntime) {
     }
 }
 
-/// These bytes.
+/// A list of these bytes.
 fn bytes_of(rt: &impl Abort, alloc: Global, bytes: &[u8]) -> Bytes {
     Bytes::from_vec(Vec::from_slice(alloc, bytes).expect(rt, "memory"))
 }

@@ -1,5 +1,5 @@
 -- Part of the claim.
--- A comparison: one program, run by each scheme in turn, each time over a device that is fitted anew.
+-- A comparison: one program, run by each scheme in turn, each time over a device that is fitted again.
 use Rattle.std.specs.Prelude.{◌≡◌, ◌⊎◌, ℕ, nat_le, if◌then◌else◌, Bool, true, false, List, [], ◌∷◌, ◌++◌, None, Contains, MatchBool}
 use Rattle.thy_base.specs.declared.config.Config.{Config}
 use Rattle.thy_block.specs.declared.parameters.SchemeName.{SchemeName}

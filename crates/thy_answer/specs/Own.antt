@@ -1,4 +1,4 @@
--- That an image is of one scheme and of one geometry.
+-- An image is of one scheme and of one geometry.
 use Rattle.std.specs.Prelude.{◌≡◌, ℕ, ◌<◌, List}
 use Rattle.thy_block.specs.declared.block.Block.{Block}
 use Rattle.thy_block.specs.declared.parameters.Parameters.{Parameters}

@@ -12,7 +12,7 @@ use Rattle.thy_run.specs.World.{tear}
 use Rattle.thy_run.specs.declared.ending.Stop.{Stop}
 use Rattle.thy_run.specs.declared.ending.Stop.TheVariants.{Ended, Limit, Nvm, Memory, Terminal, Report}
 
--- after these stops a run is saved: the program has ended, the limit is reached, or the device failed
+-- a run that stopped so is saved: its program has ended, the limit is reached, or the device failed
 abbrev pub saves : Stop → Bool
 saves (Ended status) = true
 saves Limit = true

@@ -16,9 +16,9 @@ pub struct Answer {
     /// The exit status: 0 if the program exited, 1 if it trapped, 2 to 10 as `docs/FORMATS.md`
     /// lists them.
     pub status: u8,
-    /// What happened, in order.
+    /// The events of the call's runs, in order.
     pub events: History,
-    /// How many cycles are done.
+    /// How many cycles the call has done; of the plain machine, how many steps.
     pub cycles: u64,
 }
 
@@ -32,7 +32,7 @@ pub struct Ran {
 }
 
 impl Ran {
-    /// The result of a call that began this run alone.
+    /// The answer of a call that began this run alone.
     pub fn answer(self, alloc: Global) -> Answer
         ensures { result ≡ answer_of self }
     {
@@ -44,7 +44,7 @@ impl Ran {
     }
 }
 
-/// The status of a stop.
+/// The exit status for a stop.
 pub fn status_of(stop: Stop) -> u8
     ensures { result ≡ stop_status stop }
 {

@@ -34,7 +34,7 @@ pub enum Refusal<'a> {
     },
     /// The device could not be fitted.
     Device(FitError),
-    /// There was not enough memory.
+    /// An allocation failed.
     Memory(AllocError),
 }
 

@@ -36,7 +36,7 @@ rule_for (Flag name) = flag_rule name.now
 abbrev pub with_argument : App → Argument → App
 with_argument a x = with_rule a (rule_for x)
 
--- with an option for a field of the table, if commands like this one take it
+-- a description of arguments with an option for a field of the table, if commands like this one take it
 abbrev pub with_field : Commands → App → Field → App
 with_field commands a f =
     if is_taken commands (option_of f).commands then with_rule a (option_rule (field_name f)) else a

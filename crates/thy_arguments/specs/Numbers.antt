@@ -19,7 +19,7 @@ number_in t = if is_number t then Some (digits_value 10 t) else None
 abbrev pub pieces : Text → List Text
 pieces = slice_split (λ b. b == 44)
 
--- one number or more, with a comma between each two
+-- a text is one number or more, with a comma between each two
 abbrev pub is_list : Text → Bool
 is_list t = list_all is_number (pieces t)
 

@@ -140,7 +140,7 @@ fn bare<'a>(alloc: Global) -> Command<'a>
         .disable_help_subcommand(true)
 }
 
-/// The program, with its six commands.
+/// The description of the program for the reader of arguments, with its six commands. Fails if memory runs out.
 pub(crate) fn thynvm<'a>(alloc: Global) -> Result<Command<'a>, AllocError>
     ensures { IfOk result (λ c. app_of c ≡ program) }
 {

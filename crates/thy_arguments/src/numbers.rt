@@ -51,7 +51,7 @@ fn number_or_zero(text: &str) -> u64
     number(text).unwrap_or(0)
 }
 
-/// The numbers of a list.
+/// The numbers of a list of decimal digits with commas between. Fails if memory runs out.
 pub fn list_of(alloc: Global, text: &str) -> Result<Vec<u64>, AllocError>
     ensures { IfOk result (λ v. v.items ≡ numbers_in text.now) }
 {

@@ -19,7 +19,7 @@ pub(crate) enum Verb {
     Make,
 }
 
-/// The command of a name.
+/// The command that has this name, if one has it.
 pub(crate) fn verb_of(name: &str) -> Option<Verb>
     ensures { result ≡ verb_of name.now }
 {

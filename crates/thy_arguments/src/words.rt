@@ -24,7 +24,7 @@ pub struct Job {
     pub input: Option<String>,
     /// The name on the shelf under which the image that the run leaves is saved, if it is.
     pub save: Option<String>,
-    /// Whether digests of memory are reported.
+    /// Whether digests of memory are to be reported.
     pub digest: bool,
 }
 

@@ -44,13 +44,13 @@ pub struct Config {
     pub limit: u64,
     /// The scheme of checkpoints.
     pub scheme: SchemeName,
-    /// The harts.
+    /// How many harts there are: 1 or 2.
     pub harts: u64,
-    /// After how many writes of the NVM a barrier moves a line of it. 0 is never.
+    /// How many writes of the NVM come before a barrier moves a line of it: at most 1,000,000; 0 is never.
     pub gap: u64,
 }
 
-/// A field of the configuration, or the number of a made program.
+/// What an option sets: a field of the configuration, or the number from which a program is made (`N`).
 #[derive(Clone, Copy, Debug, PartialEq, Eq)]
 pub enum Field {
     Base,
@@ -75,7 +75,7 @@ pub enum Field {
     N,
 }
 
-/// A value out of its range.
+/// A value that is out of its range, with the field that has it.
 #[derive(Clone, Copy, Debug, PartialEq, Eq)]
 pub struct ConfigError {
     pub field: Field,
@@ -113,7 +113,7 @@ impl Config {
         }
     }
 
-    /// The number that the field has. A field that is a list, a scheme or no field of a configuration has 0.
+    /// The number that the field has. Fields without one have 0: the lists, the scheme, and `N`, which is no field of a configuration.
     pub fn number(&self, field: Field) -> u64
         ensures { result ≡ number_of self.now field }
     {

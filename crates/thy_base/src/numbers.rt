@@ -16,14 +16,14 @@ impl Model for Numbers {
 }
 
 impl Numbers {
-    /// The numbers of a vector. Allocates nothing.
+    /// The list of a vector's numbers. Allocates nothing.
     pub fn from_vec(items: Vec<u64>) -> Numbers
         ensures { result ≡ items.items }
     {
         Numbers { items }
     }
 
-    /// The numbers.
+    /// All numbers of the list, in order.
     pub fn as_slice(&self) -> &[u64]
         ensures { result.now ≡ self.now }
     {
@@ -44,7 +44,7 @@ impl Numbers {
         self.items.is_empty()
     }
 
-    /// Number `at`.
+    /// The number at index `at`, which is below the length.
     pub fn get(&self, at: usize) -> u64
         requires { at < length self.now }
         ensures { result ≡ slice_index self.now at }

@@ -4,24 +4,24 @@ ghost use Rattle.thy_base.specs.Options.{default_of, field_name, fields, is_take
 
 use crate::Field;
 
-/// The range of a number.
+/// Which values of an option are in its range.
 #[derive(Clone, Copy, Debug, PartialEq, Eq)]
 pub enum Bounds {
-    /// Any number.
+    /// Every number is in the range.
     Any,
-    /// At most this number.
+    /// Numbers from 0 to this one.
     AtMost(u64),
-    /// From the first number to the second.
+    /// Numbers from the first to the second, both included.
     Between(u64, u64),
-    /// From the first number to the second, and a multiple of 8.
+    /// The multiples of 8 from the first number to the second, both included.
     Eights(u64, u64),
-    /// A power of two, 1 to 64.
+    /// The powers of two from 1 to 64.
     PowerOfTwo,
-    /// A multiple of 4096 below `2^62`.
+    /// The multiples of 4096 below `2^62`.
     PageAddress,
-    /// From the first number to the second, and below the number of another option.
+    /// Numbers from the first to the second, both included, that are below the number of another option.
     Below(u64, u64, Field),
-    /// At most the number of another option.
+    /// Numbers from 0 to the number of another option.
     AtMostOf(Field),
 }
 
@@ -41,13 +41,13 @@ pub enum Value {
 /// Which commands take an option.
 #[derive(Clone, Copy, Debug, PartialEq, Eq)]
 pub enum Commands {
-    /// None: it is the operand of `bench` and `make`.
+    /// No command takes it by name: it is the operand of `bench` and `make`.
     Operand,
     /// `run`, `resume` and `bench`.
     Runs,
-    /// These three and `compare`.
+    /// `run`, `resume`, `bench` and `compare`.
     AlsoCompare,
-    /// These four and `plain`.
+    /// `run`, `resume`, `bench`, `compare` and `plain`.
     AlsoPlain,
 }
 
@@ -62,7 +62,7 @@ pub struct OptionRow {
 /// The greatest number of which a program is made.
 pub const MOST_NUMBER: u64 = 4_294_967_295;
 
-/// The options, in the order in which their values are read, and then tested.
+/// The table of options, in the order in which their values are read, and then tested.
 static FIELDS: [Field; 19] = [
     Field::Base,
     Field::Pages,
@@ -85,7 +85,7 @@ static FIELDS: [Field; 19] = [
     Field::Gap,
 ];
 
-/// The options, in the order in which their values are read, and then tested.
+/// All options, in the order in which their values are read, and then tested.
 pub fn fields() -> &'static [Field]
     ensures { result.now ≡ fields }
 {
@@ -93,7 +93,7 @@ pub fn fields() -> &'static [Field]
 }
 
 impl Field {
-    /// The option's row in the table.
+    /// The row of the table for this field: the option's name, value and commands.
     pub fn option(self) -> OptionRow
         ensures name { result.name.now ≡ field_name self }
         ensures value { result.value ≡ (option_of self).value }
@@ -131,7 +131,7 @@ impl Field {
         }
     }
 
-    /// The name of the field's option, and of the field in a refusal.
+    /// The option's name without the hyphens, which a refusal also gives to the field.
     pub fn name(self) -> &'static str
         ensures { result.now ≡ field_name self }
     {

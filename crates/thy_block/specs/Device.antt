@@ -16,10 +16,10 @@ zero_block = record { 0 = replicate 64 0 }
 -- What a device says of the writes that its barriers make of its own accord. One that levels moves a block, by two writes, once
 -- `every` writes were made; it says how many were made since its last move, and how often it has moved.
 pub data Wear : Type 0 where
-  -- its barriers make none
+  -- the device's barriers make no write of their own
   Plain : Wear
   Levels : (every since moves : ℕ) → Wear
-  -- it says nothing of them
+  -- the device says nothing of what its barriers write
   Unsaid : Wear
 
 -- what a device holds
@@ -118,13 +118,13 @@ worn Plain = Plain
 worn (Levels every since moves) = Levels every (next since) moves
 worn Unsaid = Unsaid
 
--- what it says after a fit
+-- what a device says of its barriers' writes after a fit
 abbrev pub unworn : Wear → Wear
 unworn Plain = Plain
 unworn (Levels every since moves) = Levels every 0 0
 unworn Unsaid = Unsaid
 
--- what it says after a move
+-- what a device says of its barriers' writes after one of them moved a block
 abbrev pub moved_on : Wear → Wear
 moved_on Plain = Plain
 moved_on (Levels every since moves) = Levels every 0 (next moves)
@@ -156,7 +156,7 @@ CountsBy Plain before own count = count ≡ own
 CountsBy (Levels every since moves) before own count = count ≡ own
 CountsBy Unsaid before own count = before ≤ count
 
--- this is the count after a barrier
+-- a count of writes may be a device's after a barrier
 abbrev pub CountsOwn : Device → ℕ → Type 0
 CountsOwn n count = CountsBy n.wear n.writes (own_count n) count
 
@@ -191,7 +191,7 @@ surplus n = if nat_lt (length n.queue) n.queue_room then 0 else 1
 abbrev pub with_queued : ℕ → Block → Device → Device
 with_queued at block n = record n { queue = n.queue ++ write_of at block ∷ [] }
 
--- after a write: of a full queue the oldest has landed, and this one is queued
+-- a device after a write: of a full queue the oldest write has landed, and this one is queued
 abbrev pub written_to : Device → ℕ → Block → Device
 written_to n at block = record n {
   image = applied n.image (take (surplus n) n.queue);
@@ -215,7 +215,7 @@ cut_to n pick g wear = record n {
   wear = wear;
 }
 
--- after a fit: the start and then zeros, and no cut yet
+-- a device after a fit: the start and then zeros, and no cut yet
 abbrev pub fitted : Shape → List Block → Device → Device
 fitted shape start n = record {
   image = start ++ replicate (shape.blocks - length start) zero_block;
@@ -294,7 +294,7 @@ pub record HasFailedToSettle (old new : Device) : Type 0 where
   pub writes : old.writes ≤ new.writes
   pub wear : new.wear ≡ old.wear
 
--- after a write that failed: no place may hold more than if the block had been queued
+-- a device after a write that failed: no place may hold more than if the block had been queued
 pub record HasFailedToWrite (at : ℕ) (block : Block) (old new : Device) : Type 0 where
   pub down : new.down ≡ true
   pub no_more : HoldsNoMore (with_queued at block old) new
@@ -313,8 +313,7 @@ CountsFault result old new = MatchResult result (λ _. new ≡ old) (λ _. Rose 
 abbrev pub CountsOneFault : {T E : Type 0} → Result T E → ℕ → ℕ → Type 0
 CountsOneFault result old new = MatchResult result (λ _. new ≡ old) (λ _. RoseByOne old new)
 
--- after a fit that failed: it was counted; if it was out of memory nothing has changed, except that it may have been
--- counted
+-- a device after a fit that failed: the fit was counted; if it was out of memory nothing has changed, except that it may have been counted
 abbrev pub HasFailedToFit : FitError → Device → Device → Type 0
 HasFailedToFit Failed old new =
     HasFailed old new × IsFramed (record old { fits = next old.fits }) new × Rose old.faults new.faults

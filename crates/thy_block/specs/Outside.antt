@@ -50,7 +50,7 @@ pub record HasNotFailed (old new : Stock) : Type 0 where
 abbrev pub Noted : List ℕ → Option (List (List ℕ)) → Option (List (List ℕ)) → Type 0
 Noted name old new = (names : List (List ℕ)) → old ≡ Some names → new ≡ Some (names ++ name ∷ [])
 
--- one call failed, under this name
+-- a call of a shelf failed, under this name
 pub record HasFailedUnder (name : List ℕ) (old new : Stock) : Type 0 where
   pub rose : Rose old.faults new.faults
   pub noted : Noted name old.failed new.failed

@@ -65,6 +65,6 @@ StoresOver S N = ℕ → Block → Stored → S → N → S → N → Type 0
 abbrev pub flat_list : List Block → Holding
 flat_list blocks = record { blocks = blocks; faults = 0; free = 2 ^ 64 - 1; ready = true; open_page = None; owed = 0 }
 
--- one block at most is another
+-- at most one block of a list is another than before
 abbrev pub ChangesOne : List Block → List Block → Type 0
 ChangesOne old new = (new ≡ old) ⊎ ((b : ℕ) × (block : Block) × (new ≡ slice_set old b block))

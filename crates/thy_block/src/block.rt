@@ -13,10 +13,10 @@ pub const BLOCK_SIZE: usize = 64;
 pub struct Block(pub [u8; 64]);
 
 impl Block {
-    /// A block of zeros.
+    /// The block whose 64 bytes are all 0, as a device holds it before the first write.
     pub const ZERO: Block = Block([0; 64]);
 
-    /// The bytes of the block.
+    /// All 64 bytes of the block, lowest address first.
     pub fn bytes(&self) -> &[u8]
         ensures bytes { result.now ≡ block_bytes self.now }
         ensures len { length result.now ≡ 64 }
@@ -24,7 +24,7 @@ impl Block {
         &self.0
     }
 
-    /// Writes a piece over its bytes from `at` on.
+    /// Writes a piece over the block's bytes from index `at` on. The piece ends at byte 64 or before.
     pub fn put(&mut self, at: usize, piece: &[u8])
         requires { at + length piece.now ≤ 64 }
         ensures { self.new ≡ overwritten at piece.now self.old }

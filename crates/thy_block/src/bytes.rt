@@ -12,7 +12,7 @@ pub struct Bytes {
 }
 
 impl Bytes {
-    /// No bytes. Allocates nothing.
+    /// An empty list without room. Allocates nothing.
     pub fn new(alloc: Global) -> Bytes
         ensures { bytes_of result ≡ [] }
     {
@@ -21,7 +21,7 @@ impl Bytes {
         }
     }
 
-    /// No bytes, with room for `room` of them.
+    /// An empty list with room for `room` bytes. Fails if memory runs out.
     pub fn with_room(alloc: Global, room: usize) -> Result<Bytes, AllocError>
         ensures empty { IfOk result (λ b. bytes_of b ≡ []) }
         ensures room { IfOk result (λ b. room_of b ≡ room) }
@@ -30,7 +30,7 @@ impl Bytes {
         Ok(Bytes { items })
     }
 
-    /// The bytes of a vector, with its room. Allocates nothing.
+    /// The list of a vector's bytes, with the vector's room. Allocates nothing.
     pub fn from_vec(items: Vec<u8>) -> Bytes
         ensures bytes { bytes_of result ≡ items.items }
         ensures room { room_of result ≡ vec_capacity items }
@@ -38,7 +38,7 @@ impl Bytes {
         Bytes { items }
     }
 
-    /// The bytes.
+    /// All bytes of the list, in order.
     pub fn as_slice(&self) -> &[u8]
         ensures { result.now ≡ bytes_of self.now }
     {
@@ -59,7 +59,7 @@ impl Bytes {
         self.items.is_empty()
     }
 
-    /// Byte `at`.
+    /// The byte at index `at`, which is below the length.
     pub fn get(&self, at: usize) -> u8
         requires { at < length (bytes_of self.now) }
         ensures { result ≡ slice_index (bytes_of self.now) at }
@@ -67,7 +67,7 @@ impl Bytes {
         self.items[at]
     }
 
-    /// Writes a byte at `at`.
+    /// Replaces the byte at index `at`, which is below the length. Allocates nothing.
     pub fn set(&mut self, at: usize, byte: u8)
         requires { at < length (bytes_of self.old) }
         ensures bytes { bytes_of self.new ≡ slice_set (bytes_of self.old) at byte }
@@ -76,7 +76,7 @@ impl Bytes {
         self.items[at] = byte;
     }
 
-    /// Writes a piece over the bytes from `at` on.
+    /// Writes a piece over the bytes from index `at` on, none past the last. Allocates nothing.
     pub fn put(&mut self, at: usize, piece: &[u8])
         requires { at + length piece.now ≤ length (bytes_of self.old) }
         ensures bytes { bytes_of self.new ≡ written (bytes_of self.old) at piece.now }
@@ -85,7 +85,8 @@ impl Bytes {
         put_in(&mut self.items, at, piece);
     }
 
-    /// Adds a piece at the end. Allocates only if there is not enough room, and frees none.
+    /// Adds a piece at the end. Allocates only if there is not enough room, and frees none. Fails if memory runs out; then the list is as
+    /// before.
     pub fn extend(&mut self, piece: &[u8]) -> Result<(), AllocError>
         ensures ok { OnOk result (bytes_of self.new ≡ bytes_of self.old ++ piece.now) }
         ensures err { OnErr result (bytes_of self.new ≡ bytes_of self.old) }
@@ -105,7 +106,7 @@ impl Bytes {
         self.items.push_reserved(byte);
     }
 
-    /// Gives up all bytes, and keeps the room.
+    /// Removes all bytes, and keeps the room. Frees nothing.
     pub fn clear(&mut self)
         ensures bytes { bytes_of self.new ≡ [] }
         ensures room { room_of self.new ≡ room_of self.old }
@@ -113,7 +114,7 @@ impl Bytes {
         self.items.clear();
     }
 
-    /// A copy of the bytes.
+    /// A second list with the same bytes. Fails if memory runs out.
     pub fn duplicate(&self, alloc: Global) -> Result<Bytes, AllocError>
         ensures { IfOk result (λ b. bytes_of b ≡ bytes_of self.now) }
     {
@@ -122,7 +123,7 @@ impl Bytes {
     }
 }
 
-/// Writes a piece over the bytes from `at` on.
+/// Writes a piece over the bytes of a slice from index `at` on, none past the last.
 pub(crate) fn put_in(items: &mut [u8], at: usize, piece: &[u8])
     requires { at + length piece.now ≤ length items.old }
     ensures { items.new ≡ written items.old at piece.now }

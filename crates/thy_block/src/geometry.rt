@@ -26,7 +26,7 @@ pub trait Configuration {
         ensures fault { result ≡ fault self.now }
         ensures faultless { (fault self.now ≡ None) ↔ fits self.now };
 
-    /// The numbers of the machine, if each value is in its range. So is each number then.
+    /// The numbers of the machine, if each value is in its range; then each of these numbers is in its range too.
     fn parameters(&self) -> Parameters
         requires { fault self.now ≡ None }
         ensures numbers { result ≡ numbers self.now }
@@ -77,7 +77,7 @@ impl Geometry {
         }
     }
 
-    /// The numbers, each in its range.
+    /// The numbers that the geometry was made from, each in its range.
     pub fn numbers(&self) -> Parameters
         ensures same { result ≡ self.now }
         ensures in_range { IsInRange self.now }
@@ -85,7 +85,7 @@ impl Geometry {
         self.numbers
     }
 
-    /// How many harts there are.
+    /// How many harts there are: 1 or 2.
     pub fn harts(&self) -> u64
         ensures harts { result ≡ self.now.harts }
         ensures in_range { IsInRange self.now }
@@ -93,7 +93,7 @@ impl Geometry {
         self.numbers.harts
     }
 
-    /// How many blocks memory has, the console's included.
+    /// How many blocks of 64 bytes memory has, the console's included.
     pub fn memory_blocks(&self) -> u64
         ensures blocks { result ≡ memory_blocks self.now }
         ensures in_range { IsInRange self.now }

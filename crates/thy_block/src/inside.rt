@@ -2,7 +2,8 @@
 ghost use Rattle.std.specs.Prelude.{◌≡◌};
 ghost use Rattle.thy_block.specs.Inside.{is_inside};
 
-/// Whether `n` bytes at an address lie within a memory of that base and size, over whole numbers.
+/// Whether the `n` bytes from address `at` on lie in the memory of `size` bytes from `base` on. The sums are of whole numbers and do not
+/// wrap.
 pub fn is_inside(base: u64, size: u64, at: u64, n: u64) -> bool
     ensures { result ≡ is_inside base size at n }
 {

@@ -26,7 +26,7 @@ impl Lcg {
         Lcg { state: seed }
     }
 
-    /// The next draw, below `2^31`.
+    /// Takes one step, and returns its draw, below `2^31`.
     pub fn next(&mut self) -> u64
         ensures state { self.new ≡ lcg_next self.old }
         ensures draw { result ≡ lcg_draw self.new }

@@ -7,15 +7,15 @@ use crate::Lcg;
 /// Which of the actors takes a cycle.
 #[derive(Clone, Copy, Debug, PartialEq, Eq)]
 pub enum Pick {
-    /// Hart 0.
+    /// Hart 0 takes the cycle.
     Hart,
-    /// Hart 1, if there are two.
+    /// Hart 1 takes the cycle, if there are two.
     Second,
-    /// The checkpoint engine.
+    /// The checkpoint engine takes the cycle.
     Engine,
-    /// One write of the NVM's queue.
+    /// The oldest write in the NVM's queue lands, if there is one.
     NvmDrain,
-    /// One write of the DRAM's queue.
+    /// The oldest write in the DRAM's queue lands, if there is one.
     DramDrain,
 }
 
@@ -23,14 +23,14 @@ pub enum Pick {
 /// that each draw names. There are four actors with one hart, and five with two.
 #[derive(Clone, Copy, Debug)]
 pub enum Mix {
-    /// This actor comes next, and then the one after it.
+    /// The actor that takes the next cycle; the one after it in order takes the cycle after that.
     InTurn(Pick),
-    /// The next draw names the one that comes next.
+    /// The generator whose next draw names the actor of the next cycle.
     Drawn(Lcg),
 }
 
 impl Mix {
-    /// The schedule of a seed.
+    /// The schedule of a seed, before its first cycle.
     pub fn new(seed: u64) -> Mix
         ensures { result ≡ mix_start seed }
     {
@@ -41,7 +41,7 @@ impl Mix {
         }
     }
 
-    /// The next pick, for one hart or two.
+    /// Which actor takes the next cycle of a machine with this number of harts. The schedule moves on by one.
     pub fn next(&mut self, harts: u64) -> Pick
         ensures pick { result ≡ mix_pick harts self.old }
         ensures after { self.new ≡ mix_next harts self.old }
@@ -57,7 +57,7 @@ impl Mix {
     }
 }
 
-/// The actor after this one.
+/// The actor whose turn comes after this one's, with this number of harts.
 fn pick_after(harts: u64, pick: Pick) -> Pick
     ensures { result ≡ after_pick harts pick }
 {
@@ -68,7 +68,7 @@ fn pick_after(harts: u64, pick: Pick) -> Pick
     }
 }
 
-/// The actor after this one, with one hart.
+/// The actor whose turn comes after this one's, with one hart: hart, engine, NVM, DRAM, and again.
 fn after_of_four(pick: Pick) -> Pick
     ensures { result ≡ after_pick 1 pick }
 {
@@ -80,7 +80,7 @@ fn after_of_four(pick: Pick) -> Pick
     }
 }
 
-/// The actor after this one, with two.
+/// The actor whose turn comes after this one's, with two harts: hart 0, hart 1, engine, NVM, DRAM, and again.
 fn after_of_five(pick: Pick) -> Pick
     ensures { result ≡ after_pick 2 pick }
 {
@@ -93,7 +93,7 @@ fn after_of_five(pick: Pick) -> Pick
     }
 }
 
-/// The actor that a draw names.
+/// The actor that a draw names: the draw modulo 4 with one hart, modulo 5 with two.
 fn pick_at(harts: u64, draw: u64) -> Pick
     ensures { result ≡ pick_of harts draw }
 {

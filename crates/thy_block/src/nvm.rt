@@ -8,7 +8,7 @@ use std::alloc::{AllocError, Global};
 /// A block on its way to a place of a device.
 #[derive(Clone, Copy, Debug, PartialEq, Eq)]
 pub struct Write {
-    /// The place, in blocks.
+    /// The place of the device, in blocks of 64 bytes.
     pub at: u64,
     /// What the place is to hold.
     pub block: Block,
@@ -25,7 +25,7 @@ pub struct Shape {
     pub cuts: u64,
 }
 
-/// A call of a device failed.
+/// A call of a device failed. The device has counted a fault, and is down.
 #[derive(Clone, Copy, Debug, PartialEq, Eq)]
 pub enum NvmError {
     Failed,
@@ -36,7 +36,7 @@ pub enum NvmError {
 pub enum FitError {
     /// The device failed.
     Failed,
-    /// There was not enough memory. The device is as it was, except that the call may have been counted.
+    /// An allocation failed. The device is as it was, except that the call may have been counted.
     Memory(AllocError),
 }
 
@@ -55,7 +55,7 @@ pub trait Nvm {
     /// What the device holds.
     ghost device: { Self → Device };
 
-    /// Makes the device anew: the blocks of `start`, which it takes over, and then zeros, an empty queue, no kept images
+    /// Replaces all that the device holds: by the blocks of `start`, which it takes over, and then zeros, an empty queue, no kept images
     /// and picks, and no writes. The call is counted, also if it fails; only one that is out of memory may go uncounted.
     fn fit(&mut self, alloc: Global, shape: &Shape, start: Vec<Block>) -> Result<(), FitError>
         requires blocks { 0 < shape.now.blocks }
@@ -64,7 +64,7 @@ pub trait Nvm {
         ensures ok { OnOk result (device self.new ≡ fitted shape.now start.items (device self.old)) }
         ensures err { IfErr result (λ e. HasFailedToFit e (device self.old) (device self.new)) };
 
-    /// How many writes are queued.
+    /// How many writes are queued, of a device that is not down.
     fn queued(&self) -> u64
         requires { (device self.now).down ≡ false }
         ensures { result ≡ length (device self.now).queue };
@@ -77,7 +77,8 @@ pub trait Nvm {
     fn writes(&self) -> u64
         ensures { result ≡ (device self.now).writes };
 
-    /// The newest block queued for a place, else the one that has landed there.
+    /// The block that a read of a place gives: the newest one queued for it, else the one that has landed there. Nothing changes if it
+    /// succeeds.
     fn read(&mut self, at: u64) -> Result<Block, NvmError>
         requires place { at < length (device self.old).image }
         requires up { (device self.old).down ≡ false }
@@ -87,7 +88,8 @@ pub trait Nvm {
         ensures frame { IsFramed (device self.old) (device self.new) }
         ensures cause { CountsFault result (device self.old).faults (device self.new).faults };
 
-    /// Queues a block for a place. If the queue is full, its oldest write lands first.
+    /// Queues a block for a place. If the queue is full, its oldest write lands first. A write that fails may leave words of its block at
+    /// the place.
     fn write(&mut self, at: u64, block: &Block) -> Result<(), NvmError>
         requires place { at < length (device self.old).image }
         requires up { (device self.old).down ≡ false }
@@ -96,7 +98,7 @@ pub trait Nvm {
         ensures frame { IsFramed (device self.old) (device self.new) }
         ensures cause { CountsFault result (device self.old).faults (device self.new).faults };
 
-    /// Lets the oldest queued write land.
+    /// Lets the oldest queued write land. One must be queued.
     fn drain(&mut self) -> Result<(), NvmError>
         requires queued { 0 < length (device self.old).queue }
         requires up { (device self.old).down ≡ false }
@@ -120,15 +122,15 @@ pub trait Nvm {
         requires { length (device self.old).left < (device self.old).left_room }
         ensures cut { IsCut pick (device self.old) (device self.new) };
 
-    /// The block at a place of the kept image `i`.
+    /// The block at a place of the kept image `i`, counted from 0 in the order of the cuts since the last fit.
     fn kept(&self, i: u64, at: u64) -> Block
         requires image { i < length (device self.now).left }
         requires place { at < length (device self.now).image }
         ensures { result ≡ block_at (slice_index_or (device self.now).left i []) at };
 }
 
-/// A device that is lent. Every call keeps the name of the loan: so the lender knows after any calls that what they
-/// left is in the device that was lent.
+/// A device that is lent. Every call keeps the name of the loan. The lender knows by it, after any calls, that what they left is in the
+/// device that was lent.
 impl<N: Nvm> Nvm for &mut N {
     ghost use Rattle.thy_block.specs.Device.{lent_by};
 

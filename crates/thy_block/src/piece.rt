@@ -10,7 +10,7 @@ use arrayvec::ArrayVec;
 /// The bytes that one instruction or call moves: at most 64.
 pub type Piece = ArrayVec<u8, 64>;
 
-/// Adds the bytes of a span that lie in its first block, which is this one.
+/// Adds to a piece those bytes of a span that lie in its first block, which is `block`. They fit in the piece.
 pub fn take_head(piece: &mut Piece, block: &Block, span: Span)
     requires { array_vec_len piece.old + head_len span ≤ 64 }
     ensures { piece.new.items ≡ piece.old.items ++ head_in block.now span }
@@ -20,7 +20,7 @@ pub fn take_head(piece: &mut Piece, block: &Block, span: Span)
     extend(piece, &block.bytes()[from..end]);
 }
 
-/// Adds bytes that fit.
+/// Adds bytes at the end of a piece, in which there is room for them.
 pub fn extend(piece: &mut Piece, bytes: &[u8])
     requires { array_vec_len piece.old + length bytes.now ≤ 64 }
     ensures { piece.new.items ≡ piece.old.items ++ bytes.now }

@@ -5,7 +5,7 @@ ghost use Rattle.thy_block.specs.Schemes.{scheme_name, scheme_number};
 use crate::SchemeName;
 
 impl SchemeName {
-    /// The name of the scheme.
+    /// The scheme's name, as options and reports spell it.
     pub fn name(self) -> &'static str
         ensures { result.now ≡ scheme_name self }
     {
@@ -16,7 +16,7 @@ impl SchemeName {
         }
     }
 
-    /// The number of the scheme.
+    /// The scheme's number in the header of an image: 0, 1 or 2, in the order of the variants.
     pub fn number(self) -> u64
         ensures { result ≡ scheme_number self }
     {

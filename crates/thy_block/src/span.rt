@@ -8,7 +8,7 @@ use crate::BLOCK_SIZE;
 /// and the next.
 #[derive(Clone, Copy, Debug, PartialEq, Eq)]
 pub struct Span {
-    /// Which byte of the list is the span's first.
+    /// The index in the list of the span's first byte.
     pub at: u64,
     /// How many bytes the span has.
     pub len: u64,
@@ -22,21 +22,21 @@ impl Span {
         self.len == 0
     }
 
-    /// The block in which the span begins.
+    /// The index in the list of the block in which the span begins.
     pub fn first_block(self) -> u64
         ensures { result ≡ first_block self }
     {
         self.at / BLOCK_SIZE as u64
     }
 
-    /// The byte of that block, 0 to 63, at which it begins.
+    /// The index, 0 to 63, of the span's first byte in the block in which it begins.
     pub fn first_byte(self) -> u64
         ensures { result ≡ first_byte self }
     {
         self.at % BLOCK_SIZE as u64
     }
 
-    /// How many of its bytes lie in that block, at most 64.
+    /// How many of the span's bytes lie in the block in which it begins, at most 64.
     pub fn head_len(self) -> u64
         ensures len { result ≡ head_len self }
         ensures inside { result + first_byte self ≤ 64 }

@@ -8,7 +8,7 @@ use crate::{Block, NvmError};
 /// How a store of a block ended.
 #[derive(Clone, Copy, Debug, PartialEq, Eq)]
 pub enum Stored {
-    /// The block was stored.
+    /// The block is stored.
     Done,
     /// A copy that had to come first was made in its place. The block was not stored: store it again.
     CopyFirst,
@@ -36,7 +36,7 @@ pub trait BlockStore<N> {
     /// later ones, over any number of calls.
     ghost stays: { Self → N → Self → N → Type 0 };
 
-    /// Block `b`. Nothing changes if it succeeds.
+    /// Reads block `b`. Nothing changes if it succeeds.
     fn load(&mut self, b: u64, nvm: &mut N) -> Result<Block, NvmError>
         requires { b < length (holding self.old nvm.old).blocks }
         ensures ok { IfOk result (λ block. block ≡ block_at (holding self.old nvm.old).blocks b) }

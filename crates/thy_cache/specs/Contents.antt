@@ -110,7 +110,7 @@ filled_with b block c = with_set (index_of c b) (filled b block (set_of c b)) c
 abbrev pub cleaned_at : ℕ → ℕ → Contents → Contents
 cleaned_at s w c = with_set s (over_line clean w (set_at c s)) c
 
--- after a store of the line in a way, by the store's answer
+-- a cache after a store of the line in a way, by the store's answer
 abbrev pub stored_at : Stored → ℕ → ℕ → Contents → Contents
 stored_at Done s w c = cleaned_at s w c
 stored_at CopyFirst s w c = c

@@ -64,7 +64,7 @@ line_in ways b = option_and_then (line_at ways) (way_of ways b)
 abbrev pub moved_last : ℕ → List ℕ → List ℕ
 moved_last w xs = option_map_or (λ at. remove xs at ++ w ∷ []) (position (λ v. v == w) xs) xs
 
--- after a use of a way, which no other was used after
+-- a set after a use of a way, which no other way was used after
 abbrev pub used : ℕ → Ways → Ways
 used w ways = record ways { order = moved_last w ways.order }
 

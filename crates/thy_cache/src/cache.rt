@@ -114,7 +114,7 @@ impl Cache {
         }
     }
 
-    /// How many lines are dirty.
+    /// How many lines of the cache are dirty.
     pub fn dirty(&self) -> u64
         ensures { result ≡ dirty_count self.now }
     {

@@ -5,9 +5,9 @@ use thy_block::Block;
 /// A block that a cache holds.
 #[derive(Clone, Copy, Debug, PartialEq, Eq)]
 pub struct Line {
-    /// Which block the line is of.
+    /// The number of the block of memory that the line is of.
     pub at: u64,
-    /// The block that the line holds.
+    /// The block, as the hart sees it.
     pub block: Block,
     /// The line was written to, and its store does not have it yet.
     pub dirty: bool,
@@ -16,9 +16,9 @@ pub struct Line {
 /// Where a cache has the line of a block.
 #[derive(Clone, Copy, Debug, PartialEq, Eq)]
 pub struct LineLocation {
-    /// The number of the line's set.
+    /// The number of the line's set in the cache.
     pub set: usize,
-    /// The way of the line in its set.
+    /// The number of the line's way in its set.
     pub way: usize,
 }
 

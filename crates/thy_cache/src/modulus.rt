@@ -27,7 +27,7 @@ impl Model for Modulus {
 const GREATEST_POWER: u64 = 1 << 63;
 
 impl Modulus {
-    /// The modulus of this number.
+    /// The modulus that divides by this number.
     pub(crate) fn new(number: u64) -> Modulus
         requires { 0 < number }
         ensures { result ≡ number }

@@ -62,7 +62,7 @@ fn rising(alloc: Global, ways: usize) -> Result<Vec<usize>, AllocError>
 }
 
 impl WaySet {
-    /// A set of `ways` ways without lines.
+    /// A set of `ways` ways, none of which has a line. Fails if memory runs out.
     pub(crate) fn new(alloc: Global, ways: usize) -> Result<WaySet, AllocError>
         requires { 0 < ways }
         ensures { IfOk result (λ set. set ≡ empty_ways ways) }
@@ -106,7 +106,7 @@ impl WaySet {
             .position(|way| matches!(way, Some(line) if line.at == b))
     }
 
-    /// The first way whose line is dirty.
+    /// The number of the first way whose line is dirty, if there is one.
     pub(crate) fn dirty_way(&self) -> Option<usize>
         ensures { result ≡ position is_dirty self.now.lines }
     {
@@ -150,7 +150,7 @@ impl WaySet {
         &self.lines[way]
     }
 
-    /// The line in a way.
+    /// The line in a way, if it has one.
     pub(crate) fn line(&self, way: usize) -> Option<Line>
         requires { way < length self.now.lines }
         ensures { result ≡ line_at self.now way }
@@ -206,7 +206,7 @@ impl WaySet {
         self.lines[way] = Some(line);
     }
 
-    /// The line of block `b`.
+    /// The line of block `b`, if the set has one.
     pub(crate) fn line_of(&self, b: u64) -> Option<Line>
         ensures { result ≡ line_in self.now b }
     {

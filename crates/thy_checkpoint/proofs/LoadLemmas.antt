@@ -1,4 +1,4 @@
--- What a start makes is its checkpoint, whatever the layout; and what is written anew of one of an older form.
+-- What a start makes is its checkpoint, whatever the layout; and what is written again of one of an older form.
 use Rattle.std.proofs.Common.{◌≡◌, ◌≢◌, ℕ, ◌+◌, ◌<◌, ◌≤◌, true, List, length, slice_index_or, Contains, None, refl, sym, ◌∙◌, ap, subst, arith, ◌&&◌, nat_lt, Bool, if◌then◌else◌, [], ◌∷◌, ◌++◌, map, Some, inl, inr}
 use Rattle.std.proofs.lemmas.Bool.{ltb-true}
 use Rattle.std.proofs.lemmas.List.{length-map}

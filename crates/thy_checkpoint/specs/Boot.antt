@@ -57,7 +57,7 @@ slot_fault F b = (layout_in F b).slot_bad ceiling b.commit (slot_read F b)
 abbrev pub version_in : {C : Type 0} → FillingOf C → Booting → LayoutVersion
 version_in F b = version_of (layout_in F b).scheme b.p b.commit
 
--- what is read or written anew next is there; what is written anew is the slot of the same epoch
+-- what is read or written again next is there; what is written again is the slot of the same epoch
 abbrev pub IsThere : {C : Type 0} → FillingOf C → Booting → Stage → Type 0
 IsThere F b (Reads (Slot next)) = next < (layout_in F b).slot_blocks b.commit
 IsThere F b (Reads (Fills k)) = k < F.most_fills b.p
@@ -103,7 +103,7 @@ head_fault l header commit = option_or (header_bad l header true) (commit_bad ce
 abbrev pub after_header : Layout → Block → Booting → Stage
 after_header l header b = refusing_or (head_fault l header b.commit) (Reads (Slot 0))
 
--- with all filled the checkpoint is restored; one of an older form is written anew first
+-- the stage once all is filled: the checkpoint is restored, or, if it is of an older form, it is migrated first
 abbrev pub filled_by : LayoutVersion → Stage
 filled_by VersionOne = Migrates (Write 0)
 filled_by VersionTwo = Over Restored

@@ -10,7 +10,7 @@ use Rattle.thy_checkpoint.specs.Filling.{FillingOf, layout_at}
 use Rattle.thy_checkpoint.specs.Items.{ItemsOf}
 use Rattle.thy_checkpoint.specs.Progress.{Progress, Fits, slot_blocks, is_under_way, engine_next, control_next}
 
--- after the commit: the positions of the tail, and a barrier
+-- how many actions are left after the commit: the positions of the tail, and a barrier
 abbrev pub after_commit_left : {C : Type 0} → ItemsOf C → Parameters → ℕ
 after_commit_left I p = if I.has_tail then I.tail_left p 0 + 1 else 0
 

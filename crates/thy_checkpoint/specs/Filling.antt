@@ -118,7 +118,7 @@ pub record ReadsAlike (l : Layout) (commit : Block) (n m : Device) : Type 0 wher
   pub each : (x : ℕ) → x ≢ commit_place → x < l.image_blocks
       → ((k : ℕ) → k < l.slot_blocks commit → x ≢ l.slot_place commit + k) → newest m x ≡ newest n x
 
--- What is written anew has no fault, and means the same processor and the same places of memory. It shares no block with the
+-- What is written again has no fault, and means the same processor and the same places of memory. It shares no block with the
 -- slot that was found. A controller that lists the one lists the other, and has what it has while all else reads alike.
 pub record IsTheSame {C : Type 0} (F : FillingOf C) (p : Parameters) (commit : Block) (slot : List Block) : Type 0 where
   pub faultless : (layout_at F p).slot_bad ceiling (anew commit) (slot_anew (layout_at F p) commit slot) ≡ None
@@ -163,7 +163,7 @@ pub record IsFilling {C : Type 0} (F : FillingOf C) : Type 0 where
       → n.queue ≡ [] → length n.image ≡ (layout_at F (F.p c)).image_blocks → block_at n.image commit_place ≡ commit
       → slot_in (layout_at F (F.p c)) n.image ≡ slot
       → F.whole c n × (F.loads c n ≡ memory_in (layout_at F (F.p c)) n.image)
-  -- a checkpoint of an older form is the same if it is written anew
+  -- a checkpoint of an older form is the same if it is written again
   pub renews : (p : Parameters) (commit : Block) (slot : List Block) → IsOlder (layout_at F p) p commit slot → IsTheSame F p commit slot
   -- a slot is listed in one way
   pub lists_once : (c d e : C) (commit : Block) (slot : List Block) → ListsOn F commit slot c d → ListsOn F commit slot c e → d ≡ e

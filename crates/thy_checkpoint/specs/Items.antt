@@ -1,6 +1,6 @@
 -- Part of the claim.
 -- What a scheme says of its checkpoints: what is written before the slot and after the commit, by positions, and what the
--- slot has behind the processor's record.
+-- slot has after the processor's record.
 use Rattle.std.specs.Prelude.{◌≡◌, ◌⊎◌, ℕ, ◌+◌, ◌≤◌, Bool, true, if◌then◌else◌, Option, Some, None}
 use Rattle.thy_block.specs.declared.block.Block.{Block}
 use Rattle.thy_block.specs.declared.parameters.Parameters.{Parameters}

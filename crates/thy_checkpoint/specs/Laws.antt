@@ -107,7 +107,7 @@ FailuresMove {C} F =
 
 -- ---- its end
 
--- a restart has the kept mark's state, and its checkpoint is kept, as what was read or written anew has it, with the commit
+-- a restart has the kept mark's state, and its checkpoint is kept, as what was read or written again has it, with the commit
 -- block that is written for its epoch
 abbrev pub RestoredIsKept : {C : Type 0} → FillingOf C → Type 0
 RestoredIsKept {C} F =

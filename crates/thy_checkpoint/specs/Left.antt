@@ -27,7 +27,7 @@ abbrev pub most_migration : Layout → Parameters → ℕ
 most_migration l p = if knows_version_one l.scheme p then round_left l.most_slot (Write 0) else 0
 
 -- The numbers of a boot. Loading writes `first` blocks: memory's, a slot and the header; with the longest slot they are
--- `most_first`. Its slot has `slot` blocks, the slot that is written anew `anew`, and the longest one `most_slot`. At
+-- `most_first`. Its slot has `slot` blocks, the slot that is written again has `anew`, and the longest one `most_slot`. At
 -- most `fills` positions are filled. The migration that follows takes `migration` actions, or, if it is not known yet
 -- whether one follows, at most `most_migration`.
 pub record BootNumbers : Type 0 where

@@ -1,5 +1,5 @@
 -- Part of the claim.
--- The migration: a checkpoint of an older form is written anew, in the form that is written today. The round writes the slot of
+-- The migration: a checkpoint of an older form is written again, in the form that is written today. The round writes the slot of
 -- its epoch, and the commit block of the same epoch.
 use Rattle.std.specs.Prelude.{◌≡◌, ℕ, ◌-◌, ◌*◌, false, List, ◌++◌, length, take, replicate, Option, Some, None}
 use Rattle.thy_block.specs.Device.{Device, block_at}

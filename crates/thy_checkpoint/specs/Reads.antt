@@ -9,7 +9,7 @@ use Rattle.thy_checkpoint.specs.declared.boot_stage.ReadStage.TheVariants.{Unrea
 use Rattle.thy_checkpoint.specs.Boot.{Booting, layout_in, at_stage, after_commit, after_header, filling_from, with_slot_block, has_more, gone_on, GoesOn}
 use Rattle.thy_checkpoint.specs.Filling.{FillingOf}
 
--- one block is read, by the stage; for a refusal that comes again none is
+-- the action of a boot that reads: one block, by the stage; none for a refusal that comes again
 abbrev pub read_action : {C : Type 0} → FillingOf C → Booting → C → ReadStage → Action
 read_action F b c Unread = ReadAt commit_place
 read_action F b c Header = ReadAt header_place

@@ -49,7 +49,7 @@ pub record IsRestored {C : Type 0} (F : FillingOf C) (n : Device) (b : Booting) 
   pub found : decode_by (layout_in F b) ceiling n.image
       ≡ At (epoch_of b.commit) (state_by (layout_in F b) (slot_read F b) (F.loads c n))
 
--- all is filled from an image of an older form, which will be written anew from its first block on; memory is where
+-- all is filled from an image of an older form, which will be written again from its first block on; memory is where
 -- that image has it
 pub record IsFoundOld {C : Type 0} (F : FillingOf C) (r : Round) (n : Device) (b : Booting) (c : C) : Type 0 where
   pub restored : IsRestored F n b c

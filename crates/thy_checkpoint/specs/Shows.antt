@@ -24,12 +24,12 @@ restored_view o (Some m) =
 abbrev pub loaded_view : Origin → View
 loaded_view o = record (boot_view (Some (mark 0 o.start.count)) None) { phase = Run; epoch = 1; count = o.start.count }
 
--- a checkpoint of an older form is written anew
+-- a checkpoint of an older form is written again
 abbrev pub migrates_at : Stage → Bool
 migrates_at (Migrates r) = true
 migrates_at stage = false
 
--- by the stage, and by the mark that is kept
+-- what a boot shows, by its stage and by the mark that is kept
 abbrev pub seen_at : Origin → Option Mark → Stage → View
 seen_at o kept (Reads at) = finding_view o.start.count kept
 seen_at o kept (Loads r) = record (loading_view o.start.count) { written = is_written r }

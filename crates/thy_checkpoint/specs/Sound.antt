@@ -85,7 +85,7 @@ IsMade o l f Commit next = IsFirstImage o l f next
 IsMade o l f Confirm next = IsFirstImage o l f next
 IsMade o l f r next = Unit {0}
 
--- ---- what was written anew
+-- ---- what was written again
 
 -- an image is the same checkpoint of that mark, of the form of today
 pub record IsAnew (o : Origin) (l : Layout) (m : Mark) (commit : Block) (parts : CheckpointParts) (image : List Block) : Type 0 where

@@ -57,7 +57,7 @@ impl Boot {
         })
     }
 
-    /// The stage of the boot.
+    /// What the boot does next, or how it ended.
     pub fn stage(&self) -> Stage
         ensures { result ≡ self.now.stage }
     {
@@ -71,7 +71,7 @@ impl Boot {
         &self.geometry
     }
 
-    /// The commit block, once it was read.
+    /// The commit block of the image; zeros before it was read.
     pub fn commit(&self) -> &Block
         ensures { result.now ≡ self.now.commit }
     {
@@ -88,10 +88,9 @@ impl Boot {
         first_blocks(&self.slot, blocks)
     }
 
-    /// Takes one action of the NVM: it reads the next block of the checkpoint there, loads the start if there is none,
-    /// or writes anew what was read of an older form. Once the image was found at fault, it takes none, and returns the
-    /// refusal at each step. If the NVM failed, boot and controller are as before. If the boot goes on, its stage says
-    /// whether it reads, loads or migrates.
+    /// Takes one action on the NVM: it reads the next block of the checkpoint there, loads the start if there is none, or migrates a
+    /// checkpoint of an older form. Once the image was found at fault, it takes none, and returns the refusal at each step. If the NVM
+    /// failed, boot and controller are as before. If the boot continues, its stage says whether it reads, loads or migrates.
     pub fn step<F: Fills, N: Nvm>(
         &mut self,
         control: &mut F::Control,

@@ -13,7 +13,7 @@ pub enum ReadStage {
     Slot(u64),
     /// The slot has no fault, and is listed. This position is filled next.
     Fills(u64),
-    /// The image is refused.
+    /// The image is refused, for this reason.
     Refusing(BadImage),
 }
 
@@ -31,10 +31,11 @@ pub enum End {
 pub enum Stage {
     /// The boot reads, and is at this stage.
     Reads(ReadStage),
-    /// There is no checkpoint: the program is loaded, and this comes next. The round writes memory's blocks, then the slot's,
-    /// and the header.
+    /// There is no checkpoint: the program is loaded, and this action of loading comes next. The round writes memory's blocks, then the
+    /// slot's, and the header.
     Loads(Round),
-    /// The checkpoint that was found is of an older form: it is written anew, and this comes next. The round writes the slot.
+    /// The checkpoint that was found is of an older form: it is migrated, and this action of the migration comes next. The round writes the
+    /// slot.
     Migrates(Round),
     /// The boot is over.
     Over(End),

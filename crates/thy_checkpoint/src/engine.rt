@@ -48,7 +48,7 @@ impl Engine {
     ghost use Rattle.thy_checkpoint.specs.Items.{Made};
     ghost use Rattle.thy_view.specs.Action.{IsAfter, FailsTo};
 
-    /// An engine with nothing to do.
+    /// An engine without a checkpoint under way.
     pub fn new(geometry: &Geometry) -> Engine
         ensures { result ≡ new_engine geometry.now }
     {
@@ -60,14 +60,14 @@ impl Engine {
         }
     }
 
-    /// The stage of the engine.
+    /// What the engine does next.
     pub fn stage(&self) -> EngineStage
         ensures { result ≡ self.now.stage }
     {
         self.stage
     }
 
-    /// The engine has the registers.
+    /// Recalls that the engine's processor has 32 registers. The call does nothing.
     pub fn recall_sound(&self)
         ensures { length self.now.cpu.regs ≡ 32 }
     {
@@ -85,14 +85,14 @@ impl Engine {
         self.epoch = epoch;
     }
 
-    /// Begins with what follows the commit, of a checkpoint that was restored.
+    /// Begins to write the tail, which follows the commit, of a checkpoint that was restored.
     pub fn apply(&mut self)
         ensures { self.new ≡ applying self.old }
     {
         self.stage = EngineStage::Tail(0);
     }
 
-    /// Whether the engine has something to do.
+    /// Whether the engine is not idle.
     pub fn under_way(&self) -> bool
         ensures { result ≡ is_under_way self.now.stage }
     {
@@ -102,7 +102,7 @@ impl Engine {
         }
     }
 
-    /// Whether the engine writes what follows the commit.
+    /// Whether the engine writes the tail, which follows the commit.
     pub fn applies(&self) -> bool
         ensures { result ≡ is_applying self.now.stage }
     {

@@ -4,7 +4,7 @@ use thy_view::Round;
 /// What the engine looks for next.
 #[derive(Clone, Copy, Debug, PartialEq, Eq)]
 pub enum EngineStage {
-    /// There is nothing to do.
+    /// Nothing: no checkpoint is under way.
     Idle,
     /// The first position from this one on that the body writes; if there is none, the slot's first block.
     Body(u64),

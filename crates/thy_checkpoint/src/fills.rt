@@ -15,7 +15,7 @@ use thy_block::{Block, Geometry, Nvm, NvmError};
 use thy_isa::MachState;
 use thy_layout::ImageLayout;
 
-/// Epochs and counts of instructions of a run's own images are below this.
+/// The ceiling of a run's own images, `2^63`: their epochs and counts of instructions are below it.
 pub const CEILING: u64 = 9_223_372_036_854_775_808;
 
 /// A scheme's part of the boot: which controller lists what a slot says, what is filled from an image, and the slot that a
@@ -27,10 +27,10 @@ pub trait Fills: Drop {
     /// The controller that a boot fills.
     type Control;
 
-    /// What controllers mean, and what they show, while they are filled.
+    /// What controllers mean and show while a boot fills them, by which contracts speak of them.
     ghost filling: { FillingOf Self.Control };
 
-    /// A slot without a fault is listed by a controller that lists nothing.
+    /// Lists in a controller that lists nothing what a slot without a fault lists.
     fn list(geometry: &Geometry, commit: &Block, slot: &[u8], control: &mut Self::Control)
         requires slot { length slot.now ≡ 64 * (layout_at filling geometry.now).slot_blocks commit.now }
         requires geometry { filling.p control.old ≡ geometry.now }
@@ -38,11 +38,11 @@ pub trait Fills: Drop {
         requires fits { (layout_at filling geometry.now).slot_bad ceiling commit.now (blocks_of slot.now) ≡ None }
         ensures { ListsOn filling commit.now (blocks_of slot.now) control.old control.new };
 
-    /// How many positions there are that may have to be filled, at most.
+    /// An upper bound of the number of positions that have to be filled.
     fn most_fills(geometry: &Geometry) -> u64
         ensures { result ≡ filling.most_fills geometry.now };
 
-    /// The first position from one on that has to be filled.
+    /// The first position, `from` or later, that has to be filled; None if there is none.
     fn next_fill(geometry: &Geometry, commit: &Block, slot: &[u8], from: u64) -> Option<u64>
         requires { length slot.now ≡ 64 * (layout_at filling geometry.now).slot_blocks commit.now }
         ensures { result ≡ filling.next_fill geometry.now commit.now (blocks_of slot.now) from };
@@ -62,19 +62,19 @@ pub trait Fills: Drop {
         ensures err { OnErr result (control.new ≡ control.old) }
         ensures nvm { Takes (ReadAt (filling.fill_place control.old commit.now k)) result (N.device nvm.old) (N.device nvm.new) };
 
-    /// The place that block `b` of a start's memory is written to.
+    /// The place, in blocks of the NVM, to which block `b` of a start's memory is written.
     fn first_place(geometry: &Geometry, state: &MachState, b: u64) -> u64
         requires start { CanStart geometry.now (state_of state.now) }
         requires inside { b < memory_blocks geometry.now }
         ensures { result ≡ slice_index_or (first_by filling geometry.now (state_of state.now)).parts.memory b 0 };
 
-    /// Block `k` of a start's slot.
+    /// Block `k` of the slot of a start's checkpoint, of epoch 0.
     fn first_slot(geometry: &Geometry, state: &MachState, k: u64) -> Block
         requires start { CanStart geometry.now (state_of state.now) }
         requires inside { k < (layout_at filling geometry.now).slot_blocks (commit_of 0) }
         ensures { result ≡ filling.first_slot geometry.now (state_of state.now) k };
 
-    /// What holds of the filling.
+    /// The laws of fillings, which hold of this one.
     ghost lawful: { IsFilling filling };
 
     /// The filling is with images of this layout.

@@ -15,16 +15,17 @@ use thy_layout::EngineStep;
 /// one: both go over positions, each of which is one action on the NVM. The engine writes the slot, of which the scheme
 /// gives what follows the processor's record, and the commit block, and makes the barriers.
 pub trait Checkpoints: Fills {
-    /// What controllers mean, and what they show, while their checkpoints are made.
+    /// What controllers mean and show while their checkpoints are made, by which contracts speak of them.
     ghost items: { ItemsOf Self.Control };
 
-    /// The first position from one on that the body writes. The search may move what the controller keeps to find the next.
+    /// The first position, `from` or later, that the body writes; None if there is none. The search may move what the controller keeps to
+    /// find the next.
     fn next_body(control: &mut Self::Control, from: u64) -> Option<u64>
         ensures same { control.new ≡ control.old }
         ensures next { result ≡ items.body_next control.old from }
         ensures few { IfSome result (λ k. k < 4294967296) };
 
-    /// Writes a position of the body.
+    /// Writes a position of the body: one write of the NVM.
     fn write_body<N: Nvm>(
         control: &mut Self::Control,
         epoch: u64,
@@ -59,7 +60,7 @@ pub trait Checkpoints: Fills {
     fn has_tail() -> bool
         ensures { result ≡ items.has_tail };
 
-    /// The first position from one on that the tail writes.
+    /// The first position, `from` or later, that the tail writes; None if there is none.
     fn next_tail(control: &Self::Control, from: u64) -> Option<u64>
         ensures next { result ≡ items.tail_next control.now from }
         ensures few { IfSome result (λ k. k < 4294967296) };
@@ -79,7 +80,7 @@ pub trait Checkpoints: Fills {
     fn release(control: &mut Self::Control)
         ensures { control.new ≡ items.released control.old };
 
-    /// What holds of the items. It does nothing: a call of it recalls the laws.
+    /// Recalls the laws of checkpoints' items. The call does nothing.
     fn recall_items()
         ensures { AreItems Self.filling items };
 }

@@ -1,6 +1,6 @@
 //! How a checkpoint is written and found again, by any scheme: the engine and the boot. After power came on the boot
 //! reads the checkpoint in the NVM, a block a cycle, and gives it to a controller. If there is none, it loads the start
-//! of a run: that becomes the checkpoint of epoch 0. A checkpoint of an older form is then written anew, in the form
+//! of a run: that becomes the checkpoint of epoch 0. A checkpoint of an older form is then written again, in the form
 //! that is written today: the same state, of the same epoch. The engine writes the positions of a checkpoint's body,
 //! the blocks of the slot and the commit block, and, if something follows, the positions of its tail and a barrier. All
 //! of them write in rounds (`Round` of thy_view).

@@ -50,7 +50,7 @@ fn blocks_of_start<F: Fills>(geometry: &Geometry, state: &MachState) -> u64
     blocks_of_memory::<F>(geometry, state) + blocks_of_slot::<F>(geometry, state) + 1
 }
 
-/// The write of block `k` of these.
+/// The write of block `k`, from 0, of those that loading writes: its place and its block.
 fn write_of<F: Fills>(geometry: &Geometry, state: &MachState, k: u64) -> Write
     requires start { CanStart geometry.now (state_of state.now) }
     requires inside { k < (first_writes (first_by F.filling geometry.now (state_of state.now))).blocks }

@@ -1,4 +1,4 @@
-//! Migration: a checkpoint of an older form is written anew, in the form that is written today.
+//! Migration: a checkpoint of an older form is written again, in the form that is written today.
 ghost use Rattle.std.specs.Prelude.{◌≡◌, ◌*◌, ◌≤◌, false, length, OnOk, OnErr};
 ghost use Rattle.thy_block.specs.Device.{block_at};
 ghost use Rattle.thy_layout.specs.Files.{blocks_of};

@@ -48,7 +48,7 @@ fn refusing_or(fault: Option<BadImage>, next: Stage) -> Stage
     }
 }
 
-/// The stage with all filled: a checkpoint of version 1 is written anew first.
+/// The stage with all filled: a checkpoint of version 1 is written again first.
 fn stage_when_filled(version: LayoutVersion) -> Stage
     ensures { result ≡ filled_by version }
 {
@@ -205,7 +205,7 @@ impl Boot {
     }
 
     /// Goes to the first position from one on that has to be filled. If there is none, all is restored, unless the checkpoint
-    /// is of an older form: then it is written anew.
+    /// is of an older form: then it is written again.
     fn go_to_fill<F: Fills>(&mut self, from: u64)
         requires { length self.old.slot ≡ 64 * (layout_in F.filling self.old).most_slot }
         ensures { self.new ≡ at_stage (filling_from F.filling from self.old) self.old }

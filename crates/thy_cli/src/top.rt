@@ -24,7 +24,7 @@ use thy_view::Computer;
 /// saved image. With `--scheme` the machine has another scheme of checkpoints. The console's bytes go to `terminal`
 /// when their checkpoint is committed or restored, the events' lines and a closing line to `report`; with `--save` what
 /// the run leaves on its device is put on the shelf. `compare` runs a file by each scheme in turn, each time over a
-/// device that is fitted anew, and reports one line for each. `plain` runs a file on the plain machine: the console's
+/// device that is fitted again, and reports one line for each. `plain` runs a file on the plain machine: the console's
 /// bytes go to `terminal` when it stops, the line of its end and a closing line to `report`. `make` stores the program
 /// file of a number on the shelf.
 ///

@@ -297,7 +297,7 @@ fn compare_plan<A: Computer, B: Computer, C: Computer, H: Shelf, T: Sink, R: Sin
 }
 
 /// Compares the runs of a program file by each scheme. File and input are fetched once. Each run is over a device that is
-/// fitted anew; the first whose status is neither 0 nor 1, or whose line the report refuses, is the last.
+/// fitted again; the first whose status is neither 0 nor 1, or whose line the report refuses, is the last.
 pub fn compare<A: Computer, B: Computer, C: Computer, H: Shelf, T: Sink, R: Sink, N: Nvm>(
     alloc: Global,
     name: &str,

@@ -86,7 +86,7 @@ impl<P: Parts> Composed<P>
 where
     P::Control: Drop,
 {
-    /// A scheme whose power has just come on.
+    /// A scheme whose power has just come on, over a DRAM of any content. Fails if memory runs out; then the DRAM is given up.
     pub fn power_on(
         alloc: Global,
         geometry: &Geometry,
@@ -107,21 +107,21 @@ where
         })
     }
 
-    /// Loses power: all is gone but the DRAM.
+    /// Cuts the power: only the DRAM is left, and every byte of it becomes one that the pick draws.
     pub fn power_off(self, pick: u64) -> Dram
         ensures { result ≡ lost (P.filling.dram self.control) pick }
     {
         P::cut(self.control, pick)
     }
 
-    /// The controller's tables and its DRAM are sound. The call does nothing.
+    /// Recalls that the controller's tables and its DRAM are sound. The call does nothing.
     pub fn recall_sound(&self)
         ensures { P.parts.sound self.now.control }
     {
         P::recall_sound(&self.control);
     }
 
-    /// Loads block `b`, as it was stored last.
+    /// Reads block `b` of memory as it was stored last. Nothing changes if it succeeds.
     pub fn load_block<N: Nvm>(&self, b: u64, nvm: &mut N) -> Result<Block, NvmError>
         requires inside { b < length (P.filling.loads self.now.control (N.device nvm.old)) }
         requires sized { length (N.device nvm.old).image ≡ (layout_at P.filling (P.filling.p self.now.control)).image_blocks }
@@ -134,7 +134,7 @@ where
         P::load(&self.control, b, nvm)
     }
 
-    /// Loads block `b` as the committed checkpoint has it.
+    /// Reads block `b` of memory as the committed checkpoint has it. Nothing changes if it succeeds.
     pub fn load_committed<N: Nvm>(&self, b: u64, nvm: &mut N) -> Result<Block, NvmError>
         requires inside { b < length (P.parts.committed (phase_of self.now.engine.stage) self.now.control (N.device nvm.old)) }
         requires sized { length (N.device nvm.old).image ≡ (layout_at P.filling (P.filling.p self.now.control)).image_blocks }
@@ -192,7 +192,7 @@ where
         P::promote(&mut self.control, nvm)
     }
 
-    /// Seals an epoch.
+    /// Seals an epoch: the controller seals its tables, and the engine begins the checkpoint with this processor.
     pub fn seal_epoch(&mut self, cpu: &CpuState, epoch: u64)
         requires idle { is_under_way self.old.engine.stage ≡ false }
         requires whole { P.parts.pages.promoting self.old.control ≡ false }
@@ -206,7 +206,7 @@ where
         self.engine.begin(cpu, epoch);
     }
 
-    /// Takes the item of the engine that is next.
+    /// Takes the next action of the engine.
     pub fn take_item<N: Nvm>(&mut self, nvm: &mut N) -> Result<EngineStep, NvmError>
         requires fits { Fits P.filling P.items self.old.engine self.old.control }
         requires sized { length (N.device nvm.old).image ≡ (layout_at P.filling self.old.engine.p).image_blocks }
@@ -219,7 +219,7 @@ where
         self.engine.step::<P, N>(&mut self.control, nvm)
     }
 
-    /// Takes a step of the boot.
+    /// Takes the boot's next action. With a checkpoint restored, the engine begins its tail, if it has one.
     pub fn take_boot_step<N: Nvm>(
         &mut self,
         start: &Start,

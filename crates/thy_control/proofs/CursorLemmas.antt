@@ -104,7 +104,7 @@ module _ {E : Type 0} (test : E → Bool) (t : Listing E) (place : ℕ) (below :
     | inr a ↦ none-first_from (passes test) None t.entries place found k a (omega (arith, l, is))
   ]
 
--- Another entry that does not pass anew
+-- Another entry that does not pass either
 module _ {E : Type 0} (test : E → Bool) (t : Listing E) (i : ℕ) (x : Option E) (inside : i < length t.entries) where
   pub NoneBelow-set : (old new : ℕ) → new ≤ old → NoneBelow test old t
       → (i < new → passes test (entry_at t i) ≡ false → passes test x ≡ false)

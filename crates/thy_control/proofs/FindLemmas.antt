@@ -72,7 +72,7 @@ module _ {E : Type 0} (key : E → ℕ) (new : ℕ → E) where
   pub entry_for-none : (t : Listing E) (n : ℕ) → index_of key n t ≡ None → entry_for key new n t ≡ new n
   entry_for-none t n h = ap (λ o. entry_found key new o n t) h
 
-  -- it stands at its place
+  -- the entry of a number is at its place
   pub stands_at : (t : Listing E) (n i : ℕ) → index_of key n t ≡ Some i
       → (entry_at t i ≡ Some (entry_for key new n t)) × (i < length t.entries)
   stands_at t n i h =

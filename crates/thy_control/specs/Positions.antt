@@ -1,6 +1,6 @@
 -- Part of the claim.
 -- What the checkpoint under way has still to write before its slot, by positions: an entry of the block table, whose version is
--- copied, or, behind these, 64 times an entry of the page table and a block of its page.
+-- copied, or, after these, 64 times an entry of the page table and a block of its page.
 use Rattle.std.specs.Prelude.{ℕ, ◌+◌, ◌*◌, Option, Some, None}
 use Rattle.thy_table.specs.Listing.{entry_at}
 use Rattle.thy_table.specs.declared.page_entry.PttEntry.{PttEntry}

@@ -32,7 +32,7 @@ rule_for b s = store_rule (cell_of s b)
 unfoldable pub cell_before : ℕ → State → Cell
 cell_before b s = cell_of (with_block (rule_for b s) b s) b
 
--- both devices after the store: one write at one place
+-- both devices after a store by its rule: one write at one place
 unfoldable pub devices_after : ℕ → Block → State → Device → Devices
 devices_after b block s n =
     let c = cell_before b s in

@@ -42,7 +42,7 @@ abbrev pub with_pages : List ℕ → Listing PttEntry → Listing PttEntry
 with_pages [] t = t
 with_pages (n ∷ ns) t = with_pages ns (with_entry_for page_key promoted_page n t)
 
--- one page, if it was stored to densely
+-- the page table after one page was listed, if that was stored to densely
 abbrev pub with_dense : Tally → ℕ → Listing PttEntry → Listing PttEntry
 with_dense c n t = if is_dense c n then with_entry_for page_key promoted_page n t else t
 

@@ -208,7 +208,8 @@ impl Control {
     ghost use Rattle.thy_control.specs.Stays.{HoldAll, Stays};
     ghost use Rattle.thy_control.specs.Versions.{KeepsCheckpoints, KeepsCommitted, PutsWork};
 
-    /// The controller of a machine whose power came on, over a DRAM of the geometry's size.
+    /// The controller of a machine whose power has come on, over a DRAM of the geometry's size. Both tables are empty. Fails if memory runs
+    /// out; then the DRAM is given up.
     pub fn new(alloc: Global, geometry: &Geometry, dram: Dram) -> Result<Control, AllocError>
         requires { length dram.blocks ≡ dram_blocks geometry.now }
         ensures { IfOk result (λ control. control ≡ new_state geometry.now dram) }
@@ -234,21 +235,21 @@ impl Control {
         })
     }
 
-    /// The tables are sound, and the sizes fit.
+    /// Recalls that the tables are sound and that the sizes fit. The call does nothing.
     pub fn recall_tables(&self)
         ensures { AreSoundTables self.now }
     {
         let _under_way = &self.under_way;
     }
 
-    /// Whether a checkpoint is under way.
+    /// Whether a checkpoint is under way: an epoch was sealed, and its checkpoint is not committed.
     pub fn under_way(&self) -> bool
         ensures { result ≡ self.now.under_way }
     {
         self.under_way
     }
 
-    /// How many entries of the block table are free.
+    /// How many entries of the block table list no block.
     pub fn free(&self) -> u64
         ensures { result ≡ free_count self.now.btt }
     {
@@ -297,7 +298,7 @@ impl Control {
         read_place(place, &self.geometry, nvm, &self.dram)
     }
 
-    /// Block `b` as the committed checkpoint has it.
+    /// Reads block `b` as the committed checkpoint has it. Nothing changes if it succeeds.
     pub fn committed<N: Nvm>(&self, b: u64, nvm: &mut N) -> Result<Block, NvmError>
         requires block { b < memory_blocks self.now.p }
         requires sized { IsSized self.now (N.device nvm.old) }
@@ -314,7 +315,7 @@ impl Control {
         self.read(cell.penult(), nvm)
     }
 
-    /// Block `b` as it was stored last. It fails only if that block is in the NVM.
+    /// Reads block `b` as it was stored last. Nothing changes if it succeeds. It fails only if that block is in the NVM.
     pub fn load<N: Nvm>(&self, b: u64, nvm: &mut N) -> Result<Block, NvmError>
         requires block { b < memory_blocks self.now.p }
         requires sized { IsSized self.now (N.device nvm.old) }

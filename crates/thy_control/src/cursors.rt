@@ -15,13 +15,14 @@ pub struct Cursors {
     pub copies: usize,
     /// A place of the page table: no page below has blocks to be written.
     pub writes: usize,
-    /// Of the block table: no entry below has work in a buffer over the frame of its page.
+    /// A place of the block table: no entry below has work in a buffer over the frame of its page.
     pub merges: usize,
     /// A place of the page table: no page below is being promoted.
     pub promotions: usize,
 }
 
-/// The place at which the next search starts: what this one found, or past the last entry if it found nothing.
+/// The place at which the next search of a table with `size` entries starts: the entry that this one found, or past the last entry if it
+/// found none.
 pub fn goes_on(found: Option<usize>, size: usize) -> usize
     ensures { result ≡ unwrap_or found size }
 {
@@ -32,7 +33,7 @@ pub fn goes_on(found: Option<usize>, size: usize) -> usize
 }
 
 impl Cursors {
-    /// Cursors at the start of both tables.
+    /// Cursors at place 0 of both tables, below which there is no entry.
     pub fn start() -> Cursors
         ensures { (pages : Listing PageEntry) (blocks : Listing BlockEntry) → AreCursors pages blocks result }
     {
@@ -44,7 +45,8 @@ impl Cursors {
         }
     }
 
-    /// After a store by a rule, by what the block was before: a buffer over a frame has to be merged.
+    /// The cursors after a store by this rule of a block that was such before. If work goes into a buffer over a frame, the search for
+    /// merges starts at that entry or below.
     pub fn lowered(self, rule: StoreRule, cell: &Cell) -> Cursors
         ensures { AreLowered rule cell.now self result }
     {

@@ -41,15 +41,15 @@ pub fn a_new_controller_is_ready()
     ensures { NewIsReady }
 {}
 
-/// What a call does once at both devices is one action of the NVM at most: nothing, one write after both slots at a place
-/// that no checkpoint has, or a read or such a write that failed. If the NVM is up afterwards it did not fail, and
-/// both devices together have one write more queued at most.
+/// What a call does once at both devices is one action of the NVM at most. That is nothing; one write, between the slots of
+/// version 1 and of version 2, at a place that no checkpoint has; or a read or such a write that failed. If the NVM is up
+/// afterwards it did not fail, and both devices together have one write more queued at most.
 pub fn one_action_is_one_of_the_nvm()
     ensures { OneActionIsOneOfNvm }
 {}
 
-/// If a seal finds no work, and no store comes before its commit, at least half of the block table is free then. So an
-/// epoch that ended because no entry was free is followed by one that has free entries.
+/// If no entry of the block table has work at a seal, and only the checkpoint's copies come before its commit, at least half
+/// of the block table is free after the commit.
 pub fn a_seal_without_work_frees_entries()
     ensures { SealFrees }
 {}

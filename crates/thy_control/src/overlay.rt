@@ -7,17 +7,17 @@ ghost use Rattle.thy_control.specs.Overlay.{is_buffered, is_overlaid, overlaid, 
 use crate::seal::block_is_framed;
 use thy_table::{Btt, Cell, Ptt, StoreRule, Working};
 
-/// What the controller counts, so that it can see in one step whether there is any.
+/// How many entries of each kind the tables have, so that one comparison shows whether there is any.
 #[derive(Clone, Copy, Debug)]
 pub struct WorkCounts {
-    /// Entries of the block table with work in a buffer over the frame of their page.
+    /// How many entries of the block table have work in a buffer over the frame of their page.
     pub overlaid: u64,
-    /// Pages that are being promoted.
+    /// How many pages are being promoted.
     pub promoted: u64,
 }
 
 impl WorkCounts {
-    /// The numbers of both tables: it goes over all their live entries.
+    /// The numbers of two tables. Goes over all their live entries.
     pub fn of(btt: &Btt, ptt: &Ptt) -> WorkCounts
         ensures { AreWorkCounts ptt.now btt.now result }
     {
@@ -27,7 +27,7 @@ impl WorkCounts {
         }
     }
 
-    /// The numbers after a store by a rule, by what the block was before.
+    /// The numbers after a store by this rule of a block that was such before.
     pub fn after(self, rule: StoreRule, cell: &Cell) -> WorkCounts
         requires { self.overlaid ≤ 2 ^ 32 }
         ensures overlaid { result.overlaid ≡ self.overlaid + covers rule cell.now }

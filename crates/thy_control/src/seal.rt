@@ -13,7 +13,7 @@ use thy_table::{
     sealed_page,
 };
 
-/// Whether the page of a block is framed.
+/// Whether the page of block `b` is framed by this page table.
 pub fn block_is_framed(ptt: &Ptt, b: u64) -> bool
     ensures { result ≡ block_is_framed ptt.now b }
 {

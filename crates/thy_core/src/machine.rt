@@ -46,7 +46,7 @@ impl<S: Scheme> Model for Machine<S> {
 }
 
 impl<S: Scheme> Machine<S> {
-    /// How many blocks the machine's NVM has.
+    /// How many blocks of 64 bytes the machine's NVM has.
     pub fn nvm_blocks(geometry: &Geometry) -> u64
         ensures { result ≡ (kind_over S.scheme).blocks geometry.now }
     {
@@ -85,7 +85,7 @@ impl<S: Scheme> Machine<S> {
         power::is_loading(&self.parts)
     }
 
-    /// Whether a step failed since power came on.
+    /// Whether a step has failed since power came on.
     pub fn failed(&self) -> bool
         ensures { result ≡ self.now.failed }
     {

@@ -9,9 +9,9 @@ use thy_view::Phase;
 /// The checkpoints of a machine whose boot is over.
 #[derive(Clone, Copy, Debug, PartialEq, Eq)]
 pub(crate) struct Checkpoints {
-    /// The committed checkpoint.
+    /// The epoch and count of the committed checkpoint.
     pub done: Mark,
-    /// The one that is under way.
+    /// The epoch and count of the checkpoint that is under way, if one is.
     pub sealed: Option<Mark>,
     /// The commit block of that was written, and no barrier has come since.
     pub written: bool,
@@ -35,15 +35,15 @@ pub(crate) struct MachineParts<S> {
     pub phase: Phase,
     pub checkpoints: Checkpoints,
     pub consoles: Consoles,
-    /// The state that was sealed last has ended.
+    /// Whether the state that was sealed last has ended.
     pub ends: bool,
     /// The cycles of hart and engine since the latest seal. Contracts speak of it; no code reads it.
     pub spent: u64,
-    /// The instructions retired since the latest seal.
+    /// How many instructions were retired since the latest seal.
     pub lap: u64,
     /// The epoch that was sealed last retired nothing. Contracts speak of it; no code reads it.
     pub idle: bool,
-    /// A step failed since power came on.
+    /// Whether a step has failed since power came on.
     pub failed: bool,
     /// The hart whose instruction is begun, 0 or 1; it is in front. While none is, hart 0 is.
     pub begun: Option<u8>,

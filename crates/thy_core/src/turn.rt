@@ -15,7 +15,7 @@ use thy_view::{Phase, Stall};
 /// Who takes a cycle.
 #[derive(Clone, Copy, Debug, PartialEq, Eq)]
 pub(crate) enum NextActor {
-    /// This hart, 0 or 1, which advances its instruction.
+    /// The hart with this number, 0 or 1, advances its instruction.
     Advances(u8),
     /// Another actor, and no instruction advances.
     Other(Actor),

@@ -77,7 +77,7 @@ pub struct DecodedWords {
 }
 
 impl DecodedWords {
-    /// Words that were not executed yet.
+    /// The words before any was executed: at each place the word 0, with what it means.
     pub fn new() -> DecodedWords {
         DecodedWords {
             words: [DecodedWord::new(0); 256],

@@ -162,7 +162,7 @@ fn with_regs(op: Alu, rd: Reg, rs1: Reg, rs2: Reg) -> Found
     }
 }
 
-/// What is kept of a word.
+/// What the cache keeps of a word.
 pub(crate) fn found_of(word: u32) -> Found
     ensures { instr_by word result ≡ instr_of word }
 {

@@ -17,7 +17,7 @@ pub record Contents : Type 0 where
 abbrev pub fresh : ℕ → ℕ → Contents
 fresh blocks room = record { blocks = replicate blocks zero_block; queued = 0; room = room }
 
--- after a write: of a full queue the oldest has landed
+-- a DRAM after a write: of a full queue the oldest write has landed
 abbrev pub written : Contents → ℕ → Block → Contents
 written d at block = record d { blocks = slice_set d.blocks at block; queued = min (d.queued + 1) d.room }
 

@@ -35,7 +35,7 @@ impl Model for Dram {
 }
 
 impl Dram {
-    /// A memory of `blocks` blocks of zeros, whose queue holds at most `queue` writes.
+    /// A memory of `blocks` blocks of zeros, whose queue holds at most `queue` writes. Fails if an allocation fails.
     pub fn new(alloc: Global, blocks: u64, queue: u64) -> Result<Dram, AllocError>
         requires { 0 < queue }
         ensures { IfOk result (λ d. d ≡ fresh blocks queue) }
@@ -93,7 +93,7 @@ impl Dram {
         self.ring.queued()
     }
 
-    /// Lets the oldest queued write land. What the memory reads as stays.
+    /// Lets the oldest queued write land. Every place reads as before.
     pub fn drain(&mut self)
         requires { 0 < self.old.queued }
         ensures { self.new ≡ drained self.old }

@@ -29,7 +29,7 @@ impl Jump {
         state.wrapping_mul(self.factor).wrapping_add(self.offset)
     }
 
-    /// Twice this jump.
+    /// The jump over the steps of this one, taken twice.
     fn twice(self) -> Jump
         ensures { result ≡ twice self }
     {

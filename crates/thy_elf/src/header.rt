@@ -18,7 +18,7 @@ pub struct Header {
     pub machine: u16,
     /// e_version: 1.
     pub version: u32,
-    /// e_entry: where the run starts.
+    /// e_entry: the address at which the program starts.
     pub entry: u64,
     /// e_phoff: where the program headers begin in the file.
     pub table: u64,

@@ -4,7 +4,7 @@ ghost use Rattle.thy_block.specs.LittleEndian.{number_at};
 
 use byteorder::{ByteOrder, LittleEndian};
 
-/// The number in the two bytes from `place` on.
+/// The number in the two bytes from `place` on, lowest byte first.
 pub fn u16_at(file: &[u8], place: usize) -> u16
     requires { place + 2 ≤ length file.now }
     ensures { result ≡ number_at 2 file.now place }
@@ -12,7 +12,7 @@ pub fn u16_at(file: &[u8], place: usize) -> u16
     LittleEndian::read_u16(&file[place..place + 2])
 }
 
-/// The number in the four bytes from `place` on.
+/// The number in the four bytes from `place` on, lowest byte first.
 pub fn u32_at(file: &[u8], place: usize) -> u32
     requires { place + 4 ≤ length file.now }
     ensures { result ≡ number_at 4 file.now place }
@@ -20,7 +20,7 @@ pub fn u32_at(file: &[u8], place: usize) -> u32
     LittleEndian::read_u32(&file[place..place + 4])
 }
 
-/// The number in the eight bytes from `place` on.
+/// The number in the eight bytes from `place` on, lowest byte first.
 pub fn u64_at(file: &[u8], place: usize) -> u64
     requires { place + 8 ≤ length file.now }
     ensures { result ≡ number_at 8 file.now place }
@@ -28,7 +28,7 @@ pub fn u64_at(file: &[u8], place: usize) -> u64
     LittleEndian::read_u64(&file[place..place + 8])
 }
 
-/// Whether `len` bytes from `from` on pass `end`.
+/// Whether `len` bytes from `from` on reach past `end`. The sum does not wrap.
 pub fn passes(from: u64, len: u64, end: u64) -> bool
     ensures { result ≡ nat_lt end (from + len) }
 {

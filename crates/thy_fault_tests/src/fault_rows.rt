@@ -75,7 +75,7 @@ pub(crate) static BY_JOURNAL: Calls = Calls {
     last: 709,
 };
 
-/// As with the journal; the map takes the table's place.
+/// The calls by shadow paging. They are as with the journal; the map takes the table's place.
 pub(crate) static BY_SHADOW: Calls = Calls {
     scheme: SHADOW,
     started: Commit {

@@ -1,4 +1,4 @@
-//! A saved image of layout version 1, resumed: its boot writes the checkpoint anew in version 2.
+//! A saved image of layout version 1, resumed: its boot writes the checkpoint again in version 2.
 use crate::support::calls::{called, called_over, check, compare, expect_on, failing_at, held};
 use std::alloc::Global;
 use std::process::Abort;
@@ -145,7 +145,7 @@ fn migrated(rt: &impl Abort, alloc: Global) -> Vec<u8> {
     bytes
 }
 
-/// It is restored without a migration.
+/// The checkpoint of a migrated image is restored without a migration.
 #[test]
 fn what_is_saved_after_a_migration_is_of_version_2(rt: HostRuntime) {
     let alloc = rt.alloc();

@@ -234,7 +234,7 @@ module _ {every since moves cuts : ℕ} {r : Registers} {n : Device} (i : IsSoun
             ∙ ap (λ (w : Wear). record (settled new.writes (seen r n)) { wear = w }) wear;
       }
 
-  -- it has settled after a barrier with no move
+  -- a levelled device has settled after a barrier with no move
   pub barrier_settles : (new : Device) → is_due n since every ≡ false → n.writes ≤ 2 ^ 64 - 1 → IsSettled n new
       → IsSettled (looks every since moves r n) (looks every since moves r new)
   barrier_settles new due few s =

@@ -59,7 +59,7 @@ swapped true false = refl
 swapped false true = refl
 swapped false false = refl
 
--- of a device that levels this is the count, and of one that says nothing any that is no less
+-- the count of a levelled device after a barrier, by what the inner device says of its own writes
 pub counts_over : (d : Device) (w : Wear) (every since moves count : ℕ) → d.wear ≡ wear_over w every since moves
     → (is_plain w ≡ true → count ≡ (if d.whole && not (nat_lt since every) then next (next d.writes) else d.writes))
     → d.writes ≤ count → CountsOwn d count

@@ -39,7 +39,7 @@ line_at r y =
 abbrev pub source : Registers → ℕ
 source r = if r.gap == 0 then r.lines else r.gap - 1
 
--- after one move: the gap is at the place that this line had; after a full round the lines are rotated by one more
+-- the registers after one move: the gap is at the place that the moved line had; after a full round the lines are rotated by one more
 abbrev pub moved : Registers → Registers
 moved r = record {
   lines = r.lines;

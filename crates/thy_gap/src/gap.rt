@@ -60,14 +60,14 @@ impl<N: Nvm> Gap<N> {
         }
     }
 
-    /// The registers in hand.
+    /// The registers that the device works with: where each line lies.
     pub fn registers(&self) -> Registers
         ensures { result ≡ self.now.registers }
     {
         self.registers
     }
 
-    /// The place of a line in the inner device.
+    /// The place of a line in the inner device, in blocks.
     pub fn place(&self, line: u64) -> u64
         requires { line < length (shown N.device self.now).image }
         ensures { result ≡ place_of_line self.now.registers line }
@@ -75,7 +75,7 @@ impl<N: Nvm> Gap<N> {
         self.registers.place(line)
     }
 
-    /// The inner device.
+    /// Gives back the inner device.
     pub fn into_inner(self) -> N
         ensures { result ≡ self.inner }
     {

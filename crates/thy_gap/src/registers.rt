@@ -10,7 +10,7 @@ pub const GAP_MAGIC: u64 = 0x3150_4147_4e59_4854;
 /// Where the lines of a levelled device lie. A line is a block that is seen; a place is a block of the inner device.
 #[derive(Clone, Copy, Debug, PartialEq, Eq)]
 pub struct Registers {
-    /// How many lines there are. The inner device has two blocks more.
+    /// How many lines there are, in blocks of 64 bytes. The inner device has two blocks more.
     pub lines: u64,
     /// By how many places the lines are rotated, below `lines`.
     pub start: u64,
@@ -30,7 +30,7 @@ impl Registers {
         }
     }
 
-    /// The registers after a fit: each line is at its own place.
+    /// The registers after a fit to `lines` lines: each line is at the place of its own number, and the gap after the last.
     pub fn unmoved(lines: u64) -> Registers
         ensures { result ≡ unmoved lines }
     {
@@ -41,7 +41,7 @@ impl Registers {
         }
     }
 
-    /// The place of a line.
+    /// The place, in the inner device, of a line, which is below `lines`.
     #[tactic(auto, unfolding(crate::specs::Lines::place))]
     pub fn place(&self, line: u64) -> u64
         requires whole { IsWhole self.now }
@@ -87,7 +87,7 @@ impl Registers {
         }
     }
 
-    /// The registers after one move.
+    /// The registers after one move: the gap is where the moved line was.
     pub fn moved(&self) -> Registers
         requires { IsWhole self.now }
         ensures { result ≡ moved_on self.now }
@@ -113,14 +113,14 @@ impl Registers {
         if around { next } else { self.start }
     }
 
-    /// The block that holds the registers.
+    /// The block that stores the registers: its name, start and gap, then five zeros, as words of 64 bits.
     pub fn block(&self) -> Block
         ensures { result ≡ registers_block self.now }
     {
         block_with(&[GAP_MAGIC, self.start, self.gap, 0, 0, 0, 0, 0])
     }
 
-    /// The registers in a block, for a number of lines.
+    /// The registers that a block stores, for a device of `lines` lines. Nothing is tested.
     pub fn of_block(lines: u64, block: &Block) -> Registers
         ensures { result ≡ registers_of lines block.now }
     {

@@ -21,7 +21,7 @@ begun span number = record { span = span; number = number; retired = 0; over = N
 abbrev pub over_after : Bool → ℕ → ℕ → Option EndCause
 over_after running span retired = if running then (if retired == span then Some Length else None) else Some Ended
 
--- after an instruction retired; the flag says whether the program continues after it
+-- an epoch after an instruction retired; the flag says whether the program continues after it
 abbrev pub retired_once : Bool → Epoch → Epoch
 retired_once running e = record e { retired = e.retired + 1; over = over_after running e.span (e.retired + 1) }
 

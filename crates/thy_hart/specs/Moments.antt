@@ -64,7 +64,7 @@ abbrev pub touch_left : Contents → Option ℕ → ℕ
 touch_left c None = 0
 touch_left c (Some b) = touch_steps c b
 
--- at most these follow the block that is touched next, the retirement aside
+-- how many moves follow the block that is touched next, at most, the retirement aside
 abbrev pub left_behind : Hand → ℕ
 left_behind Nothing = 13
 left_behind (Reading e from to) = 3 * (blocks_of from - 1) + 7

@@ -38,7 +38,7 @@ impl EpochState {
         }
     }
 
-    /// The number of the epoch.
+    /// The number of the epoch that executes.
     pub fn epoch(&self) -> u64
         ensures { result ≡ self.now.number }
     {
@@ -54,8 +54,8 @@ impl EpochState {
         self.retired
     }
 
-    /// Why it is over, if it is: the program ended, else it has retired its length, or it was exhausted. One that is over
-    /// by its length has retired all of it.
+    /// Why the epoch is over, if it is: the program ended, else it has retired its length, or it was exhausted. An epoch
+    /// that is over by its length has retired all of it.
     pub fn over(&self) -> Option<EndCause>
         ensures over { result ≡ self.now.over }
         ensures retired { HasRetired self.now.span self.now.retired result }
@@ -87,7 +87,7 @@ impl EpochState {
         self.over = Some(EndCause::Exhausted { free, dirty, need });
     }
 
-    /// Begins the next epoch, once this one is over.
+    /// Begins the next epoch. This one must be over.
     pub fn sealed(&mut self)
         requires over { self.old.over ≢ None }
         requires number { self.old.number + 1 < 2 ^ 64 }

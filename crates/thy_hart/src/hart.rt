@@ -69,7 +69,7 @@ impl Hart {
         self.parts.cpu.cpu()
     }
 
-    /// The epoch under execution.
+    /// The epoch that executes, with its count of instructions.
     pub fn epoch(&self) -> &EpochState
         ensures { result.now ≡ self.now.epoch }
     {

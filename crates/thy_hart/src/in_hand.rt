@@ -108,17 +108,17 @@ pub(crate) enum Stage {
 #[derive(Drop)]
 pub(crate) struct InHand {
     pub stage: Stage,
-    /// The register that is set.
+    /// The register that the instruction sets.
     pub rd: Reg,
     /// How a load fills the bits above its bytes.
     pub extend: Extend,
-    /// The next program counter.
+    /// The program counter after the instruction.
     pub pc: u64,
-    /// The address of the bytes that are moved.
+    /// The address of the bytes that the instruction moves.
     pub address: u64,
     /// The bytes that are moved.
     pub access: Access,
-    /// What is set, was loaded or is stored.
+    /// The number that is set, was loaded or is stored.
     pub value: u64,
     /// What is next of any other instruction.
     pub pieces: Hand,

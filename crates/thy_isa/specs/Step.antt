@@ -92,7 +92,7 @@ state_with c memory console = record {
   other = c.other;
 }
 
--- one hart at address 0, which runs, with every number 0
+-- a processor of one hart at address 0, which runs, with every number 0
 abbrev pub zero_cpu : CpuState
 zero_cpu = record {
   pc = 0;
@@ -320,7 +320,7 @@ cpu_crossed c = record c {
   other = option_map (exchanged c.pc c.regs) c.other;
 }
 
--- this hart in front of a state that has hart 0 in front; and hart 0 again of one that has this hart in front
+-- a state with this hart in front, of one with hart 0 in front; and back again
 abbrev pub fronted : ℕ → State → State
 fronted zero s = s
 fronted (suc hart) s = crossed s

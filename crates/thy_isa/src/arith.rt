@@ -8,7 +8,7 @@ ghost use Rattle.thy_isa.specs.Arith.{alu_of, sx32, low32};
 
 use crate::instr::Alu;
 
-/// What an operation gives for two numbers of 64 bits.
+/// The result, 64 bits, of an arithmetic operation on two numbers of 64 bits: the values of rs1 and rs2, or of rs1 and an immediate.
 pub fn alu(op: Alu, a: u64, b: u64) -> u64
     ensures { result ≡ alu_of op a b }
 {
@@ -44,7 +44,7 @@ pub fn alu(op: Alu, a: u64, b: u64) -> u64
     }
 }
 
-/// The low 32 bits.
+/// The low 32 bits of a number.
 fn low(a: u64) -> u32
     ensures { result ≡ low32 a }
 {

@@ -7,7 +7,7 @@ ghost use Rattle.thy_isa.specs.Atomics.{amo_of, modified};
 use crate::instr::{Amo, Extend, Width};
 use crate::numbers::extended;
 
-/// What an operation makes of a number in memory and of one in a register, both of 64 bits.
+/// The number that an atomic memory operation on 64 bits writes, from `a`, the number in memory, and `b`, the number of rs2.
 fn amo(op: Amo, a: u64, b: u64) -> u64
     ensures { result ≡ amo_of op a b }
 {

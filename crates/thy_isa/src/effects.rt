@@ -123,7 +123,7 @@ fn operated(instr: &Instr, pc: u64, regs: &Regs) -> Effect
     }
 }
 
-/// What a word at `pc` does: an illegal one traps.
+/// What the instruction of a word at `pc` does with these registers; a word that means no instruction traps.
 pub fn word_effect(word: u32, pc: u64, regs: &Regs) -> Effect
     ensures { result ≡ word_effect word pc regs.now }
 {
@@ -133,7 +133,7 @@ pub fn word_effect(word: u32, pc: u64, regs: &Regs) -> Effect
     }
 }
 
-/// How many bytes a load, a store or an atomic instruction moves.
+/// How many bytes a load, a store or an atomic instruction of this width moves: 1, 2, 4 or 8.
 pub fn bytes_in(width: Width) -> u64
     ensures size { result ≡ size_of width }
     ensures some { 1 ≤ result }
@@ -147,7 +147,7 @@ pub fn bytes_in(width: Width) -> u64
     }
 }
 
-/// The address after the instruction at `pc`.
+/// The address of the instruction after the one at `pc`: 4 more, modulo `2^64`.
 pub fn after(pc: u64) -> u64
     ensures { result ≡ after pc }
 {

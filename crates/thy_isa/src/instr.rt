@@ -20,7 +20,7 @@ impl Model for Reg {
 }
 
 impl Reg {
-    /// The register of this number.
+    /// The register of this number, which is below 32.
     pub fn new(number: u8) -> Reg
         requires { number < 32 }
         ensures { result ≡ number }
@@ -28,7 +28,7 @@ impl Reg {
         Reg { number }
     }
 
-    /// The number of the register.
+    /// The number of the register, 0 to 31.
     pub fn number(self) -> u8
         ensures number { result ≡ self }
         ensures range { result < 32 }
@@ -103,19 +103,19 @@ pub enum Alu {
 /// What an atomic memory operation makes of the number in memory and of rs2.
 #[derive(Clone, Copy, Debug, PartialEq, Eq)]
 pub enum Amo {
-    /// The number of rs2.
+    /// The number of rs2, whatever the one in memory is.
     Swap,
     Add,
     Xor,
     And,
     Or,
-    /// The smaller one, as signed numbers.
+    /// The smaller one of both, compared as signed numbers.
     Min,
-    /// The larger one, as signed numbers.
+    /// The larger one of both, compared as signed numbers.
     Max,
-    /// The smaller one, as unsigned numbers.
+    /// The smaller one of both, compared as unsigned numbers.
     Minu,
-    /// The larger one, as unsigned numbers.
+    /// The larger one of both, compared as unsigned numbers.
     Maxu,
 }
 

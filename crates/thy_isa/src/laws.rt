@@ -23,15 +23,15 @@ pub fn misaligned_accesses_are_served()
     ensures accesses { AccessesAreServed }
 {}
 
-/// To put the other hart in front twice changes nothing. It is the same over blocks and over bytes, and a state that can
-/// be stored can be either way.
+/// Two exchanges of the harts leave a state as it was. An exchange is the same over blocks and over bytes, and a state that can be stored
+/// can be stored with either hart in front.
 pub fn crossing_changes_places()
     ensures twice { CrossedTwice }
     ensures blocks { BlocksCross }
     ensures storable { CrossingKeepsStorable }
 {}
 
-/// No step adds a hart or takes one away; and with one hart a step of any hart is its step.
+/// No step adds or removes a hart. With one hart, a step of any hart is a step of that one.
 pub fn what_a_step_of_a_hart_is()
     ensures harts { KeepsHarts }
     ensures alone { OneHartSteps }

@@ -18,10 +18,10 @@ use crate::regs::Regs;
 use crate::state::{Call, CallState, Effect, Moves};
 use thy_block::{Piece, Span, extend};
 
-/// No bytes.
+/// A span without bytes.
 const NONE: Span = Span { at: 0, len: 0 };
 
-/// What an effect moves, with these registers.
+/// Which bytes an effect reads and writes, as spans of memory's blocks, with these registers and this state of the calls.
 pub fn moves(regs: &Regs, calls: &CallState, effect: &Effect) -> Moves
     requires inside { IsWithin calls.now.base calls.now.size effect.now }
     requires console { 1 ≤ calls.now.room → calls.now.size + calls.now.console_len < 2 ^ 64 }
@@ -60,7 +60,7 @@ pub fn moves(regs: &Regs, calls: &CallState, effect: &Effect) -> Moves
     }
 }
 
-/// What the call that the registers name moves.
+/// Which bytes the environment call that the registers name reads and writes, as spans of memory's blocks.
 fn call_moves(regs: &Regs, calls: &CallState) -> Moves
     requires { 1 ≤ calls.now.room → calls.now.size + calls.now.console_len < 2 ^ 64 }
     ensures { result ≡ call_moves calls.now (call_of regs.now calls.now) }
@@ -107,7 +107,7 @@ pub fn brought(input: &[u8], regs: &Regs, calls: &CallState, effect: &Effect) ->
     piece
 }
 
-/// Adds the low bytes of a number.
+/// Adds the low `width` bytes of a number to a piece that has room for them, lowest byte first.
 pub fn add_number(piece: &mut Piece, width: Width, value: u64)
     requires { piece.old.items ≡ [] }
     ensures { piece.new.items ≡ number_bytes (size_of width) value }
@@ -116,7 +116,7 @@ pub fn add_number(piece: &mut Piece, width: Width, value: u64)
     extend(piece, &value.to_le_bytes()[..len]);
 }
 
-/// Adds what the call that the registers name takes of the input.
+/// Adds to a piece the bytes of the input that the call takes which the registers name.
 fn add_input(piece: &mut Piece, input: &[u8], regs: &Regs, calls: &CallState)
     requires empty { piece.old.items ≡ [] }
     requires input { calls.now.input_len ≡ length input.now }
@@ -128,7 +128,7 @@ fn add_input(piece: &mut Piece, input: &[u8], regs: &Regs, calls: &CallState)
     }
 }
 
-/// The number that an effect reads, from the bytes that it has read.
+/// The number of 64 bits that an effect reads, from the bytes that it has read.
 pub fn number_in(effect: &Effect, bytes: &[u8]) -> u64
     requires { HasRead effect.now bytes.now }
     ensures { result ≡ number_in effect.now bytes.now }

@@ -8,7 +8,7 @@ ghost use Rattle.thy_isa.specs.Extending.{extended};
 
 use crate::instr::{Extend, Width};
 
-/// The number of `width` bytes from index `at` on.
+/// The number of `width` bytes from index `at` on, lowest byte first. The bytes reach that far.
 pub fn number(bytes: &[u8], at: usize, width: Width) -> u64
     requires { at + size_of width ≤ length bytes.now }
     ensures { result ≡ number_at (size_of width) bytes.now at }
@@ -21,7 +21,7 @@ pub fn number(bytes: &[u8], at: usize, width: Width) -> u64
     }
 }
 
-/// The word of 32 bits from index `at` on.
+/// The word of 32 bits from index `at` on, lowest byte first. The bytes reach that far.
 pub fn word(bytes: &[u8], at: usize) -> u32
     requires { at + 4 ≤ length bytes.now }
     ensures { result ≡ number_at 4 bytes.now at }
@@ -36,7 +36,7 @@ fn double(bytes: &[u8], at: usize) -> u64
     u64::from(word(bytes, at)) + (u64::from(word(bytes, at + 4)) << 32)
 }
 
-/// The low bytes of a number, extended to 64 bits.
+/// The low `width` bytes of a number, extended to 64 bits by their sign or by zeros.
 pub fn extended(width: Width, extend: Extend, value: u64) -> u64
     ensures { result ≡ extended width extend value }
 {

@@ -24,14 +24,14 @@ impl Model for Regs {
 }
 
 impl Regs {
-    /// Registers that are all zero.
+    /// The registers at a program's start: each number is 0.
     pub fn new() -> Regs
         ensures { result ≡ replicate 32 0 }
     {
         Regs { numbers: [0; 32] }
     }
 
-    /// What a register reads as.
+    /// The number of a register; register 0 has 0.
     #[tactic(auto, using(crate::proofs::RegLaws::read_at))]
     pub fn get(&self, reg: Reg) -> u64
         ensures { result ≡ reg_at self.now reg }
@@ -39,7 +39,7 @@ impl Regs {
         self.numbers[reg.number() as usize]
     }
 
-    /// Writes a register; register 0 stays.
+    /// Sets the number of a register. Register 0 stays 0.
     #[tactic(auto, using(crate::proofs::RegLaws::zero_again, crate::proofs::RegLaws::written_is))]
     pub fn set(&mut self, reg: Reg, value: u64)
         ensures { self.new ≡ regs_with self.old reg value }

@@ -6,7 +6,7 @@ ghost use Rattle.thy_isa.specs.Reservations.{reservation, is_reserved, shares_bl
 use crate::instr::Width;
 use crate::state::{OtherHart, Reservation};
 
-/// The reservation of `width` bytes at an address: nothing for a byte or a half.
+/// The reservation of `width` bytes at an address; of 1 or 2 bytes nothing is reserved.
 pub fn reservation(width: Width, at: u64) -> Reservation
     ensures { result ≡ reservation width at }
 {
@@ -17,7 +17,7 @@ pub fn reservation(width: Width, at: u64) -> Reservation
     }
 }
 
-/// Whether exactly these bytes are reserved.
+/// Whether a reservation is of exactly the `width` bytes at an address.
 pub fn is_reserved(reserved: Reservation, width: Width, at: u64) -> bool
     ensures { result ≡ is_reserved reserved width at }
 {
@@ -44,7 +44,7 @@ pub fn front_of(other: &Option<OtherHart>) -> Reservation
     }
 }
 
-/// Whether one of `len` bytes at an address is in the block of 64 that address `a` is in.
+/// Whether one of `len` bytes at an address is in the aligned block of 64 bytes that has address `a`.
 fn shares_block(at: u64, len: u64, a: u64) -> bool
     ensures { result ≡ shares_block at len a }
 {
@@ -52,7 +52,8 @@ fn shares_block(at: u64, len: u64, a: u64) -> bool
     first < u128::from(at) + u128::from(len) && u128::from(at) < first + 64
 }
 
-/// What is left of a reservation when the other hart has written `len` bytes at an address.
+/// What is left of a hart's reservation after the other hart has written `len` bytes at an address: nothing, if one of them is in its
+/// block.
 pub fn left_by(at: u64, len: u64, reserved: Reservation) -> Reservation
     ensures { result ≡ left_by at len reserved }
 {
@@ -75,7 +76,7 @@ pub fn left_by(at: u64, len: u64, reserved: Reservation) -> Reservation
     }
 }
 
-/// The hart in front has written `len` bytes at an address. The other hart, if it is there, loses a reservation in their block.
+/// Notes that the hart in front has written `len` bytes at an address. The other hart, if it is there, loses a reservation in their block.
 pub fn write_past(other: &mut Option<OtherHart>, at: u64, len: u64)
     ensures { other.new ≡ written_past at len other.old }
 {
@@ -84,7 +85,7 @@ pub fn write_past(other: &mut Option<OtherHart>, at: u64, len: u64)
     }
 }
 
-/// The hart in front has this reservation now. With one hart nothing is reserved.
+/// Gives the hart in front this reservation in place of the one that it had. With one hart nothing is reserved.
 pub fn reserve(other: &mut Option<OtherHart>, reserved: Reservation)
     ensures { other.new ≡ reserving reserved other.old }
 {

@@ -11,9 +11,9 @@ use thy_block::{Bytes, Span};
 #[derive(Clone, Copy, Debug, PartialEq, Eq)]
 pub enum Status {
     Running,
-    /// By an exit call, with a value of 0 to 255.
+    /// The program ended by an exit call, with a value of 0 to 255.
     Exited(u64),
-    /// By a trap, with the trap's number, 0 to 7.
+    /// The program ended by a trap, with the trap's number, 0 to 7.
     Trapped(u64),
 }
 
@@ -115,7 +115,7 @@ impl MachState {
 }
 
 impl CpuState {
-    /// One hart at address 0, which runs: every number is 0. It stands in for a processor where none is known yet.
+    /// A processor of one hart whose numbers are all 0 and whose program runs. It stands in for a processor where none is known yet.
     pub fn zero() -> CpuState
         ensures { result ≡ zero_cpu }
     {
@@ -150,7 +150,7 @@ pub struct CallState {
     pub size: u64,
     /// The least address that the break may have.
     pub floor: u64,
-    /// The program break.
+    /// The program break, an address in bytes.
     pub brk: u64,
 }
 
@@ -158,7 +158,7 @@ pub struct CallState {
 /// counter.
 #[derive(Clone, Copy, Debug, PartialEq, Eq)]
 pub enum Effect {
-    /// Does nothing but continue at `pc`.
+    /// Nothing changes but the program counter.
     Next {
         pc: u64,
     },
@@ -214,7 +214,7 @@ pub enum Effect {
         at: u64,
         value: u64,
     },
-    /// An environment call.
+    /// An environment call is served, which the registers name.
     Environment,
     /// A trap, which ends the program and changes nothing else.
     Trap(Cause),
@@ -223,7 +223,7 @@ pub enum Effect {
 /// What an environment call does. After every call but an exit the program continues, with the call's result in a0.
 #[derive(Clone, Copy, Debug, PartialEq, Eq)]
 pub enum Call {
-    /// Does nothing but return this value.
+    /// Returns this value, and does nothing else.
     Answer(u64),
     /// The program ends with this value of 0 to 255; the program counter and the registers stay.
     Exit(u64),

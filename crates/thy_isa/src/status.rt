@@ -4,7 +4,7 @@ ghost use Rattle.thy_isa.specs.Step.{is_running};
 
 use crate::state::Status;
 
-/// Whether a program of this status runs.
+/// Whether a program of this status still runs: it has neither exited nor trapped.
 pub fn is_running(status: Status) -> bool
     ensures { result ≡ is_running status }
 {

@@ -17,7 +17,7 @@ use crate::reserving::{front_of, is_reserved, reservation, reserve, write_past};
 use crate::state::{Call, CallState, Cause, CpuState, Effect, OtherHart, Reservation, Status};
 use thy_block::is_inside;
 
-/// Why no word can be fetched at `pc`; None exactly if one can.
+/// Why no instruction can be fetched at `pc` from a memory of `size` bytes at `base`; None exactly if one can.
 pub fn fetch_fault(base: u64, size: u64, pc: u64) -> Option<Cause>
     ensures { result ≡ fetch_fault base size pc }
 {
@@ -106,14 +106,14 @@ fn aligned_store(base: u64, size: u64, width: Width, at: u64, effect: Effect) ->
     }
 }
 
-/// The number of a trap, 0 to 7.
+/// The number of a trap, 0 to 7, in the order of the variants.
 pub fn cause_number(cause: Cause) -> u64
     ensures { result ≡ cause_number cause }
 {
     cause as u64
 }
 
-/// The instruction after a call, with the call's result in a0.
+/// Goes to the instruction after a call, with the call's result in a0.
 fn answer(cpu: &mut CpuState, value: u64)
     requires { cpu.old.count + 1 < 2 ^ 64 }
     ensures { cpu.new ≡ answered cpu.old value }
@@ -123,7 +123,7 @@ fn answer(cpu: &mut CpuState, value: u64)
     cpu.regs.set(Reg::new(10), value);
 }
 
-/// Ends an environment call.
+/// Makes of the processor what an environment call leaves: a result in a0, an exit, or another break.
 fn serve(cpu: &mut CpuState, calls: &CallState)
     requires count { cpu.old.count + 1 < 2 ^ 64 }
     requires calls { AreCallsOf cpu.old calls.now }

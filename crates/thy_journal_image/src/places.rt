@@ -7,17 +7,17 @@ ghost use Rattle.thy_journal_image.specs.Places.{scheme_number, slot_blocks as b
 use thy_block::{Block, Geometry};
 use thy_layout::header_block_of;
 
-/// The number of this scheme.
+/// The number of the redo journal in the header of an image.
 pub const SCHEME: u64 = 1;
 
-/// The header of an image of this geometry.
+/// The header of the redo journal's images of this geometry.
 pub fn header_block(geometry: &Geometry) -> Block
     ensures { result ≡ header_of scheme_number geometry.now }
 {
     header_block_of(SCHEME, geometry)
 }
 
-/// How many blocks an image has.
+/// How many blocks an image of the redo journal has.
 pub fn blocks(geometry: &Geometry) -> u64
     ensures blocks { result ≡ image_blocks geometry.now }
     ensures in_range { IsInRange geometry.now }
@@ -33,7 +33,7 @@ pub fn slot_blocks(geometry: &Geometry) -> u64
     geometry.record_blocks() + geometry.numbers().btt / 8
 }
 
-/// The first block of slot `s`, 0 or 1.
+/// The place, in blocks of the image, of the first block of slot `s`, 0 or 1.
 pub fn slot(geometry: &Geometry, s: u64) -> u64
     requires { s < 2 }
     ensures place { result ≡ slot_place geometry.now s }
@@ -42,7 +42,7 @@ pub fn slot(geometry: &Geometry, s: u64) -> u64
     2 + s * slot_blocks(geometry)
 }
 
-/// The home of block `b` of memory.
+/// The place, in blocks of the image, of the home of block `b` of memory.
 pub fn home(geometry: &Geometry, b: u64) -> u64
     requires { b < memory_blocks geometry.now }
     ensures place { result ≡ home_place geometry.now b }

@@ -31,7 +31,7 @@ put_into i block s = record s { dram = written s.dram i block }
 unfoldable pub after_store : ℕ → Block → State → State
 after_store b block s = put_into (store_entry b s) block (listing_for b s)
 
--- in the boot: an entry lists a block; and its buffer gets the block of a slot's journal
+-- a log in the boot, after an entry listed a block; and after its buffer got the block of a slot's journal
 abbrev pub with_listing_at : ℕ → ℕ → State → State
 with_listing_at i b s = record s { table = with_entry i (Some (listing_of b)) s.table }
 

@@ -7,12 +7,12 @@ use thy_table::{Keyed, Rule, Test};
 /// A live entry of the table: it lists a block of memory, which the entry's buffer holds.
 #[derive(Clone, Copy, Debug, PartialEq, Eq)]
 pub struct Listed {
-    /// The block's number.
+    /// The number of the block that the entry lists.
     pub block: u64,
 }
 
 impl Listed {
-    /// The entry of a block.
+    /// An entry that lists this block.
     pub fn new(block: u64) -> Listed
         ensures { result ≡ listing_of block }
     {

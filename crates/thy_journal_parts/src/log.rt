@@ -81,21 +81,21 @@ impl Log {
         })
     }
 
-    /// Table and DRAM have their sizes, and no block is listed twice.
+    /// Recalls that table and DRAM have their sizes, and that no block is listed twice. The call does nothing.
     pub fn recall_sound(&self)
         ensures { IsSoundState self.now }
     {
         let _table = &self.table;
     }
 
-    /// How many entries are free.
+    /// How many entries of the table are free.
     pub fn free(&self) -> u64
         ensures { result ≡ free_count self.now.table }
     {
         self.table.free()
     }
 
-    /// Block `b` as it was stored last. It fails only if that block is in the NVM.
+    /// Reads block `b` of memory as it was stored last. It fails only if that block is in the NVM.
     pub fn load<N: Nvm>(&self, b: u64, nvm: &mut N) -> Result<Block, NvmError>
         requires block { b < memory_blocks self.now.p }
         requires sized { IsSized self.now (N.device nvm.old) }
@@ -114,7 +114,7 @@ impl Log {
         }
     }
 
-    /// Block `b` as it is at home.
+    /// Reads block `b` of memory from its home.
     pub fn home<N: Nvm>(&self, b: u64, nvm: &mut N) -> Result<Block, NvmError>
         requires block { b < memory_blocks self.now.p }
         requires sized { IsSized self.now (N.device nvm.old) }
@@ -249,7 +249,7 @@ impl Log {
         dram
     }
 
-    /// The first live entry from one on.
+    /// The first entry, `from` or later, that lists a block; None if there is none.
     pub fn next_live(&self, from: usize) -> Option<usize>
         ensures entry { result ≡ next_live from self.now }
         ensures inside { IfSome result (λ i. i < self.now.p.btt) }
@@ -301,7 +301,7 @@ impl Log {
         block_or_zero(self.table.entry(i))
     }
 
-    /// Frees all entries.
+    /// Frees all entries of the table.
     pub fn release(&mut self)
         ensures { self.new ≡ released self.old }
     {

@@ -1,4 +1,4 @@
-//! The table in the bytes of a slot, behind the processor's record.
+//! The table in the bytes of a slot, after the processor's record.
 ghost use Rattle.std.specs.Prelude.{◌≡◌, ◌*◌, length};
 ghost use Rattle.thy_layout.specs.Files.{blocks_of};
 ghost use Rattle.thy_journal_image.specs.Places.{slot_blocks};

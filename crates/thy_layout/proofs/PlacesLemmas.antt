@@ -39,7 +39,7 @@ memory_place_of l commit slot x (k, below, is) =
     let inside : k < memory_blocks l.p = omega (arith, length-memory_places l commit slot) in
     (k, inside, sym (memory_place l commit slot k x inside) ∙ is)
 
--- ---- zeros behind an image
+-- ---- zeros after an image
 
 block_at-filled_up : (image : List Block) (k x : ℕ) → block_at (image ++ replicate k zero_block) x ≡ block_at image x
 block_at-filled_up image k x = elim (cases_lt x (length image)) as (λ _. block_at (image ++ replicate k zero_block) x ≡ block_at image x) [

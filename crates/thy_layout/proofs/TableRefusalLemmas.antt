@@ -15,7 +15,7 @@ pub which : (a b : Option BadImage) (bad : BadImage) → option_or a b ≡ Some 
 which None b bad h = inr (refl, h)
 which (Some a) b bad h = inl h
 
--- of two numbers neither of which is below the other
+-- two numbers, neither of which is below the other, are one
 pub one_number : (i k : ℕ) → (i < k → ⊥) → (k < i → ⊥) → i ≡ k
 one_number i k a b = elim (cases_lt i k) as (λ _. i ≡ k) [
   | inl below ↦ absurd (a below)

@@ -6,12 +6,12 @@ ghost use Rattle.thy_layout.specs.Refusals.{number_of, name_of};
 /// counted after the block table's entries, if a variant may name either.
 #[derive(Clone, Copy, Debug, PartialEq, Eq)]
 pub enum BadImage {
-    /// There is no commit block: a file has fewer than 128 bytes. Or it is all zero, if a checkpoint has to be
-    /// there; `check` says of that `Nothing`.
+    /// No commit block: a file has fewer than 128 bytes. Or the commit block is all zero, where a checkpoint has to be; `check` answers
+    /// `Nothing` to such an image.
     Empty,
-    /// The header does not begin with its name.
+    /// The header does not begin with the name of image headers.
     Header,
-    /// The header's version is none that is read.
+    /// The header has a version that no reader knows.
     Version,
     /// The image was made for another geometry: base, pages, console, the size of a table, the scheme or the number of
     /// harts differs. Or, if the layout asks for it, the image has another length.
@@ -20,24 +20,25 @@ pub enum BadImage {
     /// Or its epoch is not below the ceiling, or a word after the epoch is not zero. Or the processor's record is of
     /// another epoch.
     Commit,
-    /// This entry of the tables names a block or a page that is not there.
+    /// The entry of the tables with this number names a block or a page that does not exist.
     TableIndex(u64),
-    /// The second of these entries of a table names what the first does.
+    /// The second of these entries of a table names the block or page that the first one names.
     TableTwice(u64, u64),
-    /// This entry of the block table names a block of the page that this entry of the page table names.
+    /// The entry of the block table with the first number names a block of the page that the entry with the second number, of the page
+    /// table, names.
     BlockUnderPage(u64, u64),
     /// The processor's status or count has no meaning.
     Status,
-    /// The console is longer than its pages.
+    /// The console has more bytes than its pages.
     ConsoleLength,
-    /// This byte of the counts is past 63, or it is past the last page and not zero.
+    /// The byte of the counts with this index is past 63, or it is past the last page and not zero.
     Count(u64),
     /// With two harts: the width of a reservation is none of 0, 4 and 8, or a word after the reservations is not zero.
     Second,
 }
 
 impl BadImage {
-    /// The refusal's number, from 1 in the order in which they are tested.
+    /// The refusal's number: 1 and more, in the order of the tests.
     pub fn number(&self) -> u64
         ensures { result ≡ number_of self.now }
     {
@@ -57,7 +58,7 @@ impl BadImage {
         }
     }
 
-    /// The refusal's name.
+    /// The refusal's name, as the closing line of a report has it.
     pub fn name(&self) -> &'static str
         ensures { result.now ≡ name_of self.now }
     {

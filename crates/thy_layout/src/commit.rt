@@ -20,7 +20,7 @@ pub fn commit_block(epoch: u64) -> Block
     block_with(&[COMMIT_MAGIC_VERSION_TWO, epoch, 0, 0, 0, 0, 0, 0])
 }
 
-/// The epoch that a commit block names.
+/// The number of the epoch that a commit block names, in its second word.
 pub fn epoch_in(commit: &Block) -> u64
     ensures { result ≡ epoch_named commit.now }
 {
@@ -35,7 +35,7 @@ pub fn slot_of_epoch(epoch: u64) -> u64
     epoch % 2
 }
 
-/// Whether every byte is zero: as a commit block, that there is no checkpoint.
+/// Whether all 64 bytes of a block are zero. A commit block of zeros means that there is no checkpoint.
 #[tactic(auto, unfolding(crate::specs::Commit::is_zero, thy_block::specs::Device::zero_block))]
 pub fn is_zero(block: &Block) -> bool
     ensures { result ≡ has_zeros block.now }

@@ -21,7 +21,7 @@ pub fn a_cut_leaves_a_copy()
     ensures { CutLeavesCopy }
 {}
 
-/// After a cut the image that was left is kept. So is the image of every device with an empty queue.
+/// After a cut the device keeps the image that was left. A device with an empty queue keeps its image.
 pub fn what_is_left_is_kept()
     ensures cut { CutIsKept }
     ensures empty { EmptyIsKept }
@@ -61,7 +61,7 @@ pub fn a_commit_leaves_doubt()
     ensures failed { FailedCommitLeavesDoubt }
 {}
 
-/// The barrier after that write ends the doubt: the next image is kept.
+/// The barrier after the write of the commit block ends the doubt: the next image is kept.
 pub fn a_barrier_ends_the_doubt()
     ensures { BarrierEndsDoubt }
 {}

@@ -28,20 +28,21 @@ pub trait ImageLayout: Drop {
     fn older_blocks(geometry: &Geometry, commit: &Block) -> Option<u64>
         ensures { result ≡ (layouts geometry.now).older_blocks commit.now };
 
-    /// The most blocks that a slot has.
+    /// The most blocks that a slot has, below `2^32`.
     fn most_slot(geometry: &Geometry) -> u64
         ensures most { result ≡ (layouts geometry.now).most_slot }
         ensures few { result < 4294967296 };
 
-    /// The first place of the slot of a commit block.
+    /// The first place, in blocks of the image, of the slot that a commit block names.
     fn slot_place(geometry: &Geometry, commit: &Block) -> u64
         ensures { result ≡ (layouts geometry.now).slot_place commit.now };
 
-    /// How many blocks the slot of a commit block has.
+    /// How many blocks the slot has that a commit block names.
     fn slot_blocks(geometry: &Geometry, commit: &Block) -> u64
         ensures { result ≡ (layouts geometry.now).slot_blocks commit.now };
 
-    /// The first fault of the slot of a commit block, in its bytes, with epochs and counts below the ceiling.
+    /// The first fault of the slot that a commit block names, from the slot's bytes. Epochs and counts of instructions have to be below the
+    /// ceiling.
     fn slot_fault(
         geometry: &Geometry,
         commit: &Block,
@@ -51,7 +52,8 @@ pub trait ImageLayout: Drop {
         requires { length slot.now ≡ 64 * (layouts geometry.now).slot_blocks commit.now }
         ensures { result ≡ (layouts geometry.now).slot_bad ceiling commit.now (blocks_of slot.now) };
 
-    /// The places of memory's blocks, in the order of these, by the bytes of a slot without a fault.
+    /// For each block of memory, by rising number, its place in the image, from the bytes of a slot without a fault. Fails if memory runs
+    /// out.
     fn memory_places(
         alloc: Global,
         geometry: &Geometry,
@@ -63,7 +65,7 @@ pub trait ImageLayout: Drop {
         ensures { let l = layouts geometry.now in
             IfOk result (λ places. places.items ≡ memory_places l commit.now (blocks_of slot.now)) };
 
-    /// What holds of the layouts. It does nothing: a call of it recalls the laws.
+    /// Recalls the laws of layouts. The call does nothing.
     fn recall_laws()
         ensures { AreLayouts layouts };
 }

@@ -12,7 +12,7 @@ use byteorder::{ByteOrder, LittleEndian};
 use thy_block::{BLOCK_SIZE, Geometry};
 use thy_isa::{CpuState, OtherHart, Reg, Regs};
 
-/// Word `i` of a slot.
+/// Word `i`, 64 bits, of the bytes of a slot, lowest byte first. The slot has the word's whole block.
 pub fn word_in(slot: &[u8], i: usize) -> u64
     requires { i / 8 < length slot.now / 64 }
     ensures { result ≡ record_word (blocks_of slot.now) i }
@@ -20,7 +20,7 @@ pub fn word_in(slot: &[u8], i: usize) -> u64
     LittleEndian::read_u64(&slot[8 * i..])
 }
 
-/// Where the processor's record ends in the bytes of a slot.
+/// How many bytes the processor's record has, with which a slot begins.
 pub fn record_size(geometry: &Geometry) -> usize
     ensures size { result ≡ 64 * record_blocks geometry.now }
     ensures in_range { IsInRange geometry.now }
@@ -89,7 +89,8 @@ pub fn cpu_in(slot: &[u8], geometry: &Geometry) -> CpuState
     }
 }
 
-/// A status or a count without meaning, or a console longer than its pages.
+/// The fault of the processor's status, count or console in the bytes of a slot: a status without meaning, a count that is not below the
+/// ceiling, or a console longer than its pages.
 pub fn status_fault(slot: &[u8], geometry: &Geometry, ceiling: u64) -> Option<BadImage>
     requires { record_blocks geometry.now ≤ length slot.now / 64 }
     ensures { result ≡ fault_of_status geometry.now ceiling (blocks_of slot.now) }

@@ -8,7 +8,7 @@ use crate::bad_image::BadImage;
 use crate::tables::entry_from_word;
 use byteorder::{ByteOrder, LittleEndian};
 
-/// Entry i of a table.
+/// What entry `i` of a table lists, None if it is empty. The bytes have eight for each entry.
 pub fn entry(table: &[u8], i: usize) -> Option<u64>
     requires { i < length table.now / 8 }
     ensures { result ≡ entry_at (table_in table.now) i }
@@ -16,7 +16,7 @@ pub fn entry(table: &[u8], i: usize) -> Option<u64>
     entry_from_word(LittleEndian::read_u64(&table[8 * i..]))
 }
 
-/// The first entry of a table that lists a number.
+/// The index of the first entry of a table that lists a number; None if none lists it.
 pub fn entry_of(table: &[u8], number: u64) -> Option<usize>
     ensures { result ≡ entry_that_lists (table_in table.now) number }
 {
@@ -30,8 +30,8 @@ pub fn entry_of(table: &[u8], number: u64) -> Option<usize>
     None
 }
 
-/// The first entry of a table that lists a number which is not below the limit. `before` entries have lower numbers than
-/// the table's.
+/// The fault `TableIndex` of the first entry of a table that lists a number which is not below the limit. `before`, at most 4096, entries
+/// are counted before the table's.
 pub fn index_fault(table: &[u8], before: u64, limit: u64) -> Option<BadImage>
     requires { before ≤ 4096 }
     ensures { result ≡ first_clash (index_rule before limit) 0 (table_in table.now) }
@@ -58,7 +58,8 @@ fn twin(table: &[u8], k: usize) -> Option<usize>
     }
 }
 
-/// The first entry of a table that lists what an earlier one does, counted in the same way.
+/// The fault `TableTwice` of the first entry of a table that lists what an earlier one does, with both. `before`, at most 4096, entries are
+/// counted before the table's.
 pub fn twice_fault(table: &[u8], before: u64) -> Option<BadImage>
     requires { before ≤ 4096 }
     ensures { result ≡ first_clash (twice_rule before (table_in table.now)) 0 (table_in table.now) }

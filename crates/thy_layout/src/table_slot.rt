@@ -8,7 +8,7 @@ use crate::bad_image::BadImage;
 use crate::slot::{cpu_fault, record_size, word_in};
 use thy_block::Geometry;
 
-/// The table of a slot, which has `entries` entries.
+/// The bytes of the table that follows the processor's record in a slot: eight for each of its `entries` entries.
 pub fn table_behind<'a>(slot: &'a [u8], entries: usize, geometry: &Geometry) -> &'a [u8]
     requires { 8 * record_blocks geometry.now + entries ≤ 8 * (length slot.now / 64) }
     ensures { table_in result.now ≡ table_of geometry.now entries (blocks_of slot.now) }

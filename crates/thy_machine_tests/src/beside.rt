@@ -135,7 +135,7 @@ pub(crate) struct Seen {
     pub(crate) cut_booting: bool,
 }
 
-/// None of them, and all.
+/// Nothing is seen, and everything.
 pub(crate) static NOTHING: Seen = Seen {
     committed: false,
     full: false,
@@ -210,7 +210,7 @@ impl Versions {
         self.written = false;
     }
 
-    /// After a cut with this pick a boot has found the checkpoint of this epoch.
+    /// Notes that a boot after a cut with this pick has found the checkpoint of this epoch.
     fn found(&mut self, rt: &impl Abort, epoch: u64, pick: u64, seen: &mut Seen) {
         let is_new = self.written && epoch == self.epoch.saturating_add(1);
         if self.written {

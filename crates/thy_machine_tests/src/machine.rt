@@ -311,7 +311,7 @@ struct Story {
 }
 
 impl Story {
-    /// After a boot that restored the checkpoint of this epoch.
+    /// A story that begins after a boot that restored the checkpoint of this epoch.
     fn from(alloc: Global, epoch: u64) -> Story {
         Story {
             epoch: epoch.saturating_add(1),

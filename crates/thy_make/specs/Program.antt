@@ -39,7 +39,7 @@ store_of r = Lui 6 (page_of r * 2 ^ 12) ∷ Store Double 6 5 (offset_of r) ∷ a
 abbrev pub opening : List Instr
 opening = addi 7 0 8 ∷ []
 
--- after them: back to the first store while a round is left, and then an exit with the count in x5
+-- the instructions after the stores: back to the first store while a round is left, and then an exit with the count in x5
 abbrev pub closing : List Instr
 closing =
     addi 7 7 (minus 1) ∷ Branch Equal 7 0 8 ∷ Jal 0 (minus 24008) ∷ addi 10 5 0 ∷ addi 17 0 93 ∷ Ecall ∷ []

@@ -24,7 +24,7 @@ Contains-drawn_block seed block [] = Contains-push [] block
 Contains-drawn_block seed block (b ∷ bs) =
     Contains-get_or (block ∷ b ∷ bs) (lcg_draw (lcg_next seed) % length (block ∷ b ∷ bs)) block (omega arith)
 
--- of a place with queued writes it is the one at the index that is drawn
+-- the block that is drawn for a place with queued writes is the one at the index that is drawn
 pub drawn_block-some : (seed : ℕ) (block : Block) (queued : List Block) → 0 < length queued
     → drawn_block seed block queued ≡ slice_index_or (block ∷ queued) (lcg_draw (lcg_next seed) % (length queued + 1)) block
 drawn_block-some seed block [] some = absurd (omega arith)

@@ -14,7 +14,7 @@ pub(crate) enum Fault {
     Late,
 }
 
-/// How many calls were made, and the numbers of those that fail.
+/// Counts the calls of a device, and knows the numbers of those that fail.
 #[derive(Drop)]
 pub(crate) struct CallFaults {
     // Saturates.
@@ -32,7 +32,7 @@ impl Model for CallFaults {
 }
 
 impl CallFaults {
-    /// No call is made yet, and none will fail. Allocates nothing.
+    /// A count at 0, by which no call fails. Allocates nothing.
     pub(crate) fn none(alloc: Global) -> CallFaults
         ensures { result ≡ no_calls [] [] }
     {
@@ -43,7 +43,7 @@ impl CallFaults {
         }
     }
 
-    /// The calls of these numbers will do nothing.
+    /// A count at 0, by which the calls of these numbers do nothing and fail. Numbers begin at 1. Fails if memory runs out.
     pub(crate) fn failing(alloc: Global, numbers: &[u64]) -> Result<CallFaults, AllocError>
         ensures { IfOk result (λ c. c ≡ no_calls numbers.now []) }
     {
@@ -55,7 +55,7 @@ impl CallFaults {
         })
     }
 
-    /// The calls of these numbers will fail late.
+    /// A count at 0, by which the calls of these numbers fail after they are done. Numbers begin at 1. Fails if memory runs out.
     pub(crate) fn late(alloc: Global, numbers: &[u64]) -> Result<CallFaults, AllocError>
         ensures { IfOk result (λ c. c ≡ no_calls [] numbers.now) }
     {
@@ -67,7 +67,7 @@ impl CallFaults {
         })
     }
 
-    /// How many calls were made.
+    /// How many calls were counted. The count saturates at `2^64 - 1`.
     pub(crate) fn made(&self) -> u64
         ensures { result ≡ self.now.made }
     {

@@ -50,8 +50,7 @@ impl Choices {
     }
 }
 
-/// Of the image's block at a place, which has this number of queued writes, and the blocks queued for it, the one that is chosen
-/// next.
+/// The block that is chosen next for a place with `count` queued writes: the image's, or one that is queued for it.
 fn choose_block(ring: &Ring, at: u64, count: u64, choices: &mut Choices) -> Block
     requires place { at < length ring.now.image }
     requires count { count ≡ length (queued_for ring.now.queue at) }

@@ -30,7 +30,7 @@ impl Model for Kept {
 }
 
 impl Kept {
-    /// Room for no cut. Allocates nothing.
+    /// A list of no cuts, with room for none. Allocates nothing.
     pub(crate) fn new(alloc: Global) -> Kept
         ensures { result ≡ no_cuts 0 0 }
     {
@@ -42,7 +42,7 @@ impl Kept {
         }
     }
 
-    /// Room for `room` cuts that leave images of `size` blocks.
+    /// A list of no cuts, with room for `room` cuts that leave images of `size` blocks. Fails if memory runs out.
     pub(crate) fn with_room(alloc: Global, size: u64, room: u64) -> Result<Kept, AllocError>
         ensures { IfOk result (λ k. k ≡ no_cuts size room) }
     {
@@ -59,7 +59,7 @@ impl Kept {
         })
     }
 
-    /// Forgets all cuts. The room for cuts stays the same.
+    /// Removes all cuts. The room for cuts stays the same.
     pub(crate) fn clear(&mut self)
         ensures { self.new ≡ no_cuts self.old.size self.old.room }
     {
@@ -77,7 +77,7 @@ impl Kept {
         add_pick(&mut self.picks, pick);
     }
 
-    /// The block at a place of the image `i`.
+    /// The block at a place of the kept image `i`, counted from 0 in the order of the cuts.
     pub(crate) fn block(&self, i: u64, at: u64) -> Block
         requires image { i < length self.now.left }
         requires place { at < self.now.size }

@@ -67,7 +67,7 @@ impl MemNvm {
         MemNvm::with_calls(alloc, CallFaults::none(alloc), false)
     }
 
-    /// A device without blocks whose calls of these numbers fail and do nothing.
+    /// A device without blocks whose calls of these numbers, from 1 on, fail and do nothing. Fails if memory runs out.
     pub fn failing(alloc: Global, calls: &[u64]) -> Result<MemNvm, AllocError>
         ensures { IfOk result (λ m. m ≡ fresh_device true calls.now []) }
     {
@@ -75,8 +75,9 @@ impl MemNvm {
         Ok(MemNvm::with_calls(alloc, calls, true))
     }
 
-    /// A device without blocks whose calls of these numbers fail late: a write is queued as usual, a drain lets its write
-    /// land, a barrier lets the older half of the queue land, rounded down; then each fails. A read just fails.
+    /// A device without blocks whose calls of these numbers, from 1 on, fail late. A late write is queued as usual, a late drain lets its
+    /// write land, a late barrier lets the older half of the queue land, rounded down; then each fails. A late read fails and does nothing.
+    /// The constructor fails if memory runs out.
     pub fn late(alloc: Global, calls: &[u64]) -> Result<MemNvm, AllocError>
         ensures { IfOk result (λ m. m ≡ fresh_device true [] calls.now) }
     {
@@ -84,14 +85,14 @@ impl MemNvm {
         Ok(MemNvm::with_calls(alloc, calls, true))
     }
 
-    /// How many reads, writes, drains and barriers were called. Saturates.
+    /// How many reads, writes, drains and barriers were called since the device was made. The count saturates at `2^64 - 1`.
     pub fn calls(&self) -> u64
         ensures { result ≡ self.now.calls.made }
     {
         self.calls.made()
     }
 
-    /// The queued write at a position, the oldest at 0, also while the device is down.
+    /// The queued write at position `i`, the oldest at 0, also while the device is down.
     pub fn waiting(&self, i: u64) -> Write
         requires { i < length self.now.device.queue }
         ensures write { (w : Written) → slice_index_or self.now.device.queue i w ≡ result }
@@ -100,7 +101,7 @@ impl MemNvm {
         self.ring.waiting(i)
     }
 
-    /// The lowest place from this one on for which a write is queued, if there is one, also while the device is down.
+    /// The lowest place from `from` on for which a write is queued, also while the device is down; None if there is none.
     pub fn next_waiting(&self, from: u64) -> Option<u64>
         ensures lowest { IsLowestOf self.now.device.queue from result }
         ensures place { IfSome result (λ x. x < length self.now.device.image) }
@@ -132,8 +133,7 @@ impl MemNvm {
         &self.ring
     }
 
-    /// Cuts the power of a device whose blocks may be torn. The words that are left are those that are chosen, and the pick is kept
-    /// only.
+    /// Cuts the power of a device whose blocks may be torn. The choices say which words are left; the pick is only kept.
     pub(crate) fn cut_as_chosen(&mut self, pick: u64, choices: &mut Choices)
         requires room { length self.old.device.left < self.old.device.left_room }
         requires torn { self.old.device.whole ≡ false }
@@ -347,7 +347,7 @@ impl Nvm for MemNvm {
         self.drain_unless(fault)
     }
 
-    /// Makes no write of its own.
+    /// Lets every queued write land, in order. The device makes no write of its own.
     fn barrier(&mut self) -> Result<(), NvmError>
         requires { self.old.device.down ≡ false }
         ensures exact { IsCall (on_device at_rest) half_settled self.old result self.new }

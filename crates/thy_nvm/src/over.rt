@@ -8,14 +8,14 @@ ghost use Rattle.thy_write_queue.specs.Merged.{merged, AreMarked};
 use thy_block::Block;
 use thy_write_queue::Ring;
 
-/// A count with one more, if it is not at its last value.
+/// A count with 1 added, unless it has its last value, `2^64 - 1`.
 pub(crate) fn one_more(count: u64) -> u64
     ensures { result ≡ next count }
 {
     count.saturating_add(1)
 }
 
-/// The block at a place of an image.
+/// The block at a place of an image, which is one of its places.
 #[tactic(auto, unfolding(thy_block::specs::Device::zero_block))]
 pub(crate) fn block_of_image(image: &[Block], at: u64) -> Block
     requires { at < length image.now }

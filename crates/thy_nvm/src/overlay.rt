@@ -36,7 +36,7 @@ impl Model for Spare {
 }
 
 impl Spare {
-    /// Room for a device of a shape.
+    /// Room for a device of a shape. Fails if memory runs out.
     pub fn new(alloc: Global, shape: &Shape) -> Result<Spare, AllocError>
         requires { 0 < shape.now.queue }
         ensures { IfOk result (λ spare. spare ≡ shape.now) }
@@ -114,7 +114,7 @@ impl<'a> Overlay<'a> {
         }
     }
 
-    /// Sets the block that has landed at a place, whatever is queued.
+    /// Sets the block that has landed at a place, whatever is queued for it.
     pub fn put(&mut self, at: u64, block: &Block)
         requires { at < length self.old.device.image }
         ensures { self.new ≡ on_overlay (put_in at block.now) self.old }
@@ -134,7 +134,7 @@ impl<'a> Overlay<'a> {
         }
     }
 
-    /// The room in which the device was made.
+    /// Gives back the room in which the device was made.
     pub fn into_spare(self) -> Spare
         ensures blocks { result.blocks ≡ length self.entry.device.image }
         ensures queue { result.queue ≡ self.entry.device.queue_room }
@@ -154,7 +154,7 @@ impl<'a> Overlay<'a> {
 impl<'a> Nvm for Overlay<'a> {
     ghost device = { λ o. o.device };
 
-    /// Fails: `of` alone makes this device.
+    /// Fails always: `of` alone makes this device.
     fn fit(&mut self, alloc: Global, shape: &Shape, start: Vec<Block>) -> Result<(), FitError>
         requires blocks { 0 < shape.now.blocks }
         requires queue { 0 < shape.now.queue }
@@ -237,7 +237,7 @@ impl<'a> Nvm for Overlay<'a> {
         Ok(())
     }
 
-    /// Copies every block from below that was neither taken nor written yet.
+    /// Cuts the power; every block that was neither taken nor written yet is copied from below.
     fn cut(&mut self, pick: u64)
         requires { length self.old.device.left < self.old.device.left_room }
         ensures exact { self.new ≡ on_overlay (cut_device pick) self.old }

@@ -36,7 +36,7 @@ fn draw_place(ring: &mut Ring, at: u64, draws: &mut Lcg)
     }
 }
 
-/// How many places a ring has.
+/// How many places, in blocks, the image of a ring has.
 pub(crate) fn size_of(ring: &Ring) -> u64
     ensures size { result ≡ length ring.now.image }
     ensures small { result < 2 ^ 64 }
@@ -138,7 +138,7 @@ fn take_draws(ring: &mut Ring, seed: u64, whole: bool)
     }
 }
 
-/// Makes the image the one that the pick gives.
+/// Sets the image of a ring to the one that the pick gives. The queue stays.
 fn take_pick(ring: &mut Ring, pick: u64, whole: bool)
     ensures image { ring.new.image ≡ picked whole pick ring.old.image ring.old.queue }
     ensures room { ring.new.room ≡ ring.old.room }

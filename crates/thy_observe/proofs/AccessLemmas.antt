@@ -95,7 +95,7 @@ module _ {M : Type 0} (K : KindOf M) (plan : Plan) (fitted : Device) (w : Window
   pub IsLogged-same : (m : Device) → m ≡ n → IsLogged K plan fitted w p m done b rows
   IsLogged-same m same = subst (λ (d : Device). IsLogged K plan fitted w p d done b rows) (sym same) h
 
-  -- they are a window's, once its last cycle is done
+  -- the listed accesses are a window's, once its last cycle is done
   pub HasAccesses-whole : done ≡ last_cycle w.last plan.geometry.limit → HasAccesses K plan fitted w rows
   HasAccesses-whole last = record {
     cycles = done;

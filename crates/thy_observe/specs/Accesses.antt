@@ -42,7 +42,7 @@ access_of cycle cause Barrier = []
 abbrev pub accesses_in : Bool → ℕ → Did → List Call → List Accessed
 accesses_in b cycle did calls = flat_map (access_of cycle (cause_of b (kind_of did))) (own did calls)
 
--- if it lies in the window
+-- the accesses of a cycle, if the cycle lies in the window
 abbrev pub accesses_at : Window → Bool → ℕ → Did → List Call → List Accessed
 accesses_at w b cycle did calls = if is_within w cycle then accesses_in b cycle did calls else []
 
@@ -65,7 +65,7 @@ pub record Log : Type 0 where
 abbrev pub first_log : Log
 first_log = record { cycles = 0; under_way = false; rows = [] }
 
--- with one cycle more
+-- the log with one cycle more
 abbrev pub logged : Window → Log → Heard → Log
 logged w l h = record {
   cycles = l.cycles + 1;

@@ -12,21 +12,21 @@ use Rattle.thy_observe.specs.Kinds.{kind_of}
 
 -- ---- whether a checkpoint is under way: an epoch was sealed, and is not committed
 
--- after a step
+-- a checkpoint is under way after a step that did this
 abbrev pub under_way_after_step : Bool → Did → Bool
 under_way_after_step b (did.Sealed epoch count cause) = true
 under_way_after_step b (did.Committed epoch overlapped) = false
 under_way_after_step b d = b
 
--- after the cut that may fall after it: none is, as a boot follows
+-- a checkpoint is under way after the cut that may fall after a step: none is, as a boot follows
 abbrev pub under_way_after_cut : Bool → Bool → Bool
 under_way_after_cut b fell = if fell then false else b
 
--- after a cycle
+-- a checkpoint is under way after a cycle
 abbrev pub under_way_then : Bool → Taken → Bool
 under_way_then b t = under_way_after_cut (under_way_after_step b t.stepped.did) t.fell
 
--- after these cycles
+-- a checkpoint is under way after these cycles
 abbrev pub under_way_after : Bool → List Taken → Bool
 under_way_after b [] = b
 under_way_after b (t ∷ seen) = under_way_after (under_way_then b t) seen
@@ -84,7 +84,7 @@ abbrev pub causes_from : Bool → List Taken → List Cause
 causes_from b [] = []
 causes_from b (t ∷ seen) = cause_of b (kind_of t.stepped.did) ∷ causes_from (under_way_then b t) seen
 
--- of a run's, which begins with a boot
+-- the causes of a run's cycles, which begin with a boot, in order
 abbrev pub causes_of : List Taken → List Cause
 causes_of seen = causes_from false seen
 
@@ -108,7 +108,7 @@ plainly Meanwhile = Instruction
 plainly Home = Copy
 plainly c = c
 
--- the cause of a kind of cycles, without that regard
+-- the cause of a kind of cycles, without regard to what is under way
 abbrev pub plain_cause : Kind → Cause
 plain_cause k = plainly (cause_of false k)
 

@@ -12,7 +12,7 @@ use Rattle.thy_observe.specs.declared.changes.Change.TheVariants.{Loaded, Restor
 use Rattle.thy_observe.specs.declared.changes.Changes.{Changes}
 use Rattle.thy_observe.specs.declared.changes.Dated.{Dated}
 
--- what a step that did this made of it, if anything
+-- what a step that did this made of the program's state, if anything
 abbrev pub change_of : Did → Option Change
 change_of did.Loaded = Some Loaded
 change_of (did.Restarted epoch count) = Some (Restored count)
@@ -23,7 +23,7 @@ abbrev pub as_list : Option Change → List Change
 as_list None = []
 as_list (Some change) = change ∷ []
 
--- what the cut made of it that may fall after the step
+-- what the cut that may fall after a step made of the program's state
 abbrev pub lost_in : Bool → List Change
 lost_in true = Lost ∷ []
 lost_in false = []
@@ -41,7 +41,7 @@ changes_of seen = flat_map changes_in seen
 abbrev pub dated : ℕ → Change → Dated
 dated cycle change = record { cycle = cycle; change = change }
 
--- what these cycles made of it, if the first has this number
+-- what these cycles made of the program's state, each change with its cycle, if the first cycle has this number
 abbrev pub dated_from : ℕ → List Taken → List Dated
 dated_from cycle [] = []
 dated_from cycle (t ∷ seen) = map (dated cycle) (changes_in t) ++ dated_from (cycle + 1) seen

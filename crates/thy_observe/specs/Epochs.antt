@@ -21,29 +21,29 @@ end_by (did.Restarted epoch count) = Some end.Boot
 end_by (did.Sealed epoch count cause) = Some end.Seal
 end_by d = None
 
--- a cut ends it whatever the step before it did
+-- a cut ends a stretch whatever the step before it did
 abbrev pub end_of : Did → Bool → Option End
 end_of d fell = if fell then Some end.Cut else end_by d
 
--- the epoch that executes after it
+-- the epoch that executes after a step that did this
 abbrev pub epoch_by : Option ℕ → Did → Option ℕ
 epoch_by epoch did.Loaded = Some 1
 epoch_by epoch (did.Restarted restored count) = Some (next restored)
 epoch_by epoch (did.Sealed sealed count cause) = Some (next sealed)
 epoch_by epoch d = epoch
 
--- none does in a boot
+-- the epoch that executes after a cycle; none does after a cut, as a boot follows
 abbrev pub epoch_of : Option ℕ → Did → Bool → Option ℕ
 epoch_of epoch d fell = if fell then None else epoch_by epoch d
 
 -- ---- stretches
 
--- one that begins after a number of cycles
+-- a stretch that begins after a number of cycles
 abbrev pub begun_after : ℕ → Option ℕ → Row
 begun_after before epoch =
     record { epoch = epoch; before = before; to = before; end = end.Run; causes = replicate 17 0; waiting = 0 }
 
--- with one cycle more, of this number, and of the cause with this index
+-- a stretch with one cycle more, of this number, and of the cause with this index
 abbrev pub with_cycle : Row → (cycle cause waited : ℕ) → Row
 with_cycle r cycle cause waited = record r {
   to = cycle;
@@ -51,7 +51,7 @@ with_cycle r cycle cause waited = record r {
   waiting = r.waiting + waited;
 }
 
--- those that have ended, and the one that has not
+-- the stretches that have ended, and the one that has not
 pub record Account : Type 0 where
   pub cycles : ℕ
   pub under_way : Bool
@@ -66,7 +66,7 @@ abbrev pub closed : Option End → Option ℕ → Account → Account
 closed None epoch a = a
 closed (Some e) epoch a = record a { rows = a.rows ++ record a.open_row { end = e } ∷ []; open_row = begun_after a.cycles epoch }
 
--- with one cycle more
+-- the stretches after one cycle more
 abbrev pub accounted : Account → Taken → Account
 accounted a t =
     closed (end_of t.stepped.did t.fell) (epoch_of a.open_row.epoch t.stepped.did t.fell) (record a {
@@ -75,7 +75,7 @@ accounted a t =
       open_row = with_cycle a.open_row (a.cycles + 1) (cause_index (cause_of a.under_way (kind_of t.stepped.did))) (cond (has_waited t) 1 0);
     })
 
--- of these cycles
+-- the stretches of these cycles
 abbrev pub account_of : List Taken → Account
 account_of seen = fold accounted first_account seen
 
@@ -103,17 +103,17 @@ EpochsAddUp = (seen : List Taken) → RowsAddUp seen
 
 -- ---- as the program has them
 
--- these are the stretches of these cycles; those that have ended are listed if that is wanted, unless memory ran out for one
+-- a list has the stretches of these cycles; those that have ended are listed if that is wanted, unless memory ran out for one
 pub record AreEpochs (e : Epochs) (seen : List Taken) : Type 0 where
   pub cycles : e.cycles ≡ (account_of seen).cycles
   pub under_way : e.under_way ≡ (account_of seen).under_way
   pub open_is : e.open_row ≡ (account_of seen).open_row
   pub rows : IfSome e.rows (λ v. v.items ≡ (account_of seen).rows)
 
--- those that have ended are listed: that is wanted, and memory has not run out for one
+-- the stretches that have ended are listed: that is wanted, and memory has not run out for one
 abbrev pub lists_rows : Epochs → Bool
 lists_rows e = is_some e.rows
 
--- they are of these cycles, and the step of the next one is kept
+-- a list has the stretches of these cycles, and keeps the step of the next one
 abbrev pub KeepsEpochs : Epochs → List Taken → Stepped → Type 0
 KeepsEpochs e seen r = AreEpochs e seen × (e.kept ≡ Some r)

@@ -23,7 +23,7 @@ retired_after_step retired did = retired
 abbrev pub retired_after_cut : Option RetiredCount → Bool → Option RetiredCount
 retired_after_cut retired fell = if fell then None else retired
 
--- the count after these cycles
+-- how many instructions are retired after these cycles
 abbrev pub retired_after : Option RetiredCount → List Taken → Option RetiredCount
 retired_after retired [] = retired
 retired_after retired (t ∷ seen) = retired_after (retired_after_cut (retired_after_step retired t.stepped.did) t.fell) seen

@@ -10,7 +10,7 @@ use Rattle.thy_run.specs.Watching.{Taken}
 use Rattle.thy_observe.specs.declared.kinds.Kind.{Kind}
 use Rattle.thy_observe.specs.declared.kinds.Kind.TheVariants as kind
 
--- of what kind a cycle is that did this
+-- the kind of a cycle that did this
 abbrev pub kind_of : Did → Kind
 kind_of did.Boot = kind.Boot
 kind_of did.Loaded = kind.Boot

@@ -16,6 +16,6 @@ pub record IsLedger (l : Ledger) (seen : List Taken) : Type 0 where
   pub counts : (i : ℕ) → i < 17 → slice_index_or l.causes i 0 ≡ how_many_by i seen
   pub under_way : l.under_way ≡ under_way_after false seen
 
--- it has these cycles, and keeps the step of the next one
+-- a ledger has these cycles, and keeps the step of the next one
 abbrev pub KeepsLedger : Ledger → List Taken → Stepped → Type 0
 KeepsLedger l seen r = IsLedger l seen × (l.kept ≡ Some r)

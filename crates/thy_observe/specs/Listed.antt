@@ -8,6 +8,6 @@ use Rattle.thy_observe.specs.declared.listing.Listing.{Listing}
 abbrev pub Lists : Call → Option (Vec Call Global) → Option (Vec Call Global) → Type 0
 Lists call old new = (before : List Call) → IfSome old (λ v. v.items ≡ before) → IfSome new (λ v. v.items ≡ before ++ call ∷ [])
 
--- the call was made, and is listed
+-- a call was made of a device, and is listed
 abbrev pub HasCall : {N : Type 0} → Call → Listing N → Listing N → Type 0
 HasCall call old new = Lists call old.calls new.calls

@@ -35,7 +35,7 @@ state_after g start harts = by_turns g harts (length harts) start
 abbrev pub pc_in : ℕ → State → ℕ
 pc_in hart s = (fronted hart s).pc
 
--- after one more change: if the start is loaded or a checkpoint restored, the instructions after it are lost, and their
+-- what is executed after one more change. If the start is loaded or a checkpoint restored, the instructions after it are lost, and their
 -- program counters have been retired all the same
 abbrev pub executed_after : Setting → State → Executed → Change → Executed
 executed_after g start e Loaded = record e { harts = []; up = true }
@@ -61,7 +61,7 @@ pub record AreCounts (table : List (ℕ × ℕ)) (pcs : List ℕ) : Type 0 where
 
 -- ---- as the program has it
 
--- a table counts one more
+-- a table counts one program counter once more
 abbrev pub AddsOne : BTreeMap ℕ ℕ → BTreeMap ℕ ℕ → ℕ → Type 0
 AddsOne old new pc = (pcs : List ℕ) → AreCounts old.entries pcs → AreCounts new.entries (pcs ++ pc ∷ [])
 
@@ -72,7 +72,7 @@ executed_by p start e change = executed_after (setting_for p (bytes_of start.inp
 abbrev pub executed_of : Parameters → Start → List Change → Executed
 executed_of p start changes = executed (setting_for p (bytes_of start.input)) (state_of start.state) changes
 
--- one more of the changes that are listed, if it is in the cycles up to this one, or in any
+-- a listed change is in the cycles up to this one, or in any if no cycle is given
 abbrev pub is_by : Option ℕ → Dated → Bool
 is_by None d = true
 is_by (Some cycle) d = nat_le d.cycle cycle
@@ -83,7 +83,7 @@ listed_after g start most e d = if is_by most d then executed_after g start e d.
 abbrev pub listed_by : Parameters → Start → Option ℕ → Executed → Dated → Executed
 listed_by p start most e d = listed_after (setting_for p (bytes_of start.input)) (state_of start.state) most e d
 
--- what is executed of a list
+-- what is executed by the changes of a list, up to a cycle
 abbrev pub listed : Setting → State → Option ℕ → List Dated → Executed
 listed g start most changes = fold (listed_after g start most) nothing_executed changes
 

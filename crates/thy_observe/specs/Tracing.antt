@@ -35,12 +35,12 @@ moved (Conditional rd width pc at v) = Some (width, at)
 moved (Modify op rd width pc at v) = Some (width, at)
 moved e = None
 
--- how many the instruction of a word reads or writes, with this program counter and these registers
+-- how many bytes the instruction of a word reads or writes, and at which address, with this program counter and these registers
 abbrev pub moved_by : Option ℕ → (pc : ℕ) (regs : List ℕ) → Option (Width × ℕ)
 moved_by None pc regs = None
 moved_by (Some word) pc regs = moved (word_effect word pc regs)
 
--- these bytes, and their number, if they are in memory
+-- the bytes of an access and their number, if they are in memory
 abbrev pub access_at : (base : ℕ) → List ℕ → Option (Width × ℕ) → Option Access
 access_at base memory None = None
 access_at base memory (Some m) =
@@ -99,7 +99,7 @@ pub record Trace : Type 0 where
 abbrev pub no_trace : Trace
 no_trace = record { executed = nothing_executed; rows = [] }
 
--- after one more change
+-- what is executed and listed after one more change
 abbrev pub trace_after : Setting → State → Window → Trace → Dated → Trace
 trace_after g start w t d = record {
   executed = executed_after g start t.executed d.change;
@@ -113,7 +113,7 @@ trace_listed g start w listed = fold (trace_after g start w) no_trace listed
 abbrev pub trace_of : Setting → State → Window → List Taken → List Traced
 trace_of g start w seen = (trace_listed g start w (dated_of seen)).rows
 
--- without bounds, all that retired are listed, each as often as it did
+-- a trace without bounds lists all instructions that retired, each as often as it did
 abbrev pub ListsAll : Type 0
 ListsAll =
     (g : Setting) (start : State) (w : Window) (seen : List Taken)

@@ -6,11 +6,11 @@ use Rattle.thy_block.specs.Counts.{next}
 abbrev pub worn_at : List ℕ → ℕ → List ℕ
 worn_at wear at = if nat_lt at (length wear) then slice_set wear at (next (get_or wear at 0)) else wear
 
--- none yet: a count for each place, if they are wanted
+-- counts of 0, one for each place, if they are wanted; else none
 abbrev pub unworn : Bool → ℕ → List ℕ
 unworn wanted blocks = replicate (cond wanted blocks 0) 0
 
--- after writes to these places, in order
+-- the counts of all places after writes to these, in order
 abbrev pub worn_by : ℕ → List ℕ → List ℕ
 worn_by blocks places = fold worn_at (replicate blocks 0) places
 

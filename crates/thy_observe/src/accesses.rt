@@ -18,13 +18,13 @@ use thy_view::{Computer, Did};
 /// An access to a block of the NVM.
 #[derive(Clone, Copy, Debug, PartialEq, Eq, Drop)]
 pub struct Accessed {
-    /// The cycle in which it was made.
+    /// The number, from 1, of the cycle in which the access was made.
     pub cycle: u64,
-    /// Why that cycle was taken.
+    /// Why the access's cycle was taken.
     pub cause: Cause,
-    /// It is a write.
+    /// Whether the access is a write, and not a read.
     pub writes: bool,
-    /// The block's place.
+    /// The place, in blocks of the NVM, that was read or written.
     pub at: u64,
 }
 

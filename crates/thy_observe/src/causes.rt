@@ -25,23 +25,23 @@ pub enum Cause {
     Promotion,
     /// The engine copied a block of memory while a checkpoint is under way: the redo journal into its journal.
     Copy,
-    /// It did while none is: the redo journal home, after the commit or a restart.
+    /// The engine copied a block of memory while no checkpoint is under way: the redo journal home, after the commit or a restart.
     Home,
-    /// It wrote a block of a page back.
+    /// The engine wrote a block of a page back.
     Page,
-    /// It wrote a block of the processor's record.
+    /// The engine wrote a block of the processor's record.
     Processor,
-    /// It wrote a block of the tables, or what a slot has after them.
+    /// The engine wrote a block of the tables, or of what a slot has after them.
     Table,
-    /// It wrote the commit block.
+    /// The engine wrote the commit block.
     Commit,
-    /// It made a barrier.
+    /// The engine made a barrier.
     Barrier,
     /// A queued write of the NVM has landed.
     NvmDrain,
     /// A queued write of the DRAM has landed.
     DramDrain,
-    /// There was nothing to do.
+    /// The actor had nothing to do.
     Nothing,
 }
 
@@ -139,7 +139,7 @@ fn under_way_after_step(under_way: bool, did: Did) -> bool
     }
 }
 
-/// Whether one is after that step and the cut that may have fallen after it.
+/// Whether a checkpoint is under way after a step that did this, and the cut that may have fallen after it.
 pub(crate) fn under_way_then(under_way: bool, did: Did, fell: bool) -> bool
     ensures { result ≡ under_way_after_cut (under_way_after_step under_way did) fell }
 {

@@ -17,7 +17,7 @@ pub enum Change {
     Restored(u64),
     /// The state is one instruction further, by this hart.
     Retired(u32),
-    /// It is lost, as power was cut.
+    /// The state is lost, as power was cut.
     Lost,
 }
 
@@ -76,7 +76,7 @@ fn listed_with(listed: Option<Vec<Dated>>, cycle: u64, change: Option<Change>) -
 }
 
 impl Changes {
-    /// The changes of no cycle; if they are not wanted, none will be listed. Takes no memory.
+    /// The changes of no cycle. If they are not wanted, none will be listed. Allocates nothing.
     pub fn new(alloc: Global, wanted: bool) -> Changes
         ensures changes { AreChanges result [] }
         ensures wanted { lists_changes result ≡ wanted }
@@ -98,14 +98,14 @@ impl Changes {
         self.cycles = cycle;
     }
 
-    /// How many cycles there were.
+    /// How many cycles were seen.
     pub fn cycles(&self) -> u64
         ensures { (seen : List Taken) → AreChanges self.now seen → result ≡ length seen }
     {
         self.cycles
     }
 
-    /// What the cycles made of the program's state, in order; none if it was not wanted, or if memory ran out.
+    /// What the cycles made of the program's state, in order; None if that was not wanted, or if memory ran out.
     pub fn listed(&self) -> Option<&[Dated]>
         ensures changes { (seen : List Taken) → AreChanges self.now seen
             → MatchOption result (Unit {0}) (λ listed. listed.now ≡ dated_of seen) }

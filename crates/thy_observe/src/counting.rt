@@ -67,7 +67,7 @@ fn unworn(alloc: Global, wanted: bool, blocks: u64) -> Result<Vec<u64>, AllocErr
 }
 
 impl<N> Counting<N> {
-    /// A device that counts the calls of this one, and if wanted the writes of each place. No call is counted yet.
+    /// A device that counts the calls of `inner`, and if wanted the writes of each place. All counts are 0.
     pub fn over(alloc: Global, inner: N, wears: bool) -> Counting<N>
         ensures inner { result.inner ≡ inner }
         ensures calls { calls_of result ≡ no_calls }
@@ -110,11 +110,11 @@ fn counted(count: u64, done: bool) -> u64
     if done { count.saturating_add(1) } else { count }
 }
 
-/// Each call is counted that has succeeded, a write at its place too, and no other. Only a fit begins anew with the places.
+/// Each call is counted that has succeeded, a write at its place too, and no other. Only a fit sets the counts of places back to 0.
 impl<N: Nvm> Nvm for Counting<N> {
     ghost device = { λ it. N.device it.inner };
 
-    /// No place has taken a write then.
+    /// Fits the inner device. If that succeeds, no place has taken a write.
     fn fit(&mut self, alloc: Global, shape: &Shape, start: Vec<Block>) -> Result<(), FitError>
         requires blocks { 0 < shape.now.blocks }
         requires queue { 0 < shape.now.queue }
@@ -144,7 +144,7 @@ impl<N: Nvm> Nvm for Counting<N> {
         self.inner.writes()
     }
 
-    /// It is counted if it succeeds.
+    /// Reads; the read is counted if it succeeds.
     fn read(&mut self, at: u64) -> Result<Block, NvmError>
         requires place { at < length (N.device self.old.inner).image }
         requires up { (N.device self.old.inner).down ≡ false }
@@ -160,7 +160,7 @@ impl<N: Nvm> Nvm for Counting<N> {
         answer
     }
 
-    /// It is counted if it succeeds, and at its place.
+    /// Writes; the write is counted if it succeeds, also at its place.
     fn write(&mut self, at: u64, block: &Block) -> Result<(), NvmError>
         requires place { at < length (N.device self.old.inner).image }
         requires up { (N.device self.old.inner).down ≡ false }
@@ -189,7 +189,7 @@ impl<N: Nvm> Nvm for Counting<N> {
         self.inner.drain()
     }
 
-    /// It is counted if it succeeds.
+    /// Makes a barrier, which is counted if it succeeds.
     fn barrier(&mut self) -> Result<(), NvmError>
         requires { (N.device self.old.inner).down ≡ false }
         ensures ok { OnOk result (IsSettled (N.device self.old.inner) (N.device self.new.inner)) }

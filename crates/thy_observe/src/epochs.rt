@@ -16,27 +16,27 @@ use thy_view::{Did, Stepped};
 pub enum End {
     /// The boot is over.
     Boot,
-    /// The epoch was sealed.
+    /// Power was cut after its last cycle.
     Seal,
     /// Power was cut.
     Cut,
-    /// It has not: the run was over in it.
+    /// The stretch has not ended: the run was over in it.
     Run,
 }
 
 /// A stretch of cycles.
 #[derive(Clone, Copy, Drop)]
 pub struct Row {
-    /// The epoch that executes in it; none in a boot.
+    /// The number of the epoch that executes in the stretch; None in a boot.
     pub epoch: Option<u64>,
-    /// How many cycles there were before it.
+    /// How many cycles there were before the stretch.
     pub before: u64,
-    /// The number of its last cycle.
+    /// The number, from 1, of the stretch's last cycle.
     pub to: u64,
     pub end: End,
-    /// How many of its cycles have each cause, by its index.
+    /// How many of the stretch's cycles have each cause, by the cause's index.
     pub causes: [u64; CAUSES],
-    /// How many of them the engine took at the turn of the hart, which waited for it.
+    /// How many of the stretch's cycles the engine took at the turn of the hart, which waited for it.
     pub waiting: u64,
 }
 
@@ -47,7 +47,7 @@ pub struct Epochs {
     cycles: u64,
     /// A checkpoint is under way.
     under_way: bool,
-    /// Those that have ended; none if they are not wanted, or if memory ran out for one of them.
+    /// The stretches that have ended; None if they are not wanted, or if memory ran out for one of them.
     rows: Option<Vec<Row>>,
     /// The one that has not.
     open_row: Row,
@@ -134,7 +134,7 @@ fn rows_with(rows: Option<Vec<Row>>, row: Row) -> Option<Vec<Row>>
 }
 
 impl Epochs {
-    /// The stretches of no cycle; if they are not wanted, none will be listed. Takes no memory.
+    /// The stretches of no cycle. If they are not wanted, none will be listed. Allocates nothing.
     pub fn new(alloc: Global, wanted: bool) -> Epochs
         ensures epochs { AreEpochs result [] }
         ensures wanted { lists_rows result ≡ wanted }
@@ -178,7 +178,7 @@ impl Epochs {
         }
     }
 
-    /// The one that has not, if it has a cycle.
+    /// The stretch that has not ended, if it has a cycle.
     pub fn last(&self) -> Option<Row>
         ensures { (seen : List Taken) → AreEpochs self.now seen → result ≡ last_row (account_of seen) }
     {

@@ -15,15 +15,15 @@ pub struct RetiredCount {
 #[derive(Clone, Copy, Debug, PartialEq, Eq, Drop)]
 pub struct EventCycle {
     pub cycle: u64,
-    /// The count after the step; none in a boot.
+    /// How many instructions are retired after the cycle's step; None in a boot.
     pub retired: Option<RetiredCount>,
-    /// How many events were made.
+    /// How many events were made in the cycle.
     pub reported: usize,
-    /// A cut fell after the cycle.
+    /// Whether a cut fell after the cycle.
     pub fell: bool,
 }
 
-/// The count after a step.
+/// How many instructions are retired after a step that did this, from how many were before it; None in a boot.
 pub(crate) fn retired_after_step(retired: Option<RetiredCount>, did: Did) -> Option<RetiredCount>
     requires { IsShort retired (2 ^ 64 - 1) }
     ensures { result ≡ retired_after_step retired did }
@@ -42,7 +42,7 @@ pub(crate) fn retired_after_step(retired: Option<RetiredCount>, did: Did) -> Opt
     }
 }
 
-/// The count after the cut that may fall after the step: none, as a boot follows.
+/// How many instructions are retired after the cut that may fall after a step: None after one, as a boot follows.
 pub(crate) fn retired_after_cut(retired: Option<RetiredCount>, fell: bool) -> Option<RetiredCount>
     ensures { result ≡ retired_after_cut retired fell }
 {

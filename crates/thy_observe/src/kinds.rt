@@ -47,7 +47,7 @@ pub enum Kind {
 /// How many kinds of cycles there are.
 pub(crate) const KINDS: usize = 17;
 
-/// Of what kind an action of the engine is.
+/// The kind of a cycle in which the engine took this action.
 fn kind_of_engine(step: EngineStep) -> Kind
     ensures { result ≡ kind_of (Did.Engine step) }
 {
@@ -63,7 +63,7 @@ fn kind_of_engine(step: EngineStep) -> Kind
     }
 }
 
-/// Of what kind a cycle is that did this.
+/// The kind of a cycle that did this.
 pub(crate) fn kind_of(did: Did) -> Kind
     ensures { result ≡ kind_of did }
 {

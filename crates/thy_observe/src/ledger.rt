@@ -22,7 +22,7 @@ pub struct Ledger {
 }
 
 impl Ledger {
-    /// The ledger of no cycle.
+    /// A ledger of no cycle: each cause has 0.
     pub fn new() -> Ledger
         ensures { IsLedger result [] }
     {
@@ -43,7 +43,7 @@ impl Ledger {
         self.under_way = under_way_then(self.under_way, stepped.did, fell);
     }
 
-    /// How many cycles there were of a cause.
+    /// How many cycles had this cause.
     pub fn of(&self, cause: Cause) -> u64
         ensures counted { result ≡ count_in self.now cause }
         ensures cycles { (seen : List Taken) → IsLedger self.now seen → result ≡ how_many_by (cause_index cause) seen }

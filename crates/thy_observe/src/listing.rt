@@ -24,7 +24,7 @@ pub enum Call {
 #[derive(Drop)]
 pub struct Listing<N> {
     inner: N,
-    /// Those since the list was begun, in order; none if memory ran out for one of them.
+    /// The calls since the list was begun, in order; None if memory ran out for one of them.
     calls: Option<Vec<Call>>,
 }
 
@@ -60,7 +60,7 @@ fn emptied(calls: Option<Vec<Call>>) -> Option<Vec<Call>>
 }
 
 impl<N> Listing<N> {
-    /// A device that lists the calls of this one. None is listed yet. Takes no memory.
+    /// A device that lists the calls of `inner`. None is listed yet. Allocates nothing.
     pub fn over(alloc: Global, inner: N) -> Listing<N>
         ensures inner { result.inner ≡ inner }
         ensures none { IfSome result.calls (λ v. v.items ≡ []) }
@@ -71,7 +71,7 @@ impl<N> Listing<N> {
         }
     }
 
-    /// Begins the list anew, unless memory ran out for a call.
+    /// Empties the list, unless memory has run out for a call.
     pub fn begin_list(&mut self)
         ensures inner { self.new.inner ≡ self.old.inner }
         ensures none { IfSome self.new.calls (λ v. v.items ≡ []) }
@@ -117,7 +117,7 @@ impl<N: Nvm> Nvm for Listing<N> {
         self.inner.writes()
     }
 
-    /// It is listed if it succeeds, with its place.
+    /// Reads; the read is listed with its place if it succeeds.
     fn read(&mut self, at: u64) -> Result<Block, NvmError>
         requires place { at < length (N.device self.old.inner).image }
         requires up { (N.device self.old.inner).down ≡ false }
@@ -134,7 +134,7 @@ impl<N: Nvm> Nvm for Listing<N> {
         Ok(block)
     }
 
-    /// It is listed if it succeeds, with its place.
+    /// Writes; the write is listed with its place if it succeeds.
     fn write(&mut self, at: u64, block: &Block) -> Result<(), NvmError>
         requires place { at < length (N.device self.old.inner).image }
         requires up { (N.device self.old.inner).down ≡ false }
@@ -150,7 +150,7 @@ impl<N: Nvm> Nvm for Listing<N> {
         Ok(())
     }
 
-    /// It is listed if it succeeds.
+    /// Lets the oldest write land; the drain is listed if it succeeds.
     fn drain(&mut self) -> Result<(), NvmError>
         requires queued { 0 < length (N.device self.old.inner).queue }
         requires up { (N.device self.old.inner).down ≡ false }
@@ -166,7 +166,7 @@ impl<N: Nvm> Nvm for Listing<N> {
         Ok(())
     }
 
-    /// It is listed if it succeeds.
+    /// Makes a barrier, which is listed if it succeeds.
     fn barrier(&mut self) -> Result<(), NvmError>
         requires { (N.device self.old.inner).down ≡ false }
         ensures ok { OnOk result (IsSettled (N.device self.old.inner) (N.device self.new.inner)) }

@@ -27,7 +27,7 @@ const MOST_COUNT: u64 = 1 << 62;
 pub enum ReplayError {
     /// Memory ran out.
     Memory,
-    /// There are more instructions than can be counted.
+    /// There are more instructions than the replay can count.
     Count,
 }
 
@@ -40,7 +40,7 @@ impl From<AllocError> for ReplayError {
 /// A run that is executed again, up to a change of its state.
 #[derive(Drop)]
 pub(crate) struct Replay {
-    /// The plain machine at that change.
+    /// The plain machine, in the state after the changes so far.
     pub(crate) plain: Plain,
     /// The harts that retired the instructions from the start up to there, those that were lost left out.
     pub(crate) harts: Vec<u32>,

@@ -65,7 +65,7 @@ fn add_event_cycle(event_cycles: &mut Vec<EventCycle>, lost: bool, event_cycle: 
 }
 
 impl Tally {
-    /// The tally of no cycle. Takes no memory.
+    /// A tally of no cycle. Allocates nothing.
     pub fn new(alloc: Global) -> Tally
         ensures { IsTally result [] }
     {
@@ -82,7 +82,7 @@ impl Tally {
         }
     }
 
-    /// Adds the cycle of a step, in which `told` events were made, and after which a cut fell or not.
+    /// Adds the cycle of a step, in which `reported` events were made, and after which a cut fell or not.
     fn add(&mut self, stepped: &Stepped, reported: usize, fell: bool, cycle: u64)
         requires { CanSee IsTally self.old cycle }
         ensures { Sees IsTally self.old self.new (taken stepped.now reported fell) }
@@ -103,28 +103,28 @@ impl Tally {
         self.lost = add_event_cycle(&mut self.event_cycles, self.lost, event_cycle);
     }
 
-    /// How many cycles there were.
+    /// How many cycles were seen.
     pub fn cycles(&self) -> u64
         ensures { (seen : List Taken) → IsTally self.now seen → result ≡ length seen }
     {
         self.cycles
     }
 
-    /// How many cycles there were of a kind.
+    /// How many cycles of this kind were seen.
     pub fn of(&self, kind: Kind) -> u64
         ensures { (seen : List Taken) → IsTally self.now seen → result ≡ how_many (index_of kind) seen }
     {
         self.kinds[index_of(kind)]
     }
 
-    /// How many the engine took at the turn of the hart, which waited for it.
+    /// How many cycles the engine took at the turn of the hart, which waited for it.
     pub fn waiting(&self) -> u64
         ensures { (seen : List Taken) → IsTally self.now seen → result ≡ count_by has_waited seen }
     {
         self.waiting
     }
 
-    /// How many instructions are retired; none in a boot.
+    /// How many instructions are retired after the last cycle; None in a boot.
     pub fn retired(&self) -> Option<RetiredCount>
         ensures { (seen : List Taken) → IsTally self.now seen → result ≡ retired_after None seen }
     {

@@ -19,35 +19,35 @@ use thy_plain::Plain;
 /// The bytes that an instruction loaded or stored.
 #[derive(Clone, Copy, Debug, PartialEq, Eq, Drop)]
 pub struct Access {
-    /// The address of the first one.
+    /// The address of the first byte.
     pub at: u64,
-    /// How many: 1, 2, 4 or 8.
+    /// How many bytes were loaded or stored: 1, 2, 4 or 8.
     pub width: u64,
-    /// Their number after the instruction, the lowest byte first.
+    /// The number in these bytes after the instruction, the lowest byte first.
     pub value: u64,
 }
 
 /// An instruction that retired.
 #[derive(Clone, Copy, Debug, PartialEq, Eq, Drop)]
 pub struct Traced {
-    /// The cycle in which it did.
+    /// The number of the cycle in which the instruction retired.
     pub cycle: u64,
-    /// The hart that executed it.
+    /// The number, 0 or 1, of the hart that executed the instruction.
     pub hart: u32,
-    /// Its address.
+    /// The address of the instruction.
     pub pc: u64,
-    /// Its word, if pc is aligned and the word is in memory.
+    /// The word of the instruction, if pc is aligned and the word is in memory.
     pub word: Option<u32>,
-    /// What it loaded or stored, if it did.
+    /// The bytes that the instruction loaded or stored, if it did.
     pub access: Option<Access>,
 }
 
 /// The counts of the instructions that are asked for. The first instruction of a program has the count 1.
 #[derive(Clone, Copy, Debug, PartialEq, Eq, Drop)]
 pub struct Window {
-    /// The first count.
+    /// The count of the first instruction of the window.
     pub first: u64,
-    /// The last one, if there is one.
+    /// The count of the last instruction of the window; None if the window has no end.
     pub last: Option<u64>,
 }
 

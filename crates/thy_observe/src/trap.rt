@@ -8,11 +8,11 @@ use thy_isa::{CpuState, Effect, MachState, Regs, Status, cross, fetch_fault, wor
 /// A trap.
 #[derive(Clone, Copy, Debug, PartialEq, Eq, Drop)]
 pub struct Trap {
-    /// The hart that trapped.
+    /// The number, 0 or 1, of the hart that trapped.
     pub hart: u8,
     /// The address of the instruction that trapped.
     pub pc: u64,
-    /// The word there, if pc is aligned and the word is in memory.
+    /// The word at `pc`, if pc is aligned and the word is in memory.
     pub word: Option<u32>,
     /// The address of the load, store or atomic instruction that trapped.
     pub address: Option<u64>,

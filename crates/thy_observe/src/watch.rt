@@ -24,7 +24,7 @@ pub struct Watch {
 }
 
 impl Watch {
-    /// A watch that has seen no cycle. Takes no memory.
+    /// A watch that has seen no cycle. Allocates nothing.
     pub fn new(alloc: Global, wants_changes: bool, wants_epochs: bool) -> Watch
         ensures watch { IsWatch result [] }
         ensures changes { lists_changes result.changes ≡ wants_changes }

@@ -70,7 +70,7 @@ fn is_refusal(kind: ErrorKind) -> bool
 }
 
 impl<R: Files> Disk<R> {
-    /// The files of this runtime, before any put.
+    /// The files that a runtime reaches, before any put.
     pub fn over(rt: R) -> Disk<R>
         ensures { result ≡ record { puts = 0; failures = 0 } }
     {

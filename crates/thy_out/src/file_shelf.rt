@@ -24,7 +24,7 @@ pub struct FileShelf<R> {
 }
 
 impl<R: Files> FileShelf<R> {
-    /// The files of this runtime.
+    /// A shelf of the files that a runtime reaches, of which no call has failed.
     pub fn new(rt: R) -> FileShelf<R>
         ensures { ⟦<FileShelf<R> as Shelf>⟧.stock result ≡ unknown 0 }
     {

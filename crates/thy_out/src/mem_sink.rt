@@ -45,7 +45,7 @@ impl MemSink {
         })
     }
 
-    /// The bytes that the sink took.
+    /// The bytes that the sink has taken, in order.
     pub fn taken(&self) -> &[u8]
         ensures { result.now ≡ self.now.taken }
     {

@@ -26,7 +26,7 @@ impl<W: Write> StdSink<W> {
 }
 
 impl StdSink<Stdout> {
-    /// Standard output.
+    /// A sink over standard output, of which no call has failed.
     pub fn output(to: Stdout) -> StdSink<Stdout>
         ensures { ⟦<StdSink<Stdout> as Sink>⟧.stream result ≡ record { taken = None; faults = 0 } }
     {
@@ -35,7 +35,7 @@ impl StdSink<Stdout> {
 }
 
 impl StdSink<Stderr> {
-    /// Standard error.
+    /// A sink over standard error, of which no call has failed.
     pub fn error(to: Stderr) -> StdSink<Stderr>
         ensures { ⟦<StdSink<Stderr> as Sink>⟧.stream result ≡ record { taken = None; faults = 0 } }
     {

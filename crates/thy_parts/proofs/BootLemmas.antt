@@ -193,7 +193,7 @@ module _ {C : Type 0} (D : DesignOf C) (w : AreParts D) where
         (sym powered.boot) (omega arith);
   }
 
-  -- it is the one that is made over its DRAM
+  -- a scheme whose power has just come on is the one that is made over its DRAM
   pub power_makes : (p : Parameters) (s : Composed C) → IsPowered D p s → s ≡ powered_on D p (D.filling.dram s.control)
   power_makes p s on =
       let dram : D.filling.dram s.control ≡ on.dram = ap D.filling.dram on.control ∙ w.powering.power_dram p on.dram in

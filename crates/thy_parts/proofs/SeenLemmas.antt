@@ -292,7 +292,7 @@ module _ {C : Type 0} (F : FillingOf C) (laws : IsFilling F) where
 
   -- ---- what it writes
 
-  -- if a checkpoint was found a step reads, and one that failed wrote nothing, unless it is being written anew
+  -- if a checkpoint was found a step reads, and one that failed wrote nothing, unless it is being written again
   pub found_fails_unwritten : FoundFailsUnwritten F
   found_fails_unwritten o kept m b c n new (Reads r) done only f = read_failed F laws b c r n new f
   found_fails_unwritten o kept m b c n new (Loads r) done only f = absurd (none-done m done)

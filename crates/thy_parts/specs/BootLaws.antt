@@ -43,13 +43,13 @@ LoadsIfNone {C} F =
     → IsReadBy F read → IsSoundBoot F o g n b c → IsGoing b.stage
     → loads_at b.stage ≡ (has_read_at b.stage && loads (view_at read o b.stage n))
 
--- if a checkpoint was found nothing is queued, unless it is being written anew
+-- if a checkpoint was found nothing is queued, unless it is being written again
 abbrev pub FoundIsSettled : {C : Type 0} → FillingOf C → Type 0
 FoundIsSettled {C} F =
     (o : Origin) (g : BootImages) (n : Device) (b : Booting) (c : C) (m : Mark)
     → IsSoundBoot F o g n b c → IsGoing b.stage → (seen_at o g.kept b.stage).done ≡ Some m → migrates_at b.stage ≡ false → n.queue ≡ []
 
--- if a checkpoint was found, a step that failed wrote nothing, unless the checkpoint is being written anew
+-- if a checkpoint was found, a step that failed wrote nothing, unless the checkpoint is being written again
 abbrev pub FoundFailsUnwritten : {C : Type 0} → FillingOf C → Type 0
 FoundFailsUnwritten {C} F =
     (o : Origin) (kept : Option Mark) (m : Mark) (b : Booting) (c : C) (n new : Device) (q : Stage)

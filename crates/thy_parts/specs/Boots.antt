@@ -16,7 +16,7 @@ use Rattle.thy_checkpoint.specs.Sound.{BootImages, IsSoundBoot}
 use Rattle.thy_checkpoint.specs.Progress.{Progress, applying, is_under_way, new_engine}
 use Rattle.thy_parts.specs.Design.{DesignOf, Composed}
 
--- of a geometry, whatever failed: its tables are sound, and its DRAM has that size
+-- a scheme is of a geometry, whatever failed: its tables are sound, and its DRAM has that size
 pub record IsOf {C : Type 0} (D : DesignOf C) (p : Parameters) (s : Composed C) : Type 0 where
   pub same_p : D.filling.p s.control ≡ p
   pub sound : D.parts.sound s.control
@@ -54,7 +54,7 @@ pub record Boots {C : Type 0} (D : DesignOf C) (o : Origin) (s : Composed C) (n 
   pub unread : s.boot.stage ≡ Reads Unread → (D.filling.dram s.control).queued ≡ 0
   pub storeless : s.storeless ≡ true
 
--- with a checkpoint restored the engine writes what follows its commit, if something does
+-- the engine after a boot that is over: with a checkpoint restored it begins with what follows the commit, if something does
 abbrev pub engine_at : {C : Type 0} → DesignOf C → Stage → Progress → Progress
 engine_at D (Over Restored) e = if D.items.has_tail then applying e else e
 engine_at D stage e = e

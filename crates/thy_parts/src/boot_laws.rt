@@ -13,7 +13,7 @@ pub fn a_boot_loads_only_without_a_checkpoint<F: Fills>()
     ensures { LoadsIfNone F.filling }
 {}
 
-/// If a checkpoint was found nothing is queued, and a step that failed wrote nothing, unless it is being written anew.
+/// If a checkpoint was found nothing is queued, and a step that failed wrote nothing, unless the checkpoint is migrated.
 pub fn a_boot_that_found_a_checkpoint_only_reads<F: Fills>()
     ensures settled { FoundIsSettled F.filling }
     ensures failed { FoundFailsUnwritten F.filling }

@@ -30,11 +30,11 @@ pub trait Parts: Checkpoints {
     fn cut(control: Self::Control, pick: u64) -> Dram
         ensures { result ≡ lost (Self.filling.dram control) pick };
 
-    /// The controller's tables and its DRAM are sound. The call does nothing.
+    /// Recalls that the controller's tables and its DRAM are sound. The call does nothing.
     fn recall_sound(control: &Self::Control)
         ensures { parts.sound control.now };
 
-    /// Block `b` of memory. It fails only if that block is in the NVM.
+    /// Reads block `b` of memory as it was stored last. It fails only if that block is in the NVM.
     fn load<N: Nvm>(control: &Self::Control, b: u64, nvm: &mut N) -> Result<Block, NvmError>
         requires inside { b < length (Self.filling.loads control.now (N.device nvm.old)) }
         requires sized { length (N.device nvm.old).image ≡ (layout_at Self.filling (Self.filling.p control.now)).image_blocks }
@@ -44,7 +44,7 @@ pub trait Parts: Checkpoints {
         ensures side { OnErr result (parts.load_reads control.now b ≡ true) }
         ensures reads { IsReading result (N.device nvm.old) (N.device nvm.new) };
 
-    /// Block `b` of memory, as the committed checkpoint has it.
+    /// Reads block `b` of memory as the committed checkpoint has it.
     fn committed<N: Nvm>(
         control: &Self::Control,
         stage: EngineStage,
@@ -93,7 +93,7 @@ pub trait Parts: Checkpoints {
     fn overlay(control: &Self::Control) -> bool
         ensures { result ≡ parts.pages.overlaid control.now };
 
-    /// Merges the next such block into its page, if there is one.
+    /// Merges the next block that lies over its page, if there is one.
     fn merge(control: &mut Self::Control)
         ensures { control.new ≡ merged_next parts.pages control.old };
 
@@ -101,7 +101,7 @@ pub trait Parts: Checkpoints {
     fn promoting(control: &Self::Control) -> bool
         ensures { result ≡ parts.pages.promoting control.now };
 
-    /// Promotes the next such block, if there is one. If the NVM failed, the controller is as it was.
+    /// Promotes the next block of a page in promotion, if there is one. If the NVM failed, the controller is as it was.
     fn promote<N: Nvm>(control: &mut Self::Control, nvm: &mut N) -> Result<(), NvmError>
         requires sized { length (N.device nvm.old).image ≡ (layout_at Self.filling (Self.filling.p control.old)).image_blocks }
         requires up { (N.device nvm.old).down ≡ false }
@@ -110,7 +110,7 @@ pub trait Parts: Checkpoints {
         ensures some { OnErr result (parts.pages.promoting control.old ≡ true) }
         ensures reads { IsReading result (N.device nvm.old) (N.device nvm.new) };
 
-    /// Seals an epoch.
+    /// Seals an epoch: what was stored since the last seal goes to the checkpoint that begins.
     fn seal(control: &mut Self::Control)
         requires whole { parts.pages.promoting control.old ≡ false }
         requires bare { parts.pages.overlaid control.old ≡ false }

@@ -65,7 +65,7 @@ word-is base size words pc b a w h =
       aligned = w.aligned some;
     }
 
--- it can be fetched
+-- a word of memory can be fetched
 pub word-fetched : (base size pc : ℕ) → IsWord base size pc → fetch_fault base size pc ≡ None
 unfolding fetch_fault
 word-fetched base size pc w =

@@ -7,7 +7,7 @@ use thy_block::Bytes;
 pub(crate) struct Setup {
     /// The address of the first byte of program memory.
     pub(crate) base: u64,
-    /// The bytes that the program can read.
+    /// All bytes of the program's input.
     pub(crate) input: Bytes,
     /// How many bytes the console takes at most.
     pub(crate) room: u64,

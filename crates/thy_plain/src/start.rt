@@ -63,7 +63,7 @@ fn start_other(geometry: &Geometry, entry: u64) -> Option<OtherHart>
     }
 }
 
-/// Does nothing: a proof learns here what the type says of each byte.
+/// Recalls that each byte of a list is below 256, as its type says. The call does nothing.
 pub fn recall_are_bytes(bytes: &[u8])
     ensures { All IsByte bytes.now }
 {

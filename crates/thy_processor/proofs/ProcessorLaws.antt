@@ -218,7 +218,7 @@ front_after-there h (a ∷ b ∷ d ∷ more) there few = absurd (omega (arith, f
 
 -- ---- a hart that is alone
 
--- it is the first one
+-- a hart that is alone is the first one
 pub alone-first : (h : ℕ) (harts : List HartOf) → h < length harts → other_of h harts ≡ None → h ≡ 0
 alone-first h [] there alone = absurd (omega (arith, there))
 alone-first zero (a ∷ []) there alone = refl

@@ -33,7 +33,7 @@ impl Model for Fronted {
 }
 
 impl Fronted {
-    /// This processor.
+    /// This processor, with its hart in front kept apart.
     pub fn of(cpu: &CpuState) -> Fronted
         ensures { result ≡ cpu.now }
     {
@@ -94,7 +94,7 @@ impl Fronted {
         self.processor.cursor()
     }
 
-    /// The program break.
+    /// The program break, an address in bytes.
     pub fn brk(&self) -> u64
         ensures { result ≡ self.now.brk }
     {

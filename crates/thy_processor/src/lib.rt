@@ -1,5 +1,5 @@
-//! A processor whose harts stay where they are whichever takes a step, as a list of harts; and the same with one hart in front,
-//! as contracts above see a processor.
+//! A processor as a list of harts, in which each hart keeps its place whichever takes a step; and the same processor with one
+//! hart in front, as the contracts of other crates see it.
 //!
 //! Open specs/Processor.antt first, and src/processor.rt. It depends on thy_isa; thy_plain and
 //! thy_hart depend on it.

@@ -26,7 +26,7 @@ pub struct HartOf {
     /// The program counter, an address in bytes.
     pub pc: u64,
     pub regs: Regs,
-    /// What it has reserved: nothing with one hart.
+    /// The bytes that the hart has reserved: nothing with one hart.
     pub reserved: Reservation,
 }
 
@@ -62,7 +62,7 @@ impl Model for Processor {
 }
 
 impl Processor {
-    /// How many harts there are.
+    /// How many harts the processor has: 1 or 2.
     pub fn harts(&self) -> u8
         ensures { result ≡ length self.now.harts }
     {
@@ -102,7 +102,7 @@ impl Processor {
         self.cursor
     }
 
-    /// The program break.
+    /// The program break, an address in bytes.
     pub fn brk(&self) -> u64
         ensures { result ≡ self.now.brk }
     {

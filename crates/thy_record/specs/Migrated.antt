@@ -1,4 +1,4 @@
--- A slot of version 1, written anew in version 2: its blocks, and zeros behind them.
+-- A slot of version 1, written again in version 2: its blocks, and zeros after them.
 use Rattle.std.specs.Prelude.{◌≡◌, ℕ, ◌<◌, List, length, replicate, None}
 use Rattle.thy_block.specs.declared.block.Block.{Block}
 use Rattle.thy_block.specs.declared.parameters.Parameters.{Parameters}

@@ -1,5 +1,5 @@
 -- Part of the claim.
--- A slot: the processor's record, behind it the two tables, and in version 2 the counts of pages.
+-- A slot: the processor's record, after it the two tables, and in version 2 the counts of pages.
 use Rattle.std.specs.Prelude.{◌≡◌, ℕ, ◌+◌, ◌-◌, ◌*◌, ◌/◌, ◌%◌, ◌<◌, ◌≤◌, ◌==◌, nat_lt, nat_le, Bool, ◌&&◌, ◌||◌, not, if◌then◌else◌, List, map, replicate, slice_index_or, Option, None}
 use Rattle.std.specs.List.{range_with_len, position}
 use Rattle.std.specs.Option.{option_or, option_map}

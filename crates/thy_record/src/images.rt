@@ -86,8 +86,8 @@ pub fn check(image: &[u8], geometry: &Geometry, ceiling: u64) -> Result<Found, B
     check_image::<ThynvmImages>(image, geometry, ceiling)
 }
 
-/// The state of the checkpoint in the bytes of a file. A `check` of these bytes has found one. Both
-/// tables are gone through once.
+/// The state of the checkpoint in the bytes of a file, of which `check` has found one. Goes once over both tables. Fails if memory runs
+/// out.
 pub fn state(alloc: Global, image: &[u8], geometry: &Geometry) -> Result<MachState, AllocError>
     requires { HasCheckpointOf (thynvm_layouts geometry.now) image.now }
     ensures { IfOk result (λ m. HasState (thynvm_layouts geometry.now) image.now (state_of m)) }

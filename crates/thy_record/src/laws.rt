@@ -49,7 +49,7 @@ pub fn decoded_has_tables()
     ensures { DecodedHasTables }
 {}
 
-/// A slot of version 1 that is written anew in version 2, with zeros after it, means the same: it has the same
+/// A slot of version 1 that is written again in version 2, with zeros after it, means the same: it has the same
 /// processor and the same tables, counts of 0, and no fault either.
 pub fn a_slot_anew_means_the_same()
     ensures { AnewMeansTheSame }

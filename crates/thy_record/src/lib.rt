@@ -1,11 +1,10 @@
-//! Checkpoints in the NVM, of layout version 2, and images of version 1 and 2. What every layout has: the commit block, the
-//! processor's record, and the refusals of an image. And what is this layout's own: its header, tables, counts, slots,
-//! images in files, and laws of which writes leave a checkpoint alone. Callers rely on `check` and `state`, exactly what
-//! the bytes of a file mean, and on `written_decodes` and `decoded_has_tables`: what was written decodes, and what decodes
-//! has tables that a checkpoint may have.
+//! Images of the scheme thynvm: checkpoints of layout version 2, and images of version 1. What every layout has is in
+//! thy_layout; here are this layout's own header, tables, counts and slots, images in files, and laws of which writes leave a
+//! checkpoint alone. Callers rely on `check` and `state`, exactly what the bytes of a file mean, and on `written_decodes` and
+//! `decoded_has_tables`: what was written decodes, and what decodes has tables that a checkpoint may have.
 //!
-//! Open specs/ThynvmLayouts.antt first, then specs/Images.antt, specs/Slots.antt and src/images.rt. It depends on thy_layout and
-//! thy_view and their dependencies; all from thy_control on depend on it.
+//! Open specs/ThynvmLayouts.antt first, then specs/Images.antt, specs/Slots.antt and src/images.rt. It depends on thy_layout,
+//! thy_table, thy_view and their dependencies; thy_control, thy_thynvm_parts and thy_answer depend on it.
 #![tactic(auto)]
 
 mod header;

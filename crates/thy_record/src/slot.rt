@@ -1,4 +1,4 @@
-//! The bytes of a slot: the processor's record, 320 for each hart, behind it the block table and the page table, and in
+//! The bytes of a slot: the processor's record, 320 for each hart, after it the block table and the page table, and in
 //! version 2 the counts of pages.
 ghost use Rattle.std.specs.Prelude.{◌≡◌, ◌+◌, ◌*◌, ◌/◌, ◌<◌, ◌≤◌, length};
 ghost use Rattle.thy_layout.specs.declared.layout_version.LayoutVersion.TheVariants.{VersionTwo};
@@ -16,7 +16,7 @@ use thy_layout::{
 };
 use thy_table::{count_blocks as blocks_of_counts, table_blocks as blocks_of_tables};
 
-/// The block table of a slot, which follows the processor's record.
+/// The bytes of the block table in the bytes of a slot, in which it follows the processor's record.
 pub fn btt_in<'a>(slot: &'a [u8], geometry: &Geometry) -> &'a [u8]
     requires { 64 * (record_blocks geometry.now + geometry.now.btt / 8) ≤ length slot.now }
     ensures { table_in result.now ≡ (tables_in geometry.now (blocks_of slot.now)).btt }
@@ -34,7 +34,7 @@ pub(crate) fn ptt_in<'a>(slot: &'a [u8], geometry: &Geometry) -> &'a [u8]
     &slot[first..first + 8 * p.ptt as usize]
 }
 
-/// The block that entry `i` of the block table in these bytes of a slot lists; none if the entry is empty.
+/// The number of the block that entry `i` of the block table lists, in the bytes of a slot; None if the entry is empty.
 pub fn listed_block(slot: &[u8], i: usize, geometry: &Geometry) -> Option<u64>
     requires slot { 64 * (record_blocks geometry.now + geometry.now.btt / 8) ≤ length slot.now }
     requires entry { i < geometry.now.btt }
@@ -43,7 +43,7 @@ pub fn listed_block(slot: &[u8], i: usize, geometry: &Geometry) -> Option<u64>
     entry(btt_in(slot, geometry), i)
 }
 
-/// The page that entry `j` of the page table there lists; none if the entry is empty.
+/// The number of the page that entry `j` of the page table lists, in the bytes of a slot; None if the entry is empty.
 pub fn listed_page(slot: &[u8], j: usize, geometry: &Geometry) -> Option<u64>
     requires slot { 64 * (record_blocks geometry.now + table_blocks geometry.now) ≤ length slot.now }
     requires entry { j < geometry.now.ptt }
@@ -62,7 +62,7 @@ fn count_in(slot: &[u8], geometry: &Geometry, i: u64) -> u8
     slot[first + i as usize]
 }
 
-/// The count of a page in these bytes of a slot of version 2.
+/// The count of a page's stores, one byte, in the bytes of a slot of version 2.
 pub fn listed_count(slot: &[u8], page: u64, geometry: &Geometry) -> u64
     requires slot { length slot.now ≡ 64 * blocks_of_slot VersionTwo geometry.now }
     requires page { page < 64 * count_blocks geometry.now }

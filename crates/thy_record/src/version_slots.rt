@@ -19,7 +19,7 @@ pub fn slot_blocks_of(geometry: &Geometry, version: LayoutVersion) -> u64
     }
 }
 
-/// The first block of slot `s` of a version, 0 or 1.
+/// The place, in blocks of the image, of the first block of slot `s`, 0 or 1, of a version.
 pub fn slot_of(geometry: &Geometry, version: LayoutVersion, s: u64) -> u64
     requires { s < 2 }
     ensures place { result ≡ place_of_slot version geometry.now s }

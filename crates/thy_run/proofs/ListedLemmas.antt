@@ -21,7 +21,7 @@ not_le n c lt = elim (leb_tells n c) as (λ _. nat_le n c ≡ false) [
 up_false : (c n : ℕ) (ns : List ℕ) → c < n → cuts_up_to c (n ∷ ns) ≡ []
 up_false c n ns lt = take_while-cons (λ x. nat_le x c) n ns ∙ ap (λ b. cond b (n ∷ take_while (λ x. nat_le x c) ns) []) (not_le n c lt)
 
--- of cuts that rise and are all later than a cycle, none has fallen by that cycle
+-- no cut has fallen by a cycle, if all are later
 pub up_none : (c before : ℕ) (ns : List ℕ) → IsRising before ns → c ≤ before → cuts_up_to c ns ≡ []
 up_none c before [] rising le = refl
 up_none c before (n ∷ ns) rising le = let above = rising.0 in up_false c n ns (omega arith)

@@ -71,7 +71,7 @@ module _ (o : Origin) (turns : List ℕ) (v : View) (hart : ℕ) (all : HasItsTu
       omega (arith, many_yet two, one_more, more, late)
 
 module _ (o : Origin) (turns : List ℕ) (v : View) where
-  -- those reported once a cycle is done give it its turn
+  -- the turns that are reported once a cycle is done give it its turn
   pub after_has : (did : Did) → HasItsTurns (with_turns o turns) v → IsThere (with_turns o turns) v did
       → HasTurn (with_turns o (turns_after o.geometry.harts turns did)) v did
   after_has (Retired hart) all there = retired_has o turns v hart all there (o.geometry.harts == 1) refl

@@ -26,7 +26,7 @@ use Rattle.thy_view.specs.WithTurns.{with_turns, AgreeBelow, count_of, reach}
 pub record World (M : Type 0) : Type 0 where
   pub machine : M
   pub device : Device
-  -- the schedule from here on
+  -- the schedule of the cycles that are to come
   pub mix : Mix
   -- how many cuts have fallen
   pub passed : ℕ

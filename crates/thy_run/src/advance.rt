@@ -43,15 +43,15 @@ pub enum Outcome {
 /// What a pick's cycle came to, if it was asked for as a hart's.
 #[derive(Clone, Copy, Debug, PartialEq, Eq)]
 pub enum HartCycle {
-    /// A hart has advanced its instruction.
+    /// A hart has advanced its instruction, as this says.
     Advanced(Advance),
-    /// Another actor is to act. Nothing is done.
+    /// Another actor has to take the cycle. Nothing is done yet.
     Left,
     /// The hart's step failed.
     Failed,
 }
 
-/// Lists a hart, if there are two. Allocates nothing.
+/// Adds a hart to the list of turns, if there are two harts. Allocates nothing.
 #[inline(always)]
 pub fn list_hart(turns: &mut Bytes, harts: u64, hart: u8)
     requires { (harts ≡ 1) ⊎ (length (bytes_of turns.old) < room_of turns.old) }
@@ -145,7 +145,7 @@ pub fn take_other<M: Computer, N: Nvm>(
     }
 }
 
-/// Whether a cut falls after this cycle: the next one that is listed.
+/// Whether a cut falls after this cycle: it is the next one in the list of cuts.
 #[inline(always)]
 fn is_due(config: &Config, passed: usize, cycle: u64) -> bool
     ensures { let cuts = config.now.cuts in
@@ -154,7 +154,7 @@ fn is_due(config: &Config, passed: usize, cycle: u64) -> bool
     passed < config.cuts.len() && config.cuts.get(passed) == cycle
 }
 
-/// Whether what was done has an event of its own.
+/// Whether a step that did this has an event.
 #[inline(always)]
 fn is_reported(did: Did) -> bool
     ensures { result ≡ is_reported did }
@@ -184,8 +184,8 @@ fn advances_quietly<M>(progress: &Progress<M>, plan: &Plan, cycle: u64) -> bool
     !progress.fresh && !is_due(&plan.config, progress.passed, cycle)
 }
 
-/// Below which cycle each one in which a hart advances has nothing to report, as long as no cut falls: the cycle of the next
-/// cut that is listed. It is 0 if no cycle was done since the last cut.
+/// The cycle below which no cycle in which a hart advances has anything to report, as long as no cut falls: the one of the next listed cut,
+/// or `2^64 - 1` if none is left. It is 0 if no cycle was done since the last cut.
 pub fn quiet_below<M>(progress: &Progress<M>, plan: &Plan) -> u64
     ensures { AreQuietBelow plan.now.config.cuts progress.now result }
 {
@@ -207,7 +207,7 @@ pub fn stays_quiet<M>(progress: &Progress<M>, plan: &Plan, below: u64, cycle: u6
     cycle < below || advances_quietly(progress, plan, cycle)
 }
 
-/// The pick of a cut: the one at its position in the list, 0 if the list is shorter.
+/// The pick of the cut with this index in the list of cuts: 0, if the list of picks is shorter.
 fn tear(config: &Config, index: usize) -> u64
     ensures { result ≡ slice_index_or config.now.tears index 0 }
 {

@@ -9,13 +9,13 @@ use thy_view::CoreError;
 pub enum Stop {
     /// The program has ended, and its last checkpoint is committed.
     Ended(Status),
-    /// The device failed.
+    /// A call of the NVM failed.
     Nvm,
-    /// There was not enough memory.
+    /// An allocation failed.
     Memory,
-    /// The terminal failed.
+    /// A write to the terminal failed.
     Terminal,
-    /// The report failed.
+    /// A write to the report failed.
     Report,
     /// The number of cycles that the limit allows is done.
     Limit,
@@ -35,15 +35,15 @@ impl From<CoreError> for Stop {
     }
 }
 
-/// How a run ended.
+/// How a run ended, and what it did up to then.
 #[derive(Debug, Drop)]
 pub struct Ending {
     pub stop: Stop,
     pub events: Events,
-    /// How many cycles are done.
+    /// How many cycles the run has done.
     pub cycles: u64,
-    /// The terminal has failed.
+    /// Whether a write to the terminal has failed.
     pub terminal_failed: bool,
-    /// The report has failed.
+    /// Whether a write to the report has failed.
     pub report_failed: bool,
 }

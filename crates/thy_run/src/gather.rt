@@ -12,10 +12,10 @@ use thy_base::{Bytes, Nvm};
 use thy_isa::MachState;
 use thy_view::{Computer, CoreError, Did, Stepped};
 
-/// What was read.
+/// What was read of the machine and the NVM for the events and the terminal.
 #[derive(Drop)]
 pub struct Readings {
-    /// The file is loaded again, as the first cycle after a cut found no checkpoint.
+    /// Whether the program is loaded again: the first cycle after a cut found no checkpoint.
     pub reload: bool,
     /// The state that was restored, if one was.
     pub restored: Option<Box<MachState>>,

@@ -36,7 +36,7 @@ pub fn no_cycle_of_a_run_rests<M: Computer>()
     ensures { RunNeverRests M.kind }
 {}
 
-/// Of two epochs in a row that a run reports, with no power cut between them, one retired an instruction.
+/// Of two epochs in a row that a run reports, with no power cut between them, at least one retired an instruction.
 pub fn every_run_strides<M: Computer>()
     ensures { RunStrides M.kind }
 {}
@@ -47,7 +47,7 @@ pub fn two_runs_are_one<M: Computer>()
     ensures { TwoRunsAreOne M.kind }
 {}
 
-/// An observer sees the same cycles in both: what each did, its stall, and the cuts after it.
+/// An observer sees the same cycles in two runs of the same rules: what each cycle did, its stall, and the cuts after it.
 pub fn two_runs_show_one<M: Computer>()
     ensures { TwoRunsShowOne M.kind }
 {}

@@ -14,7 +14,7 @@ use thy_isa::{MachState, Status};
 use thy_text::{Event, Events};
 use thy_view::Did;
 
-/// Notes that the file is loaded again.
+/// Adds the event that the program is loaded again. Fails if memory runs out.
 fn note_load(events: &mut Events) -> Result<(), AllocError>
     ensures ok { OnOk result (events.new ≡ events.old ++ Reload ∷ []) }
     ensures err { OnErr result (events.new ≡ events.old) }
@@ -34,7 +34,7 @@ fn note_reload(events: &mut Events, reload: bool) -> Result<(), AllocError>
     Ok(())
 }
 
-/// Notes a commit.
+/// Adds the event of a commit. Fails if memory runs out.
 fn note_commit(
     events: &mut Events,
     epoch: u64,
@@ -51,7 +51,7 @@ fn note_commit(
     })
 }
 
-/// Notes the end of an epoch, in which these harts retired instructions.
+/// Adds the event of an epoch's end, with the harts that retired its instructions. Fails if memory runs out.
 fn note_seal(
     alloc: Global,
     events: &mut Events,
@@ -72,7 +72,7 @@ fn note_seal(
     })
 }
 
-/// Notes a restart, with the state that was restored.
+/// Adds the event of a restart, with the state that was restored. Fails if memory runs out.
 fn note_restart(
     events: &mut Events,
     epoch: u64,
@@ -114,7 +114,7 @@ fn note_did(
     }
 }
 
-/// Notes the end of the run, and returns the program's status.
+/// Adds the event of the run's end, and returns the program's status. Fails if memory runs out.
 fn note_last(events: &mut Events, state: Box<MachState>, cycle: u64) -> Result<Status, AllocError>
     ensures ok { let s = state.value in
         OnOk result (events.new ≡ events.old ++ Ended s.status s.count cycle (state_of s) ∷ []) }

@@ -7,7 +7,7 @@ ghost use Rattle.thy_run.specs.Watching.{Taken, CanSee, CanSeeCut, Forgets, Keep
 use thy_isa::MachState;
 use thy_view::Stepped;
 
-/// Looks on while a program runs. It changes nothing of what is done.
+/// What sees the cycles of a run, and changes nothing of it.
 pub trait Observer {
     /// The observer has seen these cycles of the machine, in order, and no others.
     ghost has_seen: { Self → List Taken → Type 0 };
@@ -28,16 +28,16 @@ pub trait Observer {
     fn keep(&mut self, stepped: &Stepped)
         ensures { Keeps has_seen keeps self.old self.new stepped.now };
 
-    /// Sees the cycle of the step that it keeps: the cut has fallen after it.
+    /// Sees the cycle of the step that the observer keeps: the cut has fallen after it. `reported` events were made in it.
     fn see_cut(&mut self, reported: usize, cycle: u64)
         requires { CanSeeCut keeps self.old cycle }
         ensures { SeesCutAfter has_seen keeps self.old self.new reported };
 
-    /// Forgets the step that it keeps: the cycle is not done.
+    /// Forgets the step that the observer keeps: its cycle is not done.
     fn forget(&mut self)
         ensures { Forgets has_seen keeps self.old self.new };
 
-    /// Sees the state in which the plain machine stops, which has no cycles.
+    /// Sees the state in which the plain machine stops, which has no cycles; `base` is the address of the first byte of its memory.
     fn see_last(&mut self, base: u64, state: &MachState)
         requires { has_seen self.old [] }
         ensures { has_seen_last self.new base (state_of state.now) };

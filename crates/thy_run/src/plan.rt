@@ -9,7 +9,7 @@ pub struct Plan {
     pub config: Config,
     /// The numbers of the configuration, which are in range.
     pub geometry: Geometry,
-    /// The state at which the program starts.
+    /// The state at which the program starts, with its input.
     pub start: Start,
     /// Whether the report has digests of memory.
     pub digest: bool,

@@ -62,7 +62,7 @@ fn pass_other<M: Computer, N: Nvm, O: Observer>(
     None
 }
 
-/// The cycles that a row has at most.
+/// How many cycles a row has at most.
 const ROW: u64 = 5;
 
 /// Below which cycle a row can begin: its cycles are left before the limit, and all of them are below this cycle.

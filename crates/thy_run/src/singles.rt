@@ -19,15 +19,15 @@ use thy_view::{Computer, Stepped};
 /// What one cycle of a run came to.
 #[derive(Drop)]
 pub enum SingleCycle {
-    /// It is done, came to this, and the run continues.
+    /// The cycle is done, its step did this, and the run continues.
     Goes(Stepped),
-    /// It is done, and the run stops.
+    /// The cycle is done, and the run stops for this reason.
     Stops(Stop),
-    /// It is not done, and the run stops.
+    /// The cycle is not done, and the run stops for this reason.
     Breaks(Stop),
 }
 
-/// A run before its first cycle.
+/// A run that has done no cycle: a new machine, and a schedule at its start. Fails if memory runs out.
 pub fn begin<M: Computer>(alloc: Global, plan: &Plan) -> Result<Progress<M>, AllocError>
     ensures { IfOk result (IsStarted M.kind plan.now) }
 {

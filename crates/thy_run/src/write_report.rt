@@ -45,7 +45,7 @@ pub struct Failures {
 }
 
 impl Failures {
-    /// The stop of a run whose cycle is done, if a sink failed.
+    /// Why a run stops after a cycle that is done: a sink failed. None if neither did; if both did, the report is named.
     pub fn stop(self) -> Option<Stop>
         ensures { result ≡ sink_stop self.terminal self.report }
     {

@@ -1,4 +1,4 @@
--- A step of the boot leads to the next moment: in the boot, or behind it with the hart at the checkpoint that was found.
+-- A step of the boot leads to the next moment: in the boot, or after it with the hart at the checkpoint that was found.
 use Rattle.std.proofs.Common.{◌≡◌, ◌≢◌, ℕ, ◌+◌, Bool, true, false, if◌then◌else◌, List, length, Option, Some, None, refl, sym, ◌∙◌, ap, subst, arith, inl, inr}
 use Rattle.thy_block.specs.declared.block.Block.{Block}
 use Rattle.thy_block.specs.declared.parameters.Parameters.{Parameters}
@@ -61,7 +61,7 @@ boots_spent o v shown = elim shown as (λ _. v.spent ≡ 0) [
   ]
 ]
 
--- ---- the phase behind a boot
+-- ---- the phase after a boot
 
 runs_where : (runs : Bool) → (if runs then Run else Halt) ≡ Run → runs ≡ true
 runs_where true e = refl
@@ -99,7 +99,7 @@ module _ (p : Parameters) (cpu : CpuState) where
   unfolding current
   current-from number blocks = refl
 
--- ---- behind the boot
+-- ---- after the boot
 
 -- a machine in the boot, of the run's geometry
 abbrev in_boot : {S : Type 0} → Origin → Machine S → Machine S

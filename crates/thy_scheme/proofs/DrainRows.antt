@@ -27,7 +27,7 @@ drained_queue n some = drop_one n.queue some
     drop_one [] some = absurd (omega (arith, some))
     drop_one (w ∷ ws) some = omega arith
 
--- ---- behind the boot
+-- ---- after the boot
 
 module _ {S : Type 0} (K : SchemeOf S) (o : Origin) (cycles : ℕ) (m : Machine S) (n : Device)
     (at : At K o cycles m n) (behind : m.phase ≢ Boot) where

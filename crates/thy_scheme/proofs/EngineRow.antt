@@ -29,7 +29,7 @@ use Rattle.thy_scheme.specs.Sound.{epochs_ahead, SoundRun}
 use Rattle.thy_scheme.proofs.KeepsLaws.{run_of, runs_behind, simulates_by, takes_none, left_on, held_kept, follows_kept, front_kept, counted_kept, epoch_kept, hart_left_kept, paced_kept, sound_kept, up_after}
 use Rattle.thy_scheme.proofs.WorkLaws.{NoMore, moves_fewer}
 
--- ---- the phase behind a commit
+-- ---- the phase after a commit
 
 ended_phase : (ends runs : Bool) → ends ≡ not runs → (if ends then Halt else Run) ≡ (if runs then Run else Halt)
 ended_phase true true e = absurd (cc)

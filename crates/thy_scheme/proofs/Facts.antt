@@ -1,4 +1,4 @@
--- What a moment behind the boot gives, and what the hart's turn does.
+-- What a moment after the boot gives, and what the hart's turn does.
 use Rattle.std.proofs.Common.{◌≡◌, ℕ, ◌&&◌, ◌||◌, not, Bool, true, false, Option, Some, None, is_some, refl, ◌∙◌, ap, subst}
 use Rattle.thy_block.specs.declared.mark.Mark.{Mark}
 use Rattle.thy_block.specs.Device.{Device}

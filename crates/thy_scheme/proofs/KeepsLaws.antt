@@ -36,7 +36,7 @@ use Rattle.thy_scheme.specs.Rows.{SimulatesCycle, At}
 use Rattle.thy_scheme.proofs.SmallLaws.{small_step}
 use Rattle.thy_scheme.proofs.WorkLaws.{NoMore, moves_same, leaves_no_more, uses_none}
 
--- ---- behind the boot
+-- ---- after the boot
 
 module _ {S : Type 0} (K : SchemeOf S) (o : Origin) where
   run_in : (phase : Phase) (m : Machine S) (n : Device) → phase ≢ Boot → SoundIn K o phase m n → SoundRun K o m n

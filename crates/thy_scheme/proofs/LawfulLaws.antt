@@ -125,7 +125,7 @@ short_free free dirty stored (Securing effect to) s w e = stated (nat_lt free (d
 short_free free dirty stored (Writing effect to done) s w e = absurd (cc)
 short_free free dirty stored (Retiring effect wrote) s w e = absurd (cc)
 
--- ---- what stands behind the boot
+-- ---- what holds after the boot
 
 module _ {S : Type 0} (K : SchemeOf S) (o : Origin) (m : Machine S) (n : Device) (l : IsLawfulScheme K) (up : n.down ≡ false) where
   -- a shortage is real

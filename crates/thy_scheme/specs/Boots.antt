@@ -66,8 +66,8 @@ pub record BootsOn {S : Type 0} (K : SchemeOf S) (o : Origin) (step : BootStep) 
   pub read : K.has_read t ≡ true
   pub still : (m : Mark) → (K.boot_view o s n).done ≡ Some m → K.migrates s ≡ false → new ≡ n
 
--- that failed in its action, and leaves what the boot found, whole, or what is loaded, if loading's commit block was written
--- before or this was its write; if a checkpoint was found it wrote nothing, unless the boot migrates
+-- a step of the boot failed in its action. It leaves what the boot found, whole, or what is loaded, if loading's commit block was written
+-- before or this was its write. If a checkpoint was found it wrote nothing, unless the boot migrates
 pub record BootFails {S : Type 0} (K : SchemeOf S) (o : Origin) (s : S) (n new : Device) : Type 0 where
   pub step : BootStep
   pub acted : ActionFailedBy (K.migrates s) (boot_did step) n new

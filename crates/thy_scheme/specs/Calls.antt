@@ -182,7 +182,7 @@ pub record Engines {S : Type 0} (K : SchemeOf S) (o : Origin) (k : CheckpointMar
   pub queue : queued_in K t new ≤ queued_in K s n + 1
   pub nearer : K.engine_left t + 1 ≤ K.engine_left s
 
--- that failed in its action, and leaves the committed checkpoint, whole, or the sealed one, if its commit block was written
+-- a step of the engine failed in its action. It leaves the committed checkpoint, whole, or the sealed one, if its commit block was written
 -- before or this was its write
 pub record EngineFails {S : Type 0} (K : SchemeOf S) (o : Origin) (k : CheckpointMarks) (n new : Device) : Type 0 where
   pub step : EngineStep

@@ -13,7 +13,7 @@ pub record CheckpointMarks : Type 0 where
   -- the sealed checkpoint's commit block was written, and no barrier has come since
   pub written : Bool
 
--- one committed checkpoint, and none sealed
+-- the marks with this one committed, and none sealed
 abbrev pub only : Mark → CheckpointMarks
 only m = record { done = m; sealed = None; written = false }
 
@@ -27,7 +27,7 @@ marks_after CommitWritten k = record k { written = true }
 marks_after (Committed epoch) k = only (unwrap_or k.sealed k.done)
 marks_after step k = k
 
--- after one that failed, what a cut may leave is as if the commit block's write was made
+-- the marks after a step of the engine that failed: what a cut may leave is as if the commit block's write was made
 abbrev pub marks_after_fault : EngineStep → CheckpointMarks → CheckpointMarks
 marks_after_fault CommitWritten k = record k { written = true }
 marks_after_fault step k = k

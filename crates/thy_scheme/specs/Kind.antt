@@ -26,7 +26,8 @@ own_left most Boot v g = g.boot_left + 2 * most
 own_left most Run v g = most - 1 - v.spent + idle_left most v.retired g.idle
 own_left most Halt v g = 0
 
--- with a drain for each write that is queued, and for each that those cycles queue
+-- the cycles left until the next instruction, or the end, at the most: also a drain for each write that is queued, and for each that those
+-- cycles queue
 abbrev pub left_ahead : ℕ → View → Gauge → ℕ
 left_ahead most v g = 1 + g.queued + 2 * own_left most v.phase v g
 

@@ -69,11 +69,11 @@ machine_over p s = record {
   last = None;
 }
 
--- one over this DRAM
+-- a machine whose power has just come on over this DRAM
 abbrev pub machine_on : {S : Type 0} → SchemeOf S → Parameters → DramContents → Machine S
 machine_on K p dram = machine_over p (K.calls.powered_on p dram)
 
--- this hart in front of a processor that has hart 0 in front, and hart 0 again
+-- a processor with this hart in front, of one with hart 0 in front; and back again
 abbrev pub cpu_fronted : ℕ → CpuState → CpuState
 cpu_fronted hart c = if hart == 0 then c else cpu_crossed c
 

@@ -158,7 +158,7 @@ retires_by (Over cause) = retires_over cause
 abbrev pub hart_did : ℕ → HartStep → Did
 hart_did hart step = if retires_by step then DidRetire hart else DidMove
 
--- after a step of this hart; once its instruction has ended, hart 0 is in front again
+-- the machine after a step of this hart; once its instruction has ended, hart 0 is in front again
 abbrev pub after_hart : {S : Type 0} → ℕ → HartStep → HartState → Contents → S → Machine S → Machine S
 after_hart hart step h c t m = record m {
   hart = record h { cpu = if ends_by step then cpu_fronted hart h.cpu else h.cpu };
@@ -195,7 +195,7 @@ after_seal t m = record m {
   idle = m.hart.epoch.retired == 0;
 }
 
--- after a step of the engine: with a commit the checkpoint is the committed one, and the machine may halt
+-- the phase after a step of the engine: with a commit the checkpoint is the committed one, and the machine may halt
 abbrev pub phase_after : EngineStep → Bool → Phase → Phase
 phase_after (Committed epoch) ends phase = if ends then Halt else Run
 phase_after step ends phase = phase
@@ -213,7 +213,7 @@ after_engine step t m = record m {
   spent = m.spent + 1;
 }
 
--- after the boot's last step: the hart begins after the checkpoint of this epoch
+-- the machine after the boot's last step: the hart begins after the checkpoint of this epoch
 abbrev pub running_from : {S : Type 0} → CpuState → ℕ → S → Machine S → Machine S
 running_from cpu epoch t m = record m {
   hart = new_hart m.hart.geometry cpu (epoch + 1);

@@ -43,7 +43,7 @@ nvm_drained m = record { did = NvmDrained; machine = m; action = Drain }
 abbrev pub dram_drained : {S : Type 0} → SchemeOf S → Machine S → Outcome S
 dram_drained K m = record { did = DramDrained; machine = after_drain (K.calls.drained m.scheme) m; action = Rest }
 
--- by what its step makes
+-- the outcome of an engine's cycle, by what its step makes
 abbrev pub stepped_by : {S : Type 0} → Made S EngineStep → Machine S → Outcome S
 stepped_by made m = record {
   did = engine_did m.lap made.answer;

@@ -10,7 +10,7 @@ use Rattle.thy_scheme.specs.Scheme.{SchemeOf}
 use Rattle.thy_scheme.specs.Calls.{owed_in}
 use Rattle.thy_scheme.specs.Machine.{Machine, moves_begun, moment_of}
 
--- of the instruction in hand, or the next one, and of those that the epoch has after it: each has at most 16 moves
+-- moves left of the instruction in hand, or the next one, and of those that the epoch has after it: each has at most 16
 abbrev pub instructions_left : Option ℕ → Moment → ℕ
 instructions_left begun m = moves_begun begun (moves_left m) + 1 + 17 * (m.hart.epoch.span - m.hart.epoch.retired - 1)
 

@@ -37,7 +37,7 @@ pub record SchemeOf (S : Type 0) : Type 1 where
   pub promoting : S → Bool
   -- no block was stored since the last seal
   pub storeless : S → Bool
-  -- none was in the epoch that was sealed last
+  -- no block was stored in the epoch that was sealed last
   pub sealed_storeless : S → Bool
   -- the hart may run while a checkpoint is under way
   pub overlaps : Bool
@@ -56,7 +56,7 @@ pub record SchemeOf (S : Type 0) : Type 1 where
   -- what is then seen of it, and whether the commit block was read
   pub boot_view : Origin → S → Device → View
   pub has_read : S → Bool
-  -- the image that the boot found has an older form, and the boot writes that checkpoint anew in the form of today
+  -- the image that the boot found has an older form, and the boot writes that checkpoint again in the form of today
   pub migrates : S → Bool
   -- actions that the boot has left, cycles of the engine, merges and promotions, and the most of each
   pub boot_left : S → ℕ

@@ -22,12 +22,12 @@ pub fn a_flush_simulates<S: Scheme>()
     ensures { FlushSimulates S.scheme }
 {}
 
-/// A block that is merged before a seal leads to the next moment.
+/// A merge of a block before a seal leads to the next moment.
 pub fn a_merge_simulates<S: Scheme>()
     ensures { MergeSimulates S.scheme }
 {}
 
-/// A block that is promoted leads to the next moment.
+/// A promotion of a block leads to the next moment.
 pub fn a_promotion_simulates<S: Scheme>()
     ensures { PromotionSimulates S.scheme }
 {}

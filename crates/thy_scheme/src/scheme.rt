@@ -28,26 +28,26 @@ use thy_view::BootStep;
 /// Only `new` allocates. A call returns `NvmError` only if the NVM failed; after that only `cut` may be called. A call that
 /// succeeds makes exactly what `scheme.calls` says of it.
 pub trait Scheme: Drop {
-    /// What the scheme means and shows.
+    /// The state, the invariants and the exact effects of the scheme's calls, by which contracts speak of it.
     ghost scheme: { SchemeOf Self };
 
-    /// How many blocks the scheme's NVM has.
+    /// How many blocks of 64 bytes the scheme's NVM has.
     fn nvm_blocks(geometry: &Geometry) -> u64
         ensures { result ≡ scheme.blocks geometry.now };
 
-    /// A scheme whose power has just come on, over a DRAM of any content. On a refusal the DRAM is given up.
+    /// A scheme whose power has just come on, over a DRAM of any content. Fails if memory runs out; then the DRAM is given up.
     fn new(alloc: Global, geometry: &Geometry, dram: Dram) -> Result<Self, AllocError>
         requires { IsDramOf geometry.now dram }
         ensures powered { IfOk result (λ s. scheme.powered geometry.now s) }
         ensures dram { IfOk result (λ s. scheme.dram s ≡ dram) }
         ensures exact { IfOk result (λ s. s ≡ scheme.calls.powered_on geometry.now dram) };
 
-    /// Loses power: all is gone but the DRAM, whose bytes are those that the pick draws.
+    /// Cuts the power: only the DRAM is left, and every byte of it becomes one that the pick draws.
     fn cut(self, pick: u64) -> Dram
         ensures drawn { result ≡ lost (scheme.dram self) pick }
         ensures sized { (p : Parameters) → scheme.is_of p self → IsDramOf p result };
 
-    /// Block `b` of memory. Nothing changes.
+    /// Reads block `b` of memory as it was stored last. Nothing changes if it succeeds.
     fn load<N: Nvm>(&self, b: u64, nvm: &mut N) -> Result<Block, NvmError>
         requires { b < length (scheme.holding self.now (N.device nvm.old)).blocks }
         ensures ok { IfOk result (λ block. block ≡ block_at (scheme.holding self.now (N.device nvm.old)).blocks b) }
@@ -58,7 +58,7 @@ pub trait Scheme: Drop {
         ensures frame { IsFramed (N.device nvm.old) (N.device nvm.new) }
         ensures cause { CountsFault result (N.device nvm.old).faults (N.device nvm.new).faults };
 
-    /// Stores block `b` of memory, or makes the copy that has to come first.
+    /// Stores block `b` of memory, or makes the copy that has to come first. There must be room for a store.
     fn store<N: Nvm>(&mut self, b: u64, block: &Block, nvm: &mut N) -> Result<Stored, NvmError>
         requires inside { b < length (scheme.holding self.old (N.device nvm.old)).blocks }
         requires ready { (scheme.holding self.old (N.device nvm.old)).ready ≡ true }
@@ -71,7 +71,7 @@ pub trait Scheme: Drop {
         ensures exact { let made = scheme.calls.store b block.now self.old (N.device nvm.old) in
             IfOk result (λ stored. Makes made stored (N.device nvm.old) self.new (N.device nvm.new)) };
 
-    /// Block `b` of memory, as the committed checkpoint has it. Nothing changes.
+    /// Reads block `b` of memory as the committed checkpoint has it. Nothing changes if it succeeds.
     fn committed<N: Nvm>(&self, b: u64, nvm: &mut N) -> Result<Block, NvmError>
         requires block { b < length (scheme.committed self.now (N.device nvm.old)) }
         requires stands { CanRun scheme self.now (N.device nvm.old) }
@@ -101,7 +101,7 @@ pub trait Scheme: Drop {
     fn overlaps() -> bool
         ensures { result ≡ scheme.overlaps };
 
-    /// How many writes are queued in the DRAM.
+    /// How many writes are queued in the scheme's DRAM.
     fn queued(&self) -> u64
         ensures { result ≡ scheme.queued self.now };
 
@@ -113,8 +113,7 @@ pub trait Scheme: Drop {
         ensures booting { (o : Origin) (n : Device) → IsBooting scheme o self.old n → BootDrains scheme o self.old n self.new }
         ensures exact { self.new ≡ scheme.calls.drained self.old };
 
-    /// Merges a block into its page. Only before a seal, with no checkpoint under way. If no block has to be merged,
-    /// nothing changes.
+    /// Merges a block into its page; no checkpoint may be under way. If no block has to be merged, nothing changes.
     fn merge_one(&mut self)
         requires idle { scheme.under_way self.old ≡ false }
         ensures some { scheme.overlaid self.old ≡ true
@@ -122,7 +121,7 @@ pub trait Scheme: Drop {
         ensures none { scheme.overlaid self.old ≡ false → self.new ≡ self.old }
         ensures exact { self.new ≡ scheme.calls.merged self.old };
 
-    /// Promotes a block of a page. If no block has to be promoted, it takes no action.
+    /// Promotes a block of a page, if one has to be promoted; otherwise it takes no action.
     fn promote_one<N: Nvm>(&mut self, nvm: &mut N) -> Result<(), NvmError>
         requires stands { CanRun scheme self.old (N.device nvm.old) }
         ensures ok { scheme.promoting self.old ≡ true
@@ -137,7 +136,8 @@ pub trait Scheme: Drop {
         ensures exact { let made = scheme.calls.promote self.old (N.device nvm.old) in
             IfOk result (λ done. Makes made done (N.device nvm.old) self.new (N.device nvm.new)) };
 
-    /// Seals an epoch: the checkpoint of memory as it is, and of this processor, is under way then.
+    /// Seals an epoch: a checkpoint of memory as it is now, and of this processor, begins. No checkpoint may be under way, no block to be
+    /// promoted, and none to be merged.
     fn seal(&mut self, cpu: &CpuState, epoch: u64)
         requires idle { scheme.under_way self.old ≡ false }
         requires whole { scheme.promoting self.old ≡ false }
@@ -147,7 +147,7 @@ pub trait Scheme: Drop {
             → Seals scheme o k cpu.now epoch self.old n self.new }
         ensures exact { self.new ≡ scheme.calls.sealed cpu.now epoch self.old };
 
-    /// Takes one action of the checkpoint that is under way.
+    /// Takes the next action of the checkpoint that is under way. One must be under way.
     fn engine_step<N: Nvm>(&mut self, nvm: &mut N) -> Result<EngineStep, NvmError>
         requires way { scheme.under_way self.old ≡ true }
         requires stands { CanRun scheme self.old (N.device nvm.old) }
@@ -161,7 +161,7 @@ pub trait Scheme: Drop {
         ensures exact { let made = scheme.calls.engine self.old (N.device nvm.old) in
             IfOk result (λ step. Makes made step (N.device nvm.old) self.new (N.device nvm.new)) };
 
-    /// Takes one action of the boot.
+    /// Takes the next action of the boot, which is not over. `start` is what it loads if it finds no checkpoint.
     fn boot_step<N: Nvm>(&mut self, start: &Start, nvm: &mut N) -> Result<BootStep, NvmError>
         requires boots { CanBoot scheme start.now self.old (N.device nvm.old) }
         ensures ok { (o : Origin) → Begins o start.now → IsBooting scheme o self.old (N.device nvm.old)
@@ -179,6 +179,6 @@ pub trait Scheme: Drop {
         ensures { (o : Origin) (n : Device) → scheme.boots o self.now n
             → result ≡ (scheme.has_read self.now && loads (scheme.boot_view o self.now n)) };
 
-    /// What holds of every scheme.
+    /// The laws of schemes, which hold of this one.
     ghost lawful: { IsLawful scheme };
 }

@@ -8,7 +8,7 @@ use thy_parts::Parts;
 use thy_shadow_parts::Pool;
 
 /// Blocks of pages that have a frame are loaded from it, all others where they were committed; a store goes into the frame of
-/// its page, whose blocks are copied first. With a seal a frame that is begun and not filled is so no more, and no block has
+/// its page, whose blocks are copied first. With a seal a frame that is begun and not filled is given up, and no block has
 /// ever to be merged or promoted.
 impl Parts for Relist {
     ghost use Rattle.thy_shadow_parts.proofs.PartsLemmas.{are_parts as parts_of_shadow};

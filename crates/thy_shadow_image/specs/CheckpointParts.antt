@@ -80,7 +80,7 @@ pub record IsIssuedCheckpoint (p : Parameters) (ceiling : ℕ) (n : Device) (cpu
   pub decodes : decode_by (shadow_layouts p) ceiling (next_image n (commit_of epoch)) ≡ At epoch (state_from p cpu memory)
   pub issued : IsIssued (looked_by (shadow_layouts p)) n (next_image n (commit_of epoch))
 
--- with the whole slot issued, and any header there that has no fault
+-- the next image decodes to the checkpoint, with the whole slot issued and under any header that has no fault
 abbrev pub IssuedDecodes : Type 0
 IssuedDecodes =
     (p : Parameters) (ceiling : ℕ) (n : Device) (cpu : CpuState) (table : List (Option ℕ)) (epoch : ℕ) (memory : List Block)

@@ -1,5 +1,5 @@
 -- Part of the claim.
--- The places of an image of shadow paging: header, commit block, two slots, and behind them a pool of pages. A
+-- The places of an image of shadow paging: header, commit block, two slots, and after them a pool of pages. A
 -- checkpoint has each page of memory in a page of the pool.
 use Rattle.std.specs.Prelude.{ℕ, ◌+◌, ◌*◌, ◌/◌, ◌%◌, List, Option, Some, None}
 use Rattle.thy_block.specs.declared.parameters.Parameters.{Parameters}

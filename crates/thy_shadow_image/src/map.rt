@@ -1,4 +1,4 @@
-//! The map in the bytes of a slot, behind the processor's record, eight bytes an entry.
+//! The map in the bytes of a slot, after the processor's record, eight bytes an entry.
 ghost use Rattle.std.specs.Prelude.{◌≡◌, ◌*◌, ◌<◌, length};
 ghost use Rattle.thy_layout.specs.Files.{blocks_of, table_in as entries_of};
 ghost use Rattle.thy_layout.specs.Entries.{entry_at};

@@ -7,17 +7,17 @@ ghost use Rattle.thy_shadow_image.specs.Places.{scheme_number, map_blocks as blo
 use thy_block::{Block, Geometry};
 use thy_layout::header_block_of;
 
-/// The number of this scheme.
+/// The number of shadow paging in the header of an image.
 pub const SCHEME: u64 = 2;
 
-/// The header of an image of this geometry.
+/// The header of shadow paging's images of this geometry.
 pub fn header_block(geometry: &Geometry) -> Block
     ensures { result ≡ header_of scheme_number geometry.now }
 {
     header_block_of(SCHEME, geometry)
 }
 
-/// How many blocks an image has.
+/// How many blocks an image of shadow paging has.
 pub fn blocks(geometry: &Geometry) -> u64
     ensures blocks { result ≡ image_blocks geometry.now }
     ensures in_range { IsInRange geometry.now }
@@ -50,7 +50,7 @@ pub fn pool_pages(geometry: &Geometry) -> u64
     p.pages + p.ptt
 }
 
-/// The first block of slot `s`, 0 or 1.
+/// The place, in blocks of the image, of the first block of slot `s`, 0 or 1.
 pub fn slot(geometry: &Geometry, s: u64) -> u64
     requires { s < 2 }
     ensures place { result ≡ slot_place geometry.now s }
@@ -59,7 +59,7 @@ pub fn slot(geometry: &Geometry, s: u64) -> u64
     2 + s * slot_blocks(geometry)
 }
 
-/// Block `c` of page `q` of the pool.
+/// The place, in blocks of the image, of block `c` of page `q` of the pool.
 pub fn pool(geometry: &Geometry, q: u64, c: u64) -> u64
     requires page { q < pages_of_pool geometry.now }
     requires block { c < 64 }

@@ -74,7 +74,7 @@ entry_at-committed k p frames pool q =
     ]
 
 module _ (k : ℕ) (p : Parameters) (frames : Listing Framed) where
-  -- of a page of memory, and of a frame
+  -- the entry of a page of memory, and the entry of a frame
   pub low : (n : ℕ) → n < p.pages
       → committed_entry k p frames (Some (held n)) ≡ (if is_below k (index_of page_key n frames) then None else Some (held n))
   low n l =

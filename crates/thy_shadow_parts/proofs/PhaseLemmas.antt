@@ -283,7 +283,7 @@ module _ (s : State) (n : Device) (sound : IsSoundState s) (sized : length n.ima
               ∙ ap (λ (d : ℕ). frame_block s j d) (sym place)
         ]
 
-  -- those that are filled lie below one that is not
+  -- filled frames lie below one that is not filled
   pub paged_all : (x : ℕ) → is_some (entry_at s.frames (x / 64)) ≡ false → ArePaged s n x → AllPaged s n
   paged_all x none h = record { each = λ j c l filled. h.each j c l (below j c l filled (cases_lt j (x / 64))) filled } where
     at_once : (j : ℕ) → is_some (entry_at s.frames j) ≡ true → j ≡ x / 64 → ⊥

@@ -98,7 +98,7 @@ rests_at phase storeless frames = Unit {0}
 
 -- ---- loads and stores
 
--- after a store that is done, one block was stored since the last seal; a copy stores none
+-- no block was stored since the last seal, after a store that returned this: one that is done stored a block, a copy stores none
 abbrev pub storeless_by : Stored → Bool → Bool
 storeless_by Done storeless = false
 storeless_by CopyFirst storeless = storeless

@@ -13,7 +13,7 @@ pub struct Held {
 }
 
 impl Held {
-    /// The entry of a number.
+    /// An entry that lists this number.
     pub fn new(number: u64) -> Held
         ensures { result ≡ held number }
     {
@@ -32,12 +32,12 @@ impl Keyed for Held {
 /// A filled frame: it has a page of memory as it was stored last.
 #[derive(Clone, Copy, Debug, PartialEq, Eq)]
 pub struct Framed {
-    /// The page's number.
+    /// The number of the page that the frame has.
     pub page: u64,
 }
 
 impl Framed {
-    /// The frame of a page.
+    /// A filled frame, which has this page.
     pub fn new(page: u64) -> Framed
         ensures { result ≡ framed page }
     {

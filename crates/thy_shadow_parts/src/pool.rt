@@ -93,7 +93,8 @@ impl Pool {
         })
     }
 
-    /// Tables and DRAM have their sizes, no page is listed twice, and each filled frame has a page of the pool.
+    /// Recalls that tables and DRAM have their sizes, that no page is listed twice, and that each filled frame has a page of
+    /// the pool. The call does nothing.
     pub fn recall_sound(&self)
         ensures { IsSoundState self.now }
     {
@@ -140,7 +141,7 @@ impl Pool {
         self.dram.read(self.geometry.frame(j, c))
     }
 
-    /// Block `b` as it was stored last. It fails only if that block is in the NVM.
+    /// Reads block `b` of memory as it was stored last. It fails only if that block is in the NVM.
     pub fn load<N: Nvm>(&self, b: u64, nvm: &mut N) -> Result<Block, NvmError>
         requires block { b < memory_blocks self.now.p }
         requires sized { IsSized self.now (N.device nvm.old) }
@@ -159,7 +160,7 @@ impl Pool {
         }
     }
 
-    /// Block `b` as it was committed.
+    /// Reads block `b` of memory as the committed checkpoint has it.
     pub fn committed<N: Nvm>(&self, b: u64, nvm: &mut N) -> Result<Block, NvmError>
         requires block { b < memory_blocks self.now.p }
         requires sized { IsSized self.now (N.device nvm.old) }
@@ -304,7 +305,7 @@ impl Pool {
         dram
     }
 
-    /// A seal: a frame that is begun and not filled is so no more.
+    /// Seals an epoch: a frame that is begun and not filled is given up.
     pub fn seal(&mut self)
         ensures { self.new ≡ sealed_state self.old }
     {

@@ -409,7 +409,7 @@ is_digit cs i x rest after number inside is counts l divided =
       below = subst (λ (k : ℕ). number % k < k) (sym left) (mod_below number many some.1);
     }
 
--- those from a position on are places, too
+-- the choices from a position on are places, too
 pub ArePlaces-drop : (size : ℕ) (cs : List Choice) (i : ℕ) → ArePlaces size (map place_in cs) → ArePlaces size (map place_in (drop i cs))
 ArePlaces-drop size cs zero are = are
 ArePlaces-drop size [] (suc i) are = tt
@@ -424,7 +424,7 @@ lists-at bs c i t inside e =
     at_drop_more (λ xs. lists_block xs c) bs i zero_block inside
     ∙ ap (λ s. if s then true else lists_block (drop (i + 1) bs) c) e
 
--- its index among these
+-- the index of a block among others
 pub index-at : (bs : List Block) (c : Block) (i : ℕ) (t : Bool) → i < length bs → is_same_block (block_at bs i) c ≡ t
     → index_of (drop i bs) c ≡ (if t then 0 else suc (index_of (drop (i + 1) bs) c))
 index-at bs c i t inside e =

@@ -34,7 +34,7 @@ impl Model for Choices {
     ghost view = { λ c. map place_in c.places.items };
 }
 
-/// Whether two blocks are the same.
+/// Whether two blocks have the same bytes.
 fn is_same_block(a: &Block, b: &Block) -> bool
     ensures { result ≡ is_same_block a.now b.now }
 {
@@ -191,7 +191,7 @@ fn number_in(places: &[Choice], copy: &Overlay<'_>) -> u128
 }
 
 impl Choices {
-    /// The choices of a device.
+    /// What a cut can leave of a device, place by place. Fails if memory runs out.
     pub fn of(alloc: Global, nvm: &MemNvm) -> Result<Choices, AllocError>
         ensures { IfOk result (λ choices. choices ≡ places_of nvm.now.device) }
     {
@@ -205,7 +205,7 @@ impl Choices {
         Ok(Choices { places })
     }
 
-    /// How many images they give. Stops at the last value of a `u128`.
+    /// How many images the choices give. The number saturates at the last value of a `u128`.
     pub fn count(&self) -> u128
         ensures { result ≡ min (count_of self.now) (2 ^ 128 - 1) }
     {

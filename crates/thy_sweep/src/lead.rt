@@ -8,7 +8,7 @@ use thy_block::Mark;
 /// How a boot over what a cut can leave has ended.
 #[derive(Clone, Copy, Debug)]
 pub struct Booted {
-    /// The checkpoint that the boot restored; none if it loaded the start.
+    /// The checkpoint that the boot restored; None if it loaded the start.
     pub mark: Option<Mark>,
     /// How many cycles the boot took.
     pub cycles: u64,
@@ -37,7 +37,7 @@ fn is_same(a: Option<Mark>, b: Option<Mark>) -> bool
     }
 }
 
-/// The boots of a checkpoint, and one more.
+/// A lead with one more boot that led to its checkpoint.
 fn with_boot(lead: Lead, boot: Booted) -> Lead
     ensures { result ≡ with_boot boot lead }
 {

@@ -6,7 +6,7 @@ ghost use Rattle.thy_sweep.specs.Repeats.{IsSeen, StaysSince};
 use crate::over_memory::OverMemory;
 use thy_block::{Block, Write};
 
-/// Whether two writes are the same.
+/// Whether two writes have the same place and the same block.
 fn is_same_write(a: &Write, b: &Write) -> bool
     ensures same { result ≡ true → a.now ≡ b.now }
     ensures every { a.now ≡ b.now → result ≡ true }

@@ -5,7 +5,7 @@ ghost use Rattle.thy_sweep.specs.Sums.{no_rows, lost_to, reloads_of, with_lead, 
 use crate::lead::Lead;
 use thy_block::Mark;
 
-/// What the rows of a sweep come to. Each number stops at the last value of a `u64`.
+/// What the rows of a sweep come to. Each number saturates at the last value of a `u64`.
 #[derive(Clone, Copy, Debug)]
 pub struct Sums {
     /// How many images were tried.
@@ -14,13 +14,13 @@ pub struct Sums {
     pub cycles: u64,
     /// How many images led to no checkpoint.
     pub reloads: u64,
-    /// After how many cycles the choice decides: images of one cycle led to two checkpoints, or to one and to none.
+    /// After how many cycles the choice of what a cut leaves decides: images of one cycle led to two checkpoints, or to one and to none.
     pub decided: u64,
-    /// The most cycles of a boot.
+    /// How many cycles the longest boot took.
     pub longest: u64,
-    /// The most instructions that were lost.
+    /// The most instructions that were lost with one image.
     pub most_lost: u64,
-    /// The instructions that were lost, over all images that were tried.
+    /// The sum of the instructions that were lost, over all images that were tried.
     pub lost: u64,
 }
 
@@ -45,7 +45,7 @@ fn reloads_of(mark: Option<Mark>, times: u64) -> u64
 }
 
 impl Sums {
-    /// The sums before anything was tried.
+    /// The sums of no rows: each is 0.
     pub fn new() -> Sums
         ensures { result ≡ no_rows }
     {
@@ -60,7 +60,7 @@ impl Sums {
         }
     }
 
-    /// With the boots of one lead, at a count of instructions.
+    /// The sums with the boots of one lead more, at a cycle whose count of instructions this is.
     fn with_lead(self, count: u64, lead: Lead) -> Sums
         ensures { result ≡ with_lead count self lead }
     {
@@ -78,7 +78,7 @@ impl Sums {
         }
     }
 
-    /// The sums with the boots of these leads.
+    /// The sums with the boots of these leads more, at a cycle whose count of instructions this is.
     fn with_leads(self, count: u64, leads: &[Lead]) -> Sums
         ensures { result ≡ with_leads count self leads.now }
     {
@@ -89,7 +89,7 @@ impl Sums {
         sums
     }
 
-    /// With one row more: the leads of a cycle at whose end this many instructions were retired.
+    /// The sums with one row more: the leads of a cycle at whose end this many instructions were retired.
     pub fn with_row(self, count: u64, leads: &[Lead]) -> Sums
         ensures { result ≡ with_row count self leads.now }
     {

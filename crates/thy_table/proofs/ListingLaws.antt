@@ -216,7 +216,7 @@ module _ {E : Type 0} (key : E → ℕ) where
           | inr s ↦ ap (lists key n) (entry_at-with_other t i j None s)
         ])
 
-    -- every entry made anew by a rule that leaves it its number
+    -- every entry changed by a rule that leaves it its number
     module _ (rule : E → Option E) (keeps : (e f : E) → rule e ≡ Some f → key f ≡ key e) where
       pub lists-mapped : (o : Option E) (n : ℕ) → lists key n (option_and_then rule o) ≡ true → lists key n o ≡ true
       lists-mapped None n h = h

@@ -1,4 +1,4 @@
--- A table whose first entries were made anew by a rule.
+-- A table whose first entries were changed by a rule.
 use Rattle.std.proofs.Common.{◌≡◌, ℕ, ◌+◌, ◌<◌, ◌≤◌, List, [], ◌∷◌, ◌++◌, length, map, take, drop, get_or, slice_set, Option, None, sym, ◌∙◌, ap, arith}
 use Rattle.std.specs.Option.{option_and_then}
 use Rattle.std.proofs.lemmas.List.{length-map, length-take-le, length-append, length-drop, map_more, drop_more, get_or_at, set_at, append_assoc, take_all, drop_all, append-nil}

@@ -28,7 +28,7 @@ count_at c page = slice_index c.counts page
 abbrev pub last_at : Tally → ℕ → ℕ
 last_at c page = slice_index c.lasts page
 
--- one store more to a page
+-- the counts after one store more to a page
 abbrev pub counted : ℕ → Tally → Tally
 counted page c = record c { counts = slice_set c.counts page (min (count_at c page + 1) most) }
 
@@ -49,7 +49,7 @@ abbrev pub greatest_of : ℕ → List ℕ → ℕ
 greatest_of most [] = most
 greatest_of most (n ∷ ns) = greatest_of (max most n) ns
 
--- of the pages from one to before another none is counted above the high threshold: the greatest of their counts is not
+-- no page from one to before another is counted above the high threshold, as the greatest of their counts is not
 abbrev pub are_sparse : Tally → ℕ → ℕ → Bool
 are_sparse c first end = nat_le (greatest_of 0 (take (end - first) (drop first c.counts))) c.high
 

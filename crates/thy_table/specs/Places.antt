@@ -1,6 +1,6 @@
 -- Part of the claim.
 -- The places of both devices, and the numbers of the blocks that they have. The NVM has the header (block 0), the
--- commit block (block 1), two slots of version 1, the places of memory's blocks, and behind them two slots of version 2.
+-- commit block (block 1), two slots of version 1, the places of memory's blocks, and after them two slots of version 2.
 use Rattle.std.specs.Prelude.{◌≡◌, ◌⊎◌, ℕ, ◌+◌, ◌*◌, ◌/◌, ◌<◌, ◌≤◌, Bool, true, false}
 use Rattle.thy_block.specs.declared.parameters.Parameters.{Parameters}
 use Rattle.thy_block.specs.Geometry.{memory_blocks}

@@ -38,18 +38,18 @@ pub enum Working {
 /// A live entry of the block translation table.
 #[derive(Clone, Copy, Debug, PartialEq, Eq)]
 pub struct BttEntry {
-    /// The block's number.
+    /// The number of the block that the entry lists.
     pub block: u64,
     /// Where the committed checkpoint has the block.
     pub v0: Version,
-    /// Where the checkpoint under way has it; if none is under way, the same as the committed one.
+    /// Where the checkpoint under way has the block; if none is under way, the same as the committed one.
     pub v1: Version,
     pub pend: Pending,
     pub work: Working,
 }
 
 impl Version {
-    /// The other place.
+    /// The other one of both places: home or alternate.
     pub fn other(self) -> Version
         ensures { result ≡ other_version self }
     {

@@ -81,14 +81,14 @@ impl Cell {
         }
     }
 
-    /// Where the committed checkpoint has the block.
+    /// The place at which the committed checkpoint has the block.
     pub fn penult(&self) -> Place
         ensures { result ≡ penult self.now }
     {
         self.placed(self.entry.v0, self.page.place)
     }
 
-    /// Where the checkpoint under way is to have it; the committed one's place if none is under way.
+    /// Where the checkpoint under way is to have the block; the committed one's place if none is under way.
     pub fn target(&self) -> Place
         ensures { result ≡ target self.now }
     {
@@ -151,7 +151,7 @@ impl Cell {
         }
     }
 
-    /// The place that a rule's write goes to.
+    /// The place to which a store by this rule writes the block.
     pub fn store_place(&self, rule: StoreRule) -> Place
         ensures { result ≡ store_place rule self.now }
     {
@@ -163,7 +163,7 @@ impl Cell {
         }
     }
 
-    /// The block after a rule's write.
+    /// The entries of the block after a store by this rule.
     pub fn after(&self, rule: StoreRule) -> Cell
         ensures { result ≡ after_store rule self.now }
     {

@@ -9,7 +9,7 @@ use std::alloc::{AllocError, Global};
 use std::marker::Model;
 use thy_block::{BLOCK_COUNTS, Block};
 
-/// The greatest count of a page.
+/// The greatest count of a page's stores: counts stop there.
 pub const MOST: u8 = 63;
 
 /// How many stores each page received since the last seal, up to 63; how many in the epoch that this seal ended; and

@@ -20,29 +20,29 @@ pub enum Site {
 /// A live entry of the page translation table.
 #[derive(Clone, Copy, Debug, PartialEq, Eq)]
 pub struct PttEntry {
-    /// The page's number.
+    /// The number of the page that the entry lists.
     pub page: u64,
     /// Where the committed checkpoint has the page.
     pub place: Site,
-    /// Where the checkpoint under way has it; if none is under way, the same as the committed one.
+    /// Where the checkpoint under way has the page; if none is under way, the same as the committed one.
     pub target: Site,
-    /// The page's frame was stored to since the last seal.
+    /// Whether the page's frame was stored to since the last seal.
     pub dirty: bool,
-    /// The page was promoted, and its frame was not yet written to the NVM.
+    /// Whether the page was promoted, and its frame was not yet written to the NVM.
     pub fresh: bool,
     /// The page's frame belongs to the checkpoint under way, which writes it to the target: with the last block it is
     /// free again, unless the page leaves.
     pub busy: bool,
-    /// The page leaves the table at the next commit.
+    /// Whether the page leaves the table at the next commit.
     pub leaving: bool,
-    /// How many blocks of its frame are filled, from the first on: at most 64, and then it is framed.
+    /// How many blocks of the page's frame are filled, from the first on: at most 64, and then the page is framed.
     pub filled: u8,
     /// How many blocks the checkpoint under way has written to the target, from the first on: at most 64.
     pub issued: u8,
 }
 
 impl Site {
-    /// The other place.
+    /// The other one of both places: home or alternate.
     pub fn other(self) -> Site
         ensures { result ≡ other_site self }
     {
@@ -54,7 +54,7 @@ impl Site {
 }
 
 impl PttEntry {
-    /// What holds of a page that no entry lists.
+    /// The entry that stands in for a page which no entry lists: it is at home, and has no frame.
     pub fn new(page: u64) -> PttEntry
         ensures { result ≡ no_page page }
     {

@@ -12,7 +12,7 @@ pub fn places_are_between_slots()
     ensures { PlacesAreBetweenSlots }
 {}
 
-/// A place of the DRAM lies within it.
+/// The number of each place of the DRAM lies below the DRAM's size.
 pub fn places_are_in_dram()
     ensures { PlacesAreInDram }
 {}

@@ -3,7 +3,7 @@ ghost use Rattle.std.specs.Prelude.{◌≡◌, Bool, Option, Some};
 
 use crate::keyed::Keyed;
 
-/// What becomes of each live entry of a table.
+/// A rule by which each live entry of a table is changed or freed.
 pub trait Rule<E: Keyed> {
     /// What the rule makes of an entry, as contracts say it: None if the entry is cleared.
     ghost gives: { Self → E → Option E };
@@ -16,7 +16,7 @@ pub trait Rule<E: Keyed> {
     ghost keeps_key: { (rule : Self) (e f : E) → gives rule e ≡ Some f → E.key f ≡ E.key e };
 }
 
-/// What is looked for in a table.
+/// A test of entries, by which a table is searched.
 pub trait Test<E> {
     /// Whether an entry passes, as contracts say it.
     ghost holds: { Self → E → Bool };

@@ -190,7 +190,7 @@ impl<E: Keyed> Table<E> {
         })
     }
 
-    /// How many entries there are, free ones included.
+    /// How many entries the table has, free ones included.
     pub fn size(&self) -> usize
         ensures size { result ≡ length self.now.entries }
         ensures small { result ≤ 2 ^ 32 }
@@ -213,7 +213,7 @@ impl<E: Keyed> Table<E> {
         self.live_end
     }
 
-    /// The place of the entry that lists a number.
+    /// The index of the entry that lists a number, if one does.
     pub fn find(&self, number: u64) -> Option<usize>
         ensures place { result ≡ index_of E.key number self.now }
         ensures inside { IfSome result (λ i. i < length self.now.entries) }
@@ -298,7 +298,7 @@ impl<E: Keyed> Table<E> {
         self.entries[i] = Some(entry);
     }
 
-    /// Makes an entry free.
+    /// Frees an entry.
     pub fn clear(&mut self, i: usize)
         requires { i < length self.old.entries }
         ensures { self.new ≡ with_entry i None self.old }
@@ -355,7 +355,7 @@ impl<E: Keyed> Table<E> {
         None
     }
 
-    /// No number is listed twice, and none that cannot be.
+    /// Recalls that no number is listed twice, and none that the table cannot list. The call does nothing.
     pub fn recall_lists_once(&self)
         ensures { IsListing E.key self.now }
     {

@@ -127,7 +127,7 @@ pub fn shelf_of(
     Ok(MemShelf::new(files, Vec::new(alloc)))
 }
 
-/// These bytes with other ones from a place on, none past the end.
+/// Bytes with a piece written over them from a place on, none past the end.
 pub fn patched(
     alloc: Global,
     bytes: &[u8],

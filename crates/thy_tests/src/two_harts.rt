@@ -131,7 +131,7 @@ fn who_stores_first_takes_the_others_reservation(rt: HostRuntime) {
     stands(&rt, &plain, Status::Running, 8);
 }
 
-/// As ADDS, with `sd x5,8(x6)` before the conditional store.
+/// The program ADDS, with `sd x5,8(x6)` before the conditional store.
 static STORES_BETWEEN: [u32; 5] = [0x00011337, 0x00100293, 0x100335AF, 0x00533423, 0x1853362F];
 
 #[test]

@@ -24,7 +24,7 @@ line_feed = 10 ∷ []
 abbrev pub turns_by : ℕ → List ℕ → ℕ
 turns_by hart turns = count_by (λ t. t == hart) turns
 
--- to the line's end: with two harts, how many instructions each retired
+-- the end of an epoch's line: with two harts, how many instructions each retired
 abbrev pub harts_parts : (harts : ℕ) → List ℕ → List (List ℕ)
 harts_parts harts turns =
     if harts == 1 then line_feed ∷ []

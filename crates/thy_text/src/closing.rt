@@ -14,16 +14,16 @@ use thy_layout::BadImage;
 #[derive(Clone, Copy, Debug, PartialEq, Eq)]
 pub enum FetchFault {
     Failed,
-    /// Nothing is under the name.
+    /// Nothing is stored under the name.
     Missing,
-    /// There are more bytes than are accepted.
+    /// More bytes are stored under the name than are accepted.
     TooLong,
 }
 
 /// How a run's report closes.
 #[derive(Clone, Copy, Debug, PartialEq, Eq)]
 pub enum Closing<'a> {
-    /// Invalid usage.
+    /// The arguments are invalid usage.
     Usage,
     /// The value of an option can't be read.
     Word(Field),
@@ -31,13 +31,13 @@ pub enum Closing<'a> {
     Value(Field, u64),
     /// The bytes under a name could not be read.
     Fetch(&'a str, FetchFault),
-    /// The bytes could not be put under a name.
+    /// The bytes could not be stored under a name.
     Put(&'a str),
-    /// The file is refused: the refusal's number and name.
+    /// The program file is refused: the refusal's number and name.
     File(u64, &'a str),
-    /// The file is refused: the refusal's number and name, and the number of the program header at fault.
+    /// The program file is refused: the refusal's number and name, and the index of the program header at fault.
     FileAt(u64, &'a str, u64),
-    /// The image is refused.
+    /// The saved image is refused, for this reason.
     Image(BadImage),
     /// The image has read more of its input than there is: its cursor, and the input's length, in bytes.
     Input { cursor: u64, length: u64 },
@@ -45,9 +45,9 @@ pub enum Closing<'a> {
     Terminal,
     /// The device failed.
     Nvm,
-    /// This many cycles are done, and the run has not ended.
+    /// The number of cycles that the limit allows is done, which is this, and the run has not ended.
     Limit(u64),
-    /// There was not enough memory.
+    /// An allocation failed.
     Memory,
 }
 

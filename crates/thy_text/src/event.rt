@@ -16,7 +16,8 @@ pub enum Event {
         epoch: u64,
         count: u64,
         cause: EndCause,
-        /// The harts that retired its instructions, in order, if there are two. With one hart none are listed.
+        /// The number, 0 or 1, of the hart that retired each instruction of the epoch, in order, if there are two. With one hart none are
+        /// listed.
         turns: Bytes,
     },
     /// The sealed checkpoint of the epoch was committed. Meanwhile `overlapped` instructions retired.
@@ -36,7 +37,7 @@ pub enum Event {
         count: u64,
         state: MachState,
     },
-    /// There was no checkpoint, so the file is loaded again.
+    /// After a cut no checkpoint was found; the program is loaded again.
     Reload,
     /// The committed checkpoint has a state that no longer runs.
     Ended {

@@ -23,7 +23,7 @@ impl Model for Events {
 }
 
 impl Events {
-    /// No events. Allocates nothing.
+    /// An empty list. Allocates nothing.
     pub fn new(alloc: Global) -> Events
         ensures { result ≡ [] }
     {
@@ -32,7 +32,7 @@ impl Events {
         }
     }
 
-    /// Adds an event at the end.
+    /// Adds an event at the end. Fails if memory runs out; then the list is as before.
     pub fn push(&mut self, event: Event) -> Result<(), AllocError>
         ensures ok { OnOk result (self.new ≡ self.old ++ event_of event ∷ []) }
         ensures err { OnErr result (self.new ≡ self.old) }
@@ -41,7 +41,8 @@ impl Events {
         Ok(())
     }
 
-    /// Adds the events of another list at the end, which gives them up. If memory runs out, both lists stay.
+    /// Moves the events of another list to the end of this one; the other is empty then. Fails if memory runs out; then both lists are as
+    /// before.
     pub fn append(&mut self, more: &mut Events) -> Result<(), AllocError>
         ensures ok { OnOk result ((self.new ≡ self.old ++ more.old) × (more.new ≡ [])) }
         ensures err { OnErr result ((self.new ≡ self.old) × (more.new ≡ more.old)) }
@@ -49,7 +50,7 @@ impl Events {
         self.items.append(&mut more.items)
     }
 
-    /// Takes away the last event, if there is one.
+    /// Removes the last event, if there is one.
     pub fn pop(&mut self)
         ensures { self.new ≡ take (length self.old - 1) self.old }
     {
@@ -63,7 +64,7 @@ impl Events {
         self.items.len()
     }
 
-    /// How many events there are. Two such numbers can be added.
+    /// How many events there are, below `2^63`: the sum of two such numbers does not wrap.
     pub(crate) fn short_len(&self) -> usize
         ensures length { result ≡ length self.now }
         ensures short { result < 2 ^ 63 }
@@ -71,7 +72,7 @@ impl Events {
         self.items.len()
     }
 
-    /// Event `i`, from 0.
+    /// The event at index `i`, from 0 and below the length.
     pub fn get(&self, i: usize) -> &Event
         requires { i < length self.now }
         ensures { slice_get self.now i ≡ Some (event_of result.now) }

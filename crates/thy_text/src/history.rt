@@ -24,7 +24,7 @@ impl Model for History {
 }
 
 impl History {
-    /// The earlier events, and the events of the last list.
+    /// A history: the events of earlier runs, and the events of the run that was begun last.
     pub fn new(earlier: Events, last: Events) -> History
         ensures { result ≡ record { earlier = earlier; last = last } }
     {
@@ -41,8 +41,8 @@ impl History {
         }
     }
 
-    /// The last list. If the call made one run, it has all events. In a comparison it has the events of the run that
-    /// was begun last, without the one that names its scheme, and none if a run after that was to begin and did not.
+    /// The events of the run that was begun last. If the call made one run, these are all. In a comparison the event that names the run's
+    /// scheme is left out, and the list is empty if a run after that was to begin and did not.
     pub fn last(&self) -> &Events
         ensures { result.now ≡ self.now.last }
     {
@@ -56,7 +56,7 @@ impl History {
         self.earlier.short_len() + self.last.short_len()
     }
 
-    /// Event `i` of all, from 0.
+    /// The event at index `i`, from 0, of both lists in a row.
     pub fn get(&self, i: usize) -> &Event
         requires { i < length (all_of self.now) }
         ensures { slice_get (all_of self.now) i ≡ Some (event_of result.now) }

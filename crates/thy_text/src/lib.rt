@@ -1,11 +1,11 @@
 //! What happened in a run: its events, what they say of the checkpoints, and their lines in a report. `write_event`,
 //! `write_closing` and the other writers of lines write exactly the line, or a first part of it if the sink failed.
 //!
-//! Each line of an event is put together and then written at once, so that a kill never leaves half a line. Contracts do
-//! not say this: the sink's calls are counted in a test.
+//! Each line of an event is put together and then written at once, so that a kill never leaves half a line. Contracts do not
+//! say this: the sink's calls are counted in a test.
 //!
-//! Open specs/Lines.antt first, then specs/Marks.antt, and src/event.rt. It stands on thy_block, thy_base, thy_isa and thy_record;
-//! on it stand thy_run and thy_answer.
+//! Open specs/Lines.antt first, then specs/Marks.antt, and src/event.rt. It depends on thy_base, thy_layout and their
+//! dependencies; thy_run and thy_answer depend on it.
 #![tactic(auto)]
 
 mod closing;

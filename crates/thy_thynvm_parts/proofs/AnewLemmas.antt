@@ -1,4 +1,4 @@
--- A checkpoint of version 1 means the same if it is written anew in version 2.
+-- A checkpoint of version 1 means the same if it is written again in version 2.
 use Rattle.std.proofs.Common.{◌≡◌, ◌≢◌, ℕ, ◌+◌, ◌%◌, ◌<◌, ◌≤◌, Bool, true, false, if◌then◌else◌, List, map, None, refl, sym, ◌∙◌, ap, subst, arith}
 use Rattle.std.specs.List.{range_with_len}
 use Rattle.std.proofs.lemmas.List.FromFn.{length-map-range_with_len, get_or-map-range_with_len}
@@ -77,7 +77,7 @@ module _ (p : Parameters) (commit : Block) (slot : List Block) (older : IsOlder 
       ∙ means_the_same.no_counts
       ∙ ap (λ (v : LayoutVersion). counts_in v p slot) (sym older.version)
 
-  -- the place of the slot that is written anew; slots lie before all places of memory, or after them
+  -- the place of the slot that is written again; slots lie before all places of memory, or after them
   place_is : place_of_slot (version_of scheme_number p (anew commit)) p (epoch_of (anew commit) % 2) ≡ slot_place p (epoch % 2)
   place_is =
       ap (λ (v : LayoutVersion). place_of_slot v p (epoch_of (anew commit) % 2)) version_is

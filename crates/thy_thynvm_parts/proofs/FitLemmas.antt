@@ -1,4 +1,4 @@
--- That engine and controller belong together stays so, over calls of the controller alone.
+-- Engine and controller stay together over calls of the controller alone.
 use Rattle.std.proofs.Common.{◌≡◌, Bool, true, false, refl, sym, ◌∙◌, subst}
 use Rattle.thy_block.specs.Device.{Device}
 use Rattle.thy_control.specs.Seal.{sealed_state}

@@ -1,6 +1,6 @@
 -- Part of the claim.
 -- The scheme thynvm as a scheme of parts. A position is an entry of the block table, whose version is copied, or,
--- behind these, 64 times an entry of the page table and a block of its page, which is written from the frame.
+-- after these, 64 times an entry of the page table and a block of its page, which is written from the frame.
 use Rattle.std.specs.Prelude.{◌≡◌, ◌≢◌, ℕ, ◌+◌, ◌-◌, ◌*◌, ◌≤◌, nat_lt, Bool, true, false, not, if◌then◌else◌, List, map, Option, Some, None}
 use Rattle.std.specs.List.{range_with_len}
 use Rattle.thy_block.specs.declared.block.Block.{Block}
@@ -88,7 +88,7 @@ written_by s None None = s
 abbrev pub written_next : State → State
 written_next s = written_by s (next_copy s) (next_page s)
 
--- ---- the slot behind the processor's record: both tables of the checkpoint under way, and the counts of the epoch before
+-- ---- the slot after the processor's record: both tables of the checkpoint under way, and the counts of the epoch before
 
 abbrev pub slot_rest : State → ℕ → Block
 slot_rest s k =
@@ -139,7 +139,7 @@ items_thynvm = record {
 
 -- ---- memory
 
--- as the committed checkpoint has it, and as the one under way does
+-- memory as the committed checkpoint has it, and as the one under way does
 abbrev pub penults : State → Device → List Block
 penults s n = map (penult_of s n) (range_with_len 0 (memory_blocks s.p))
 
@@ -186,7 +186,7 @@ pub record IsOfRest (s : State) : Type 0 where
   pub no_work : HasNoWork before
   pub copied : IsButCopied (sealed_state before) s
 
--- after such an epoch there is room for an instruction, or will be with the commit
+-- after an epoch that stored nothing there is room for an instruction, or will be with the commit
 abbrev pub HasRoom : Phase → State → Type 0
 HasRoom Resting s = 2 ≤ free_count s.btt
 HasRoom phase s = IsOfRest s

@@ -1,4 +1,4 @@
--- That engine and controller belong together stays so, over calls of the controller alone.
+-- Engine and controller stay together over calls of the controller alone.
 use Rattle.std.specs.Prelude.{◌≡◌, ℕ, true, false}
 use Rattle.thy_block.specs.Device.{Device}
 use Rattle.thy_isa.specs.declared.state.CpuState.{CpuState}

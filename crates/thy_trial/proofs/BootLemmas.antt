@@ -100,7 +100,7 @@ pub record IsBooting {M : Type 0} (K : KindOf M) (o : Origin) (copy : World M) (
   pub phase : (seen K o last).phase ≡ BootPhase
   pub cycles : last.cycles ≡ copy.cycles + k
 
--- it begins
+-- the boot begins
 pub begins_booting : {M : Type 0} (K : KindOf M) (o : Origin) (pick : ℕ) (w copy : World M) (m : M) (n : Device) (mix : Mix)
     → IsCopied K o pick w copy → IsOf copy m n mix → IsBooting K o copy m n mix 0
 begins_booting {M = M} K o pick w copy m n mix c is = record {
@@ -200,7 +200,7 @@ module _ {M : Type 0} (K : KindOf M) (plan : Plan) (pick : ℕ) (w copy : World 
         cycles = x.cycles;
       }
 
-  -- its last
+  -- the last cycle of a boot
   pub IsBooted-by : (next : M) (new : Device) (mix' : Mix) (r : Stepped) (found : Option Mark) → (x : IsNext K (origin_of plan) copy b.last k next new mix' r)
       → LeadsTo r.did found → IsBooted K (origin_of plan) copy x.last (record { mark = found; cycles = k + 1 })
   IsBooted-by next new mix' r found x leads = record {

@@ -54,11 +54,11 @@ pub record CanCopy {M : Type 0} (K : KindOf M) (o : Origin) (w : World M) (n : D
   pub up : n.down ≡ false
   pub empty : n.queue ≡ []
 
--- the world in which power comes on over it
+-- the world in which power comes on over the copy
 abbrev pub copied_to : {M : Type 0} → KindOf M → Origin → World M → M → Device → World M
 copied_to K o w m n = cut_off w m n (turns_kept o w.turns (K.decode o.geometry ceiling n.image))
 
--- power that comes on over such a device leads to a moment of the same run, whose view is what the image means
+-- power that comes on over such a copy leads to a moment of the same run, whose view is what the image means
 abbrev pub GoesOnOverCopy : {M : Type 0} → KindOf M → Type 0
 GoesOnOverCopy {M = M} K =
     (o : Origin) (pick : ℕ) (w : World M) (m : M) (n : Device)
@@ -77,7 +77,7 @@ goes_on (Restarted epoch count) = false
 goes_on (Refused bad) = false
 goes_on did = true
 
--- the image is refused
+-- a cycle refuses the boot's image
 abbrev pub refuses : Did → Bool
 refuses (Refused bad) = true
 refuses did = false
@@ -139,7 +139,7 @@ BootsWithin {M = M} K o copy next new most (Some b) =
 BootsWithin {M = M} K o copy next new most None =
     (last : World M) × IsUnended K o copy last most × (last.machine ≡ next) × (last.device ≡ new)
 
--- this from each such world
+-- what the boot of a machine comes to, from each world after a cut that has this machine, device and schedule
 abbrev pub BootsFrom : {M : Type 0} → KindOf M → Plan → M → M → Device → Device → Mix → ℕ → Result (Option Booted) NvmError → Type 0
 BootsFrom {M = M} K plan m next n new mix most result =
     (w copy : World M) (pick : ℕ) → IsCopied K (origin_of plan) pick w copy → IsOf copy m n mix → FewBefore w most
@@ -164,7 +164,7 @@ abbrev pub Restores : Origin → Part → Option Booted → Option Restored → 
 Restores o part None read = read ≡ None
 Restores o part (Some b) read = IsRestored o part b.mark read
 
--- whether it restored a checkpoint
+-- a boot restored a checkpoint
 abbrev pub has_restored : Option Booted → Bool
 has_restored None = false
 has_restored (Some b) = is_some b.mark

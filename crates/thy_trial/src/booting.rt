@@ -10,11 +10,11 @@ use thy_view::{Computer, Did};
 /// Whether a boot is over after a cycle.
 #[derive(Clone, Copy, Debug)]
 pub enum BootEnd {
-    /// It goes on.
+    /// The boot is not over.
     On,
-    /// It restored a checkpoint, or loaded the start.
+    /// The boot restored this checkpoint, or, if there is none, loaded the start.
     At(Option<Mark>),
-    /// It found an image that it refuses.
+    /// The boot refused the image.
     Refused,
 }
 

@@ -20,29 +20,29 @@ use thy_view::{Computer, CoreError};
 /// The room in which images are tried, one after another.
 #[derive(Drop)]
 pub struct Room {
-    /// For the copy of the device.
+    /// The room for the copy of the device.
     pub spare: Spare,
-    /// For the machine that boots.
+    /// The DRAM for the machine that boots.
     pub dram: Dram,
 }
 
 /// What trying an image came to.
 #[derive(Drop)]
 pub struct Found {
-    /// How its boot ended; nothing if it did not end within the cycles that it had.
+    /// How the image's boot ended; None if it did not end within the cycles that it had.
     pub booted: Option<Booted>,
     /// What was read of the state that was restored, if one was.
     pub state: Option<Restored>,
 }
 
-/// An image that was tried, and the room for the next one.
+/// What an image that was tried came to, and the room for the next one.
 #[derive(Drop)]
 pub struct Trial {
     pub found: Found,
     pub room: Room,
 }
 
-/// An image that was tried, unless it was before; and the room for the next one.
+/// What an image that was tried came to, None if its number was listed; and the room for the next one.
 #[derive(Drop)]
 pub struct PickTrial {
     pub found: Option<Found>,
@@ -50,7 +50,7 @@ pub struct PickTrial {
 }
 
 impl Room {
-    /// Room for the images that a cut can leave of a device of this shape, and for a machine of a plan.
+    /// Room for the images that a cut can leave of a device of this shape, and for a machine of a plan. Fails if memory runs out.
     pub fn new(alloc: Global, plan: &Plan, shape: &Shape) -> Result<Room, AllocError>
         requires { 0 < shape.now.queue }
         ensures dram { IfOk result (λ room. IsDramOf plan.now.geometry room.dram) }

@@ -18,7 +18,7 @@ use thy_view::{Computer, CoreError};
 /// What trying an image came to.
 #[derive(Drop)]
 pub struct Tried {
-    /// How its boot ended; nothing if it did not end within the cycles that it had.
+    /// How the image's boot ended; None if it did not end within the cycles that it had.
     pub booted: Option<Booted>,
     /// What was read of the state that was restored, if one was.
     pub state: Option<Restored>,

@@ -52,7 +52,7 @@ after-is (WriteAt place block) n new left = left
 after-is Barrier n new left = left.device
 after-is Drain n new left = left
 
--- also if it wrote nothing of its own
+-- a device is as an action leaves it also if it wrote nothing of its own
 pub left-as_was : (a : Action) (n : Device) → IsLeftBy a n (after n.writes a n)
 left-as_was Rest n = refl
 left-as_was (ReadAt place) n = refl

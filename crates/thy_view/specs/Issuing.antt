@@ -86,7 +86,7 @@ pub record IsCheckpoint (l : Layout) (ceiling : ℕ) (n : Device) (commit : Bloc
   pub decodes : decode_by l ceiling (next_image n commit) ≡ At (epoch_of commit) (state_by l (slot_of parts) memory)
   pub issued : IsIssued (looked_by l) n (next_image n commit)
 
--- this holds with the whole slot issued, and no fault in header, commit block and slot
+-- the next image is a checkpoint, with the whole slot issued, and no fault in header, commit block and slot
 abbrev pub IssuedIsCheckpoint : Type 0
 IssuedIsCheckpoint =
     (l : Layout) (ceiling : ℕ) (n : Device) (commit : Block) (parts : CheckpointParts) (memory : List Block)

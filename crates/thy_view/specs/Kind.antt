@@ -57,8 +57,7 @@ pub record KindOf (M : Type 0) : Type 1 where
   pub failed : M → Bool
   -- the boot has read the commit block
   pub has_read : M → Bool
-  -- in the boot of a machine: the image that it found has an older form, and it writes that checkpoint anew in the form
-  -- of today
+  -- a machine in its boot migrates: the image that it found has an older form, and it writes that checkpoint again in the form of today
   pub migrates : M → Bool
   -- what the DRAM holds
   pub dram : M → Contents
@@ -210,7 +209,7 @@ pub record IsSnapshot (o : Origin) (v : View) (s : MachState) : Type 0 where
   pub state : state_of s ≡ at o v.count
   pub count : s.count ≡ v.count
 
--- at a moment between two instructions, what was read is one
+-- what is read of a machine at a moment between two instructions is a snapshot
 abbrev pub Snapshots : {M : Type 0} → KindOf M → M → Device → Result MachState CoreError → Type 0
 Snapshots K m n result =
     (o : Origin) (k : ℕ) → K.is_at o k m n → is_between (K.view o m n) ≡ true
@@ -235,7 +234,7 @@ pub record IsProcessor (o : Origin) (before : View) (s : MachState) : Type 0 whe
 abbrev pub SnapshotsStopped : {M : Type 0} → KindOf M → M → Result MachState CoreError → Type 0
 SnapshotsStopped K m result = (o : Origin) (before : View) → K.has_failed o before m → IfOk result (IsProcessor o before)
 
--- at a moment after the boot, what was read is the console of the committed checkpoint from a byte on
+-- what is read of a machine at a moment after the boot is the console of the committed checkpoint from a byte on
 abbrev pub ShowsConsole : {M : Type 0} → KindOf M → ℕ → M → Device → Result Bytes CoreError → Type 0
 ShowsConsole K from m n result =
     (o : Origin) (k : ℕ) (done : Mark) → K.is_at o k m n → is_boot (K.view o m n).phase ≡ false
@@ -245,18 +244,18 @@ ShowsConsole K from m n result =
 abbrev pub ReadsNothing : {T : Type 0} → Device → Device → Result T CoreError → Type 0
 ReadsNothing n new result = (new ≡ n) × (result ≡ Err Nvm → ⊥)
 
--- at a moment after the boot, if that console ends before this byte, the device is left alone
+-- the device is left alone, at a moment after the boot, if the committed console ends before the first byte that is asked for
 abbrev pub LeavesAlonePast : {M : Type 0} → KindOf M → ℕ → M → Device → Device → Result Bytes CoreError → Type 0
 LeavesAlonePast K from m n new result =
     (o : Origin) (k : ℕ) (done : Mark) → K.is_at o k m n → is_boot (K.view o m n).phase ≡ false
     → (K.view o m n).done ≡ Some done → length (at o done.count).console ≤ from → ReadsNothing n new result
 
--- at a moment, whether the boot goes on and has found no checkpoint
+-- whether a machine's boot goes on and has found no checkpoint, at a moment
 abbrev pub ShowsLoading : {M : Type 0} → KindOf M → M → Bool → Type 0
 ShowsLoading K m loading =
     (o : Origin) (k : ℕ) (n : Device) → K.is_at o k m n → loading ≡ (K.has_read m && loads (K.view o m n))
 
--- after a call that was to read the device: it failed, or memory ran out and the device is as it was
+-- a device after a call that was to read it: the device failed, or memory ran out and the device is as it was
 abbrev pub HasFailedToRead : CoreError → Device → Device → Type 0
 HasFailedToRead Nvm old new = HasFailed old new × Rose old.faults new.faults
 HasFailedToRead (Memory e) old new = new ≡ old

@@ -45,7 +45,7 @@ Queues did old new = MatchBool (is_drained did) (new + 1 ≡ old) (new ≤ old +
 abbrev pub Boots : Did → ℕ → ℕ → Type 0
 Boots did old new = MatchBool (is_drained did) (new ≤ old) (new + 1 ≤ old)
 
--- of two epochs in a row one retires an instruction: whether the last one did stays known
+-- whether the last epoch retired no instruction stays known: after such an epoch the next one retires one
 abbrev pub Strides : Did → ℕ → Bool → Bool → Type 0
 Strides (Sealed epoch count cause) retired old new = (old ≡ true → 1 ≤ retired) × (new ≡ (retired == 0))
 Strides did retired old new = new ≡ old

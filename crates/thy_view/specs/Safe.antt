@@ -23,6 +23,6 @@ IsOneOf o kept sealed (At epoch state) =
 abbrev pub Safe : Reading → Origin → Option Mark → Option Mark → Device → Type 0
 Safe read o kept sealed n = (g : List Block) → Crash n g → IsOneOf o kept sealed (read o.geometry ceiling g)
 
--- a mark that is kept and in doubt as well is kept: a checkpoint that is written anew, in another form, is never in doubt
+-- a mark that is kept and in doubt as well is kept: a checkpoint that is written again, in another form, is never in doubt
 abbrev pub SameIsNoDoubt : Type 0
 SameIsNoDoubt = (read : Reading) (o : Origin) (m : Mark) (n : Device) → Safe read o (Some m) (Some m) n → Safe read o (Some m) None n

@@ -13,7 +13,7 @@ use Rattle.thy_view.specs.Origin.{Origin, turn_at}
 abbrev pub with_turns : Origin → List ℕ → Origin
 with_turns o turns = record o { turns = turns }
 
--- both give the same hart at each count below one
+-- two lists of turns give the same hart at each count below one
 abbrev pub AgreeBelow : Origin → List ℕ → ℕ → Type 0
 AgreeBelow o turns k = (j : ℕ) → j < k → turn_at (with_turns o turns) j ≡ turn_at o j
 

@@ -10,7 +10,7 @@ use Rattle.thy_layout.specs.declared.engine_step.EngineStep.TheVariants.{Copied,
 use Rattle.thy_view.specs.Dram.{WritesBlock}
 use Rattle.thy_view.specs.Pace.{Gauge}
 
--- after these an instruction begins, and more moves may be left than before
+-- a cycle that did this begins an instruction: more moves may be left than before
 abbrev pub begins_instruction : Did → Bool
 begins_instruction Loaded = true
 begins_instruction (Restarted epoch count) = true
@@ -18,14 +18,14 @@ begins_instruction (Retired hart) = true
 begins_instruction (Sealed epoch count cause) = true
 begins_instruction did = false
 
--- after these an epoch begins, so more copies may be owed and more blocks be promoted than before
+-- a cycle that did this begins an epoch: more copies may be owed and more blocks be promoted than before
 abbrev pub begins_epoch : Did → Bool
 begins_epoch Loaded = true
 begins_epoch (Restarted epoch count) = true
 begins_epoch (Sealed epoch count cause) = true
 begins_epoch did = false
 
--- after a commit more copies may be owed too, but only those that it was to add
+-- a cycle that did this may raise the copies that are owed; after a commit only by those that it was to add
 abbrev pub adds_copies : Did → Bool
 adds_copies (Committed epoch overlapped) = true
 adds_copies did = begins_epoch did

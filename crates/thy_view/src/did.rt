@@ -59,7 +59,7 @@ pub struct Stepped {
     pub did: Did,
     /// The hart's stall, if the cycle was its turn and advanced no instruction.
     pub stall: Option<Stall>,
-    /// The machine is halted from this cycle on.
+    /// Whether the machine is halted from this cycle on.
     pub ended: bool,
 }
 

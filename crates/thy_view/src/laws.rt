@@ -7,8 +7,8 @@ ghost use Rattle.thy_view.specs.Again.{GoesOnAfterCut, GoesOnAfterFault};
 
 use crate::Computer;
 
-/// If the kept checkpoint is also the one in doubt, a power cut leaves that checkpoint. So one that is written anew,
-/// in another form of the image, is never in doubt.
+/// If the kept checkpoint is also the one in doubt, a power cut leaves that checkpoint. So a checkpoint that is migrated to another form of
+/// the image is never in doubt.
 pub fn a_kept_mark_is_never_in_doubt()
     ensures { SameIsNoDoubt }
 {}
@@ -38,7 +38,7 @@ pub fn with_one_hart_each_cycle_has_its_turn()
     ensures { EachHasItsTurn }
 {}
 
-/// With one hart turns do not matter.
+/// With one hart turns do not matter: whatever is listed, the plain machine is in the same state at each count.
 pub fn with_one_hart_turns_do_not_matter()
     ensures { TurnsDontMatter }
 {}

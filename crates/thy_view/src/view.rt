@@ -17,11 +17,11 @@ pub enum Phase {
 #[derive(Clone, Copy, Debug, PartialEq, Eq)]
 pub struct View {
     pub phase: Phase,
-    /// The committed checkpoint.
+    /// The epoch and count of the committed checkpoint, if there is one.
     pub done: Option<Mark>,
     /// The checkpoint that is sealed and not yet committed.
     pub sealed: Option<Mark>,
-    /// The epoch that executes.
+    /// The number of the epoch that executes.
     pub epoch: u64,
     /// The instructions retired from the program's start on.
     pub count: u64,
@@ -29,7 +29,7 @@ pub struct View {
     pub retired: u64,
     /// The cycles of hart and engine since then, but for those that did nothing.
     pub spent: u64,
-    /// The instructions retired since the latest seal.
+    /// How many instructions were retired since the latest seal.
     pub lap: u64,
     /// Why the epoch is over, if it is.
     pub over: Option<EndCause>,

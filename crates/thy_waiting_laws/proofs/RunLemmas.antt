@@ -1,4 +1,4 @@
--- What holds behind the boot of a scheme that waits.
+-- What holds after the boot of a scheme that waits.
 use Rattle.std.proofs.Common.{◌≡◌, ℕ, ◌<◌, ◌≤◌, ◌||◌, not, Bool, true, false, is_some, nat_lt, if◌then◌else◌, refl, sym, ◌∙◌, ap, ap₂, subst, arith}
 use Rattle.std.proofs.lemmas.Bool.{ltb-true, not-true}
 use Rattle.thy_block.specs.Device.{Device, drained, counting}

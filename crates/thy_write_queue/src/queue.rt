@@ -37,7 +37,7 @@ pub(crate) fn waiting(queue: &HeapCircularBuffer<Write>, i: usize) -> Write
     }
 }
 
-/// Of a place, if there is one, and another, unless that is below `from`, the lower.
+/// The lower one of `lowest`, if there is one, and `at`. `at` does not count if it is below `from`.
 fn lower(from: u64, lowest: Option<u64>, at: u64) -> Option<u64>
     ensures { result ≡ lower from lowest at }
 {
@@ -76,7 +76,7 @@ pub(crate) fn count_for(queue: &HeapCircularBuffer<Write>, at: u64) -> usize
     count
 }
 
-/// Of the image's block at a place and the blocks queued for it, oldest first, the one at an index.
+/// The block with this index among the image's block at a place and the blocks queued for it, oldest first.
 pub(crate) fn choice(
     queue: &HeapCircularBuffer<Write>,
     at: u64,

@@ -63,7 +63,7 @@ impl Ring {
         })
     }
 
-    /// The blocks, without the queued writes.
+    /// The blocks that have landed, without the queued writes.
     pub fn image(&self) -> &[Block]
         ensures { result.now ≡ self.now.image }
     {
@@ -122,7 +122,7 @@ impl Ring {
         *self.newest(at)
     }
 
-    /// Of the image's block at a place and the blocks queued for it, oldest first, the one at an index.
+    /// The block with this index among the image's block at a place and the blocks queued for it, oldest first.
     pub fn choice(&self, at: u64, index: u64) -> Block
         requires place { at < length self.now.image }
         requires index { index ≤ length (queued_for self.now.queue at) }
@@ -166,7 +166,7 @@ impl Ring {
         self.image[at as usize] = *block;
     }
 
-    /// Loses every queued write.
+    /// Removes every queued write; none of them lands.
     pub fn clear_queue(&mut self)
         ensures { self.new ≡ unqueued self.old }
     {

@@ -68,7 +68,7 @@ pub(crate) fn newest_in<'a>(
     }
 }
 
-/// Of the image's block at a place and the blocks queued for it, oldest first, the one at an index.
+/// The block with this index among the image's block at a place and the blocks queued for it, oldest first.
 pub(crate) fn choice_in(
     queue: &Option<HeapCircularBuffer<Write>>,
     at: u64,

@@ -93,7 +93,7 @@ class Wording:
 WORDINGS = {
     f"sentences of more than {SENTENCE} words": Wording(long_sentences, 370, 0),
     f"table cells of more than {CELL} words": Wording(long_cells, 75, 0),
-    "that of, those of": Wording(phrases("that of", "those of"), 462, 1),
+    "that of, those of": Wording(phrases("that of", "those of"), 462, 0),
     "so many, as many": Wording(phrases("so many", "as many"), 289, 0),
     "no sooner": Wording(phrases("no sooner"), 0, 0),
     "so it is": Wording(phrases("so it is"), 29, 0),

@@ -35,7 +35,7 @@ impl Control {
         self.dram.drain();
     }
 
-    /// Cuts the power: the tables are lost, and the DRAM holds what the pick draws.
+    /// Cuts the power: the tables are lost, and every byte of the DRAM becomes one that the pick draws.
     pub fn cut(self, pick: u64) -> Dram
         ensures { result ≡ lost self.dram pick }
     {

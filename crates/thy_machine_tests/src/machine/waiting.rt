@@ -14,7 +14,7 @@ use thy_layout::EngineStep;
 use thy_test_support::HELLO;
 use thy_view::Did;
 
-/// It prints in its first epoch, and ends in its second.
+/// A program that prints in its first epoch, and ends in its second.
 pub(super) static TWO_EPOCHS: Row = Row {
     words: HELLO,
     epoch: 6,

@@ -33,7 +33,7 @@ struct Beside {
 #[derive(Drop)]
 struct Moments {
     seen: Seen,
-    /// A frame that was begun for a page was begun anew for another one.
+    /// A frame that was begun for a page was begun again for another one.
     begun_anew: bool,
     /// A cut while a page was copied.
     cut_copying: bool,
@@ -70,7 +70,7 @@ impl Beside {
         self.versions.note(rt, step, seen);
     }
 
-    /// After a cut no page has a frame.
+    /// Clears the frames: after a cut no page has one.
     fn clear(&mut self) {
         self.framed.clear();
         self.begun = None;

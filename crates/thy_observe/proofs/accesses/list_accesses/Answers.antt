@@ -8,7 +8,7 @@ loop-done-init g c =
     IsLogged-first g.M.Computer.kind g.met.M.Computer.lawful c.args.plan.now c.in-Ok.progress (g.N.Nvm.device c.args.nvm.now.inner) c.args.window c.new-rows.result.items
     c.requires.planned c.requires.fitted c.in-Ok.ensures c.new-rows.ensures.items
 
--- the run continues after the list was begun anew
+-- the run continues after the list was begun again
 pub single-requires-clause-running : goal.single-requires-clause-running
 single-requires-clause-running g c =
     let device = g.N.Nvm.device in

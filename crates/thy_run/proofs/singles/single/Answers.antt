@@ -24,7 +24,7 @@ returns-then-is_quiet g c = λ fitted turns t r running.
     (g.R.Sink.stream c.args.report.now) c.requires.planned running
     c.in-Some.stepped (c.in-Some.ensures fitted turns running.goes) (c.is_quiet.ensures.0 c.if-is_quiet.true)
 
--- it has
+-- the cycle has something to report
 pub report_cycle-requires-clause-stepped : goal.report_cycle-requires-clause-stepped
 report_cycle-requires-clause-stepped g c =
     let h = c.requires.running in

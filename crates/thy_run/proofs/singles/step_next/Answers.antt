@@ -33,7 +33,7 @@ returns-in-Advanced g c = λ fitted turns goes.
     (sym c.stepped.ensures)
     (c.in-Advanced.ensures.advances fitted turns d)
 
--- its step failed
+-- the step of the hart failed
 pub returns-in-Failed : goal.returns-in-Failed
 returns-in-Failed g c = λ fitted turns goes.
     let d = drawn_on g.M.Computer.kind c.args.plan.now fitted c.args.progress.now

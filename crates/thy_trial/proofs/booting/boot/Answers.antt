@@ -42,7 +42,7 @@ returns-in-At-clause-boots g c = λ w copy pick is of few.
       x.is_of.device,
     )
 
--- it goes on
+-- the boot continues
 pub loop-done-preserved : goal.loop-done-preserved
 loop-done-preserved g c = record {
   boots = λ w copy pick is of few.
@@ -63,7 +63,7 @@ loop-done-preserved g c = record {
   faults = c.in_ok-stepped.ensures.cause ∙ c.loop-done.invariant.faults;
 }
 
--- its image is refused
+-- the boot's image is refused
 pub returns-in-Refused-clause-boots : goal.returns-in-Refused-clause-boots
 returns-in-Refused-clause-boots g c = λ w copy pick is of few.
     let K = g.M.Computer.kind in
@@ -84,7 +84,7 @@ returns-in-Refused-clause-boots g c = λ w copy pick is of few.
       x.is_of.device,
     )
 
--- it has not ended
+-- the boot has not ended
 pub returns-clause-boots : goal.returns-clause-boots
 returns-clause-boots g c = λ w copy pick is of few.
     let l = c.loop-done in

@@ -60,7 +60,7 @@ returns-then-known-clause-room g c =
           subst (λ k. k < 2 ^ 64) (sym (c.into_spare-spare.ensures.cuts ∙ ap (λ (d : Device). d.left_room) e)) c.requires.room.cuts;
     }
 
--- its number was listed
+-- the image's number was listed
 pub returns-then-known-clause-listed : goal.returns-then-known-clause-listed
 returns-then-known-clause-listed g c =
     let n : Device = g.N.OverMemory.memory c.args.nvm.now in
@@ -76,7 +76,7 @@ returns-then-known-clause-listed g c =
       ap (λ k. is_listed k items) (sym number) ∙ (and_parts c.lands_whole.result (is_listed c.number_of-number.result items) known).1,
     )
 
--- its number is listed then, and was not where blocks land whole
+-- the image's number is listed then, and was not where blocks land whole
 pub returns-in-Ok-clause-listed : goal.returns-in-Ok-clause-listed
 returns-in-Ok-clause-listed g c =
     let n : Device = g.N.OverMemory.memory c.args.nvm.now in
