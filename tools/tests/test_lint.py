@@ -288,6 +288,17 @@ class Proofs(CopyTest):
         self.call("proofs", "--write")
         self.assertTrue(self.page().endswith("| `work` | *No contract.* |\n"))
 
+    def test_a_module_that_is_public(self):
+        self.file("crates/middle/src/lib.rt", "//! In the middle.\npub mod inner;\nmod deep;\n")
+        self.file("crates/middle/src/inner.rt", "//! Inside.\nmod deep;\n\npub use deep::shown;\n")
+        text = "/// Is shown.\npub fn shown()\n    ensures { a }\n{}\n\n/// Is not.\npub fn hidden()\n    ensures { a }\n{}\n"
+        self.file("crates/middle/src/inner/deep.rt", text)
+        self.file("crates/middle/src/deep.rt", text)
+        self.call("proofs", "--write")
+        self.assertIn("### middle\n\nIn the middle.\n\n| law | what it says |\n|---|---|\n| `inner::shown` | Is shown. |\n", self.page())
+        self.assertNotIn("hidden", self.page())
+        self.assertNotIn("`shown`", self.page())
+
     def test_refusals(self):
         os.remove(self.path("docs/PROOFS.md"))
         self.refuses("cannot read docs/PROOFS.md: No such file or directory", "proofs")
@@ -311,6 +322,12 @@ class Names(CopyTest):
     def test_names_that_are_found(self):
         done = self.names(NAMES + "\n`run_it` and `check_map`; `low`, `image`, `--picture` and `if`.\n")
         self.assertEqual((done.out, done.err, done.status), ("10 names in 1 documents are found\n", "", 0))
+
+    def test_calls_of_a_module(self):
+        self.file("crates/low/src/inner/deep.rt", "pub fn deepest() {}\n")
+        self.assertEqual(self.names("`inner::deepest`\n").out, "1 names in 1 documents are found\n")
+        said = "README.md:1: `outer::deepest`: outer::deepest is not in the repository\n"
+        self.assertEqual(self.names("`outer::deepest`\n").out, said)
 
     def test_names_that_are_nowhere(self):
         for text, said in (

@@ -1,8 +1,8 @@
 -- The job of an order that runs the machine once.
 use Rattle.std.proofs.Common.{◌≡◌, Option, Some, None, ap, subst}
 use Rattle.thy_base.specs.Config.{fault_of as range_fault}
-use Rattle.thy_arguments.specs.Settings.{Job, Order, run, resume, bench, compare, plain, make, IsInRange}
-use Rattle.thy_answer.specs.Sources.{ProgramSource, file, made, image}
+use Rattle.thy_base.specs.Settings.{Job, Order, run, resume, bench, compare, plain, make, IsInRange}
+use Rattle.thy_outcome.specs.Sources.{ProgramSource, file, made, image}
 use Rattle.observe.specs.Beginning.{run_in}
 
 same-job : (a source : ProgramSource) (own job : Job) → ◌≡◌ {A = Option (ProgramSource × Job)} (Some (a, own)) (Some (source, job)) → own ≡ job

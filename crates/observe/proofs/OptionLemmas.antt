@@ -1,7 +1,7 @@
 -- The options that are taken, one after the other.
 use Rattle.std.proofs.Common.{◌≡◌, ℕ, suc, ◌+◌, ◌-◌, ◌<◌, ◌≤◌, Bool, true, false, if◌then◌else◌, List, [], ◌∷◌, map, length, get_or, Option, Some, Result, Ok, Err, IsErrAnd, sym, ◌∙◌, ap, ap₂, arith}
 use Rattle.std.specs.List.{remove}
-use Rattle.thy_arguments.specs.Numbers.{number_in}
+use Rattle.thy_base.specs.Numbers.{number_in}
 use Rattle.observe.specs.declared.options.Options.{Options}
 use Rattle.observe.specs.declared.options.Wish.{Wish}
 use Rattle.observe.specs.Wanting.{IsReading, Reading, has, numbered, take_many, take_one, taken, taken_if, takes_number, then_more, wish_of, with_wish}

@@ -6,16 +6,16 @@ use Rattle.thy_block.specs.declared.outside.PutError.{PutError}
 use Rattle.thy_block.specs.Outside.{Stock, Stream}
 use Rattle.thy_isa.specs.OnBlocks.{setting_for}
 use Rattle.thy_isa.specs.Step.{State, Setting}
-use Rattle.thy_view.specs.Origin.{setting_of}
+use Rattle.thy_computer.specs.Origin.{setting_of}
 use Rattle.thy_text.specs.declared.closing.Closing.TheVariants.{Memory as ClosingMemory}
 use Rattle.thy_text.specs.Closings.{closing_of}
-use Rattle.thy_arguments.specs.declared.words.Command.{Command}
-use Rattle.thy_arguments.specs.Settings.{IsInRange, order_of, settings_of}
-use Rattle.thy_answer.specs.declared.answer.Answer.{Answer}
-use Rattle.thy_answer.specs.declared.refusal.Refusal.{Refusal}
-use Rattle.thy_answer.specs.Answering.{Around, NvmOf, Outside, Closes, around, report_of_refusal}
-use Rattle.thy_answer.specs.Machines.{Choice}
-use Rattle.thy_answer.specs.Saving.{IsPut}
+use Rattle.thy_base.specs.declared.arguments.words.Command.{Command}
+use Rattle.thy_base.specs.Settings.{IsInRange, order_of, settings_of}
+use Rattle.thy_outcome.specs.declared.answer.Answer.{Answer}
+use Rattle.thy_outcome.specs.declared.refusal.Refusal.{Refusal}
+use Rattle.thy_outcome.specs.Answering.{Around, NvmOf, Outside, Closes, around, report_of_refusal}
+use Rattle.thy_outcome.specs.Machines.{Choice}
+use Rattle.thy_outcome.specs.Saving.{IsPut}
 use Rattle.thy_cli.specs.Watching.{ClaimSeen}
 use Rattle.thy_observe.specs.declared.watch.Watch.{Watch}
 use Rattle.thy_observe.specs.Watched.{IsWatch, HasLast}

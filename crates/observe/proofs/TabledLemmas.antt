@@ -10,13 +10,13 @@ use Rattle.thy_block.specs.declared.outside.PutError.{PutError}
 use Rattle.thy_block.specs.Outside.{Stock, Stream}
 use Rattle.thy_text.specs.declared.closing.Closing.TheVariants.{Memory as ClosingMemory}
 use Rattle.thy_text.specs.Closings.{closing_of}
-use Rattle.thy_arguments.specs.declared.words.WordsError.{WordsError}
-use Rattle.thy_arguments.specs.declared.words.WordsError.TheVariants.{Usage, Word, Value, Memory}
-use Rattle.thy_arguments.specs.Settings.{Job, Order, run, resume, bench, compare, plain, make, ShowsOrMemory, order_of, settings_of}
-use Rattle.thy_answer.specs.declared.refusal.Refusal.TheVariants.{Words}
-use Rattle.thy_answer.specs.Answering.{Around, NvmOf, Closes, WordsDue, around, outside_of}
-use Rattle.thy_answer.specs.Machines.{Choice}
-use Rattle.thy_answer.specs.Saving.{IsPut}
+use Rattle.thy_base.specs.declared.arguments.words.WordsError.{WordsError}
+use Rattle.thy_base.specs.declared.arguments.words.WordsError.TheVariants.{Usage, Word, Value, Memory}
+use Rattle.thy_base.specs.Settings.{Job, Order, run, resume, bench, compare, plain, make, ShowsOrMemory, order_of, settings_of}
+use Rattle.thy_outcome.specs.declared.refusal.Refusal.TheVariants.{Words}
+use Rattle.thy_outcome.specs.Answering.{Around, NvmOf, Closes, WordsDue, around, outside_of}
+use Rattle.thy_outcome.specs.Machines.{Choice}
+use Rattle.thy_outcome.specs.Saving.{IsPut}
 use Rattle.thy_observe.specs.declared.accesses.Accessed.{Accessed}
 use Rattle.thy_observe.specs.declared.tracing.Window.{Window}
 use Rattle.observe.specs.declared.options.Options.{Options}

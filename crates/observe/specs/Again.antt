@@ -6,16 +6,16 @@ use Rattle.thy_block.specs.Device.{Device, fitted}
 use Rattle.thy_block.specs.Outside.{Stock, Stream}
 use Rattle.thy_text.specs.declared.closing.Closing.TheVariants.{Memory as ClosingMemory}
 use Rattle.thy_text.specs.Closings.{closing_of}
-use Rattle.thy_arguments.specs.Settings.{Job, Order, run, resume, bench, compare, plain, make}
-use Rattle.thy_view.specs.Kind.{KindOf}
+use Rattle.thy_base.specs.Settings.{Job, Order, run, resume, bench, compare, plain, make}
+use Rattle.thy_computer.specs.Kind.{KindOf}
 use Rattle.thy_run.specs.declared.plan.Plan.{Plan}
 use Rattle.thy_observe.specs.declared.accesses.Accessed.{Accessed}
 use Rattle.thy_observe.specs.declared.tracing.Window.{Window}
 use Rattle.thy_observe.specs.Accesses.{HasAccesses}
-use Rattle.thy_answer.specs.declared.refusal.Refusal.{Refusal}
-use Rattle.thy_answer.specs.Answering.{Closes, report_of_refusal}
-use Rattle.thy_answer.specs.Machines.{Choice}
-use Rattle.thy_answer.specs.Sources.{ProgramSource, ProgramDue}
+use Rattle.thy_outcome.specs.declared.refusal.Refusal.{Refusal}
+use Rattle.thy_outcome.specs.Answering.{Closes, report_of_refusal}
+use Rattle.thy_outcome.specs.Machines.{Choice}
+use Rattle.thy_outcome.specs.Sources.{ProgramSource, ProgramDue}
 use Rattle.thy_execute.specs.Planning.{IsPlanOf, shape_of}
 use Rattle.observe.specs.Beginning.{run_in}
 

@@ -5,13 +5,13 @@ use Rattle.thy_block.specs.Bytes.{bytes_of}
 use Rattle.thy_base.specs.Config.{parameters_of}
 use Rattle.thy_block.specs.Outside.{Stock}
 use Rattle.thy_isa.specs.Step.{state_of}
-use Rattle.thy_view.specs.Origin.{Origin}
-use Rattle.thy_arguments.specs.declared.words.Job.{Job as JobStruct}
-use Rattle.thy_arguments.specs.Settings.{Job, Order, run, resume, bench, job_of}
-use Rattle.thy_answer.specs.declared.refusal.Refusal.{Refusal}
-use Rattle.thy_answer.specs.declared.source.ProgramSource.{ProgramSource as SourceValue}
-use Rattle.thy_answer.specs.Kept.{named}
-use Rattle.thy_answer.specs.Sources.{ProgramSource, file, made, image, IsProgram, ProgramDue, origin_for}
+use Rattle.thy_computer.specs.Origin.{Origin}
+use Rattle.thy_base.specs.declared.arguments.words.Job.{Job as JobStruct}
+use Rattle.thy_base.specs.Settings.{Job, Order, run, resume, bench, job_of}
+use Rattle.thy_outcome.specs.declared.refusal.Refusal.{Refusal}
+use Rattle.thy_outcome.specs.declared.source.ProgramSource.{ProgramSource as SourceValue}
+use Rattle.thy_outcome.specs.Kept.{named}
+use Rattle.thy_outcome.specs.Sources.{ProgramSource, file, made, image, IsProgram, ProgramDue, origin_for}
 use Rattle.observe.specs.declared.beginning.Begun.{Begun}
 
 -- the source of an order's program and its job, if the order runs the machine once

@@ -5,8 +5,8 @@ use Rattle.thy_isa.specs.Step.{State}
 use Rattle.thy_run.specs.Watching.{Taken}
 use Rattle.thy_text.specs.declared.reporting.Reporting.{Reporting}
 use Rattle.thy_text.specs.Event.{Event, EpochEnd, Ended}
-use Rattle.thy_arguments.specs.declared.words.WordsError.{WordsError}
-use Rattle.thy_arguments.specs.Settings.{Job, Order, run, resume, bench, plain}
+use Rattle.thy_base.specs.declared.arguments.words.WordsError.{WordsError}
+use Rattle.thy_base.specs.Settings.{Job, Order, run, resume, bench, plain}
 use Rattle.thy_observe.specs.declared.counting.Calls.{Calls}
 use Rattle.thy_observe.specs.declared.tally.Tally.{Tally}
 use Rattle.thy_observe.specs.declared.trap.Trap.{Trap}

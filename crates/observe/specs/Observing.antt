@@ -6,20 +6,20 @@ use Rattle.thy_block.specs.Outside.{Stock, Stream}
 use Rattle.thy_text.specs.declared.closing.Closing.TheVariants.{Memory as ClosingMemory}
 use Rattle.thy_text.specs.Closings.{closing_of}
 use Rattle.thy_text.specs.History.{all_of}
-use Rattle.thy_arguments.specs.declared.words.WordsError.{WordsError}
-use Rattle.thy_arguments.specs.declared.words.WordsError.TheVariants.{Usage, Memory}
-use Rattle.thy_arguments.specs.declared.words.Command.{Command}
-use Rattle.thy_arguments.specs.Settings.{Job, Order, run, resume, bench, compare, plain, make, IsInRange, order_of, settings_of}
+use Rattle.thy_base.specs.declared.arguments.words.WordsError.{WordsError}
+use Rattle.thy_base.specs.declared.arguments.words.WordsError.TheVariants.{Usage, Memory}
+use Rattle.thy_base.specs.declared.arguments.words.Command.{Command}
+use Rattle.thy_base.specs.Settings.{Job, Order, run, resume, bench, compare, plain, make, IsInRange, order_of, settings_of}
 use Rattle.thy_run.specs.Watching.{Taken}
-use Rattle.thy_view.specs.Origin.{setting_of}
+use Rattle.thy_computer.specs.Origin.{setting_of}
 use Rattle.thy_observe.specs.declared.watch.Watch.{Watch}
 use Rattle.thy_observe.specs.Watched.{IsWatch, HasLast}
-use Rattle.thy_answer.specs.declared.answer.Answer.{Answer}
-use Rattle.thy_answer.specs.declared.refusal.Refusal.{Refusal}
-use Rattle.thy_answer.specs.declared.refusal.Refusal.TheVariants.{Words}
-use Rattle.thy_answer.specs.Answering.{Around, NvmOf, Outside, Closes, outside_of, put_line, report_of_refusal}
-use Rattle.thy_answer.specs.Machines.{Choice}
-use Rattle.thy_answer.specs.Saving.{IsPut}
+use Rattle.thy_outcome.specs.declared.answer.Answer.{Answer}
+use Rattle.thy_outcome.specs.declared.refusal.Refusal.{Refusal}
+use Rattle.thy_outcome.specs.declared.refusal.Refusal.TheVariants.{Words}
+use Rattle.thy_outcome.specs.Answering.{Around, NvmOf, Outside, Closes, outside_of, put_line, report_of_refusal}
+use Rattle.thy_outcome.specs.Machines.{Choice}
+use Rattle.thy_outcome.specs.Saving.{IsPut}
 use Rattle.thy_cli.specs.Watching.{ClaimSeen}
 use Rattle.observe.specs.declared.options.Options.{Options}
 use Rattle.observe.specs.Beginning.{IsProgramOf, IsUnreadBy, origin_of, run_in}

@@ -4,14 +4,14 @@ use Rattle.std.specs.Prelude.{◌≡◌, ◌⊎◌, ℕ, nat_lt, Bool, true, fal
 use Rattle.std.specs.Str.{bytes_eq}
 use Rattle.thy_block.specs.declared.outside.PutError.{PutError}
 use Rattle.thy_block.specs.Outside.{Stock, Stream}
-use Rattle.thy_arguments.specs.declared.words.WordsError.{WordsError}
-use Rattle.thy_arguments.specs.declared.words.WordsError.TheVariants.{Usage}
-use Rattle.thy_arguments.specs.Settings.{Job, Order, run, resume, bench, compare, plain, make, settings_of}
-use Rattle.thy_answer.specs.declared.refusal.Refusal.TheVariants.{Words}
-use Rattle.thy_answer.specs.Answering.{Around, NvmOf, WordsDue, around, outside_of}
-use Rattle.thy_answer.specs.Machines.{Choice}
-use Rattle.thy_answer.specs.Saving.{IsPut}
-use Rattle.thy_answer.specs.Sources.{ProgramSource}
+use Rattle.thy_base.specs.declared.arguments.words.WordsError.{WordsError}
+use Rattle.thy_base.specs.declared.arguments.words.WordsError.TheVariants.{Usage}
+use Rattle.thy_base.specs.Settings.{Job, Order, run, resume, bench, compare, plain, make, settings_of}
+use Rattle.thy_outcome.specs.declared.refusal.Refusal.TheVariants.{Words}
+use Rattle.thy_outcome.specs.Answering.{Around, NvmOf, WordsDue, around, outside_of}
+use Rattle.thy_outcome.specs.Machines.{Choice}
+use Rattle.thy_outcome.specs.Saving.{IsPut}
+use Rattle.thy_outcome.specs.Sources.{ProgramSource}
 use Rattle.thy_observe.specs.declared.accesses.Accessed.{Accessed}
 use Rattle.observe.specs.declared.options.Options.{Options}
 use Rattle.observe.specs.AccessText.{cycles_of, has_cycle, table_text}

@@ -5,9 +5,9 @@ use Rattle.std.specs.Str.{bytes_eq}
 use Rattle.thy_block.specs.Outside.{Stream}
 use Rattle.thy_text.specs.declared.closing.Closing.TheVariants.{Memory as ClosingMemory}
 use Rattle.thy_text.specs.Closings.{closing_of}
-use Rattle.thy_arguments.specs.Numbers.{number_in}
+use Rattle.thy_base.specs.Numbers.{number_in}
 use Rattle.thy_observe.specs.declared.tracing.Window.{Window}
-use Rattle.thy_answer.specs.Answering.{Closes}
+use Rattle.thy_outcome.specs.Answering.{Closes}
 use Rattle.observe.specs.declared.options.Options.{Options}
 use Rattle.observe.specs.declared.options.WindowFault.{WindowFault}
 use Rattle.observe.specs.declared.options.WindowFault.TheVariants.{First, Last}

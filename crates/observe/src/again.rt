@@ -3,9 +3,9 @@ ghost use Rattle.std.specs.Prelude.{◌≡◌, ◌<◌, [], None, IfSome};
 ghost use Rattle.thy_block.specs.declared.parameters.Parameters.{Parameters as Numbers};
 ghost use Rattle.thy_block.specs.Device.{fitted};
 ghost use Rattle.thy_base.specs.Config.{fault_of as range_fault, parameters_of};
-ghost use Rattle.thy_arguments.specs.Settings.{IsInRange, job_of, order_of};
-ghost use Rattle.thy_answer.specs.Kept.{named};
-ghost use Rattle.thy_answer.specs.Machines.{by_scheme};
+ghost use Rattle.thy_base.specs.Settings.{IsInRange, job_of, order_of};
+ghost use Rattle.thy_outcome.specs.Kept.{named};
+ghost use Rattle.thy_outcome.specs.Machines.{by_scheme};
 ghost use Rattle.thy_execute.specs.Planning.{CanRun, shape_of};
 ghost use Rattle.thy_files.specs.Restoring.{ReadsFiles};
 ghost use Rattle.thy_observe.specs.Accesses.{HasAccesses};
@@ -13,15 +13,14 @@ ghost use Rattle.observe.specs.Again.{IsUncut, MakesRows, MakesRowsOf};
 
 use crate::top::{NO_MEMORY, close};
 use std::alloc::Global;
-use thy_answer::ProgramSource;
-use thy_arguments::{Command, Job};
-use thy_base::{Block, Geometry, Nvm, SchemeName, Shape, Shelf, Sink};
+use thy_base::{Block, Command, Geometry, Job, Nvm, SchemeName, Shape, Shelf, Sink};
 use thy_cli::refuse;
+use thy_computer::Computer;
 use thy_files::{Beginning, prepare};
 use thy_observe::{Accessed, Listing, Window, list_accesses};
+use thy_outcome::ProgramSource;
 use thy_run::Plan;
 use thy_text::Closing;
-use thy_view::Computer;
 
 /// The shape that the device of a plan's machine is fitted with.
 fn shape_of<M: Computer>(plan: &Plan) -> Shape

@@ -2,17 +2,16 @@
 ghost use Rattle.std.specs.Prelude.{◌≡◌, None, IfErr, IfOk, IfSome, OnOk, is_some, option_map};
 ghost use Rattle.thy_base.specs.Config.{fault_of as range_fault};
 ghost use Rattle.thy_block.specs.Outside.{HasNotFailed};
-ghost use Rattle.thy_arguments.specs.Settings.{IsInRange, job_of, order_of};
-ghost use Rattle.thy_answer.specs.Kept.{named};
-ghost use Rattle.thy_answer.specs.Sources.{ProgramDue};
+ghost use Rattle.thy_base.specs.Settings.{IsInRange, job_of, order_of};
+ghost use Rattle.thy_outcome.specs.Kept.{named};
+ghost use Rattle.thy_outcome.specs.Sources.{ProgramDue};
 ghost use Rattle.observe.specs.Beginning.{IsBegun, IsBegunBy, IsUnreadBy, run_in, run_of};
 
 use std::alloc::Global;
-use thy_answer::{ProgramSource, Refusal};
-use thy_arguments::{Command, Job};
-use thy_base::{Geometry, Shelf};
+use thy_base::{Command, Geometry, Job, Shelf};
 use thy_files::{Beginning, prepare};
 use thy_layout::Start;
+use thy_outcome::{ProgramSource, Refusal};
 
 /// What a run begins with, and the numbers of its machine.
 #[derive(Drop)]

@@ -1,6 +1,6 @@
 //! What every text begins with that is put under OUT.
 ghost use Rattle.std.specs.Prelude.{◌≡◌, IfOk, option_map, string_bytes};
-ghost use Rattle.thy_arguments.specs.Settings.{order_of};
+ghost use Rattle.thy_base.specs.Settings.{order_of};
 ghost use Rattle.observe.specs.HeadText.{IsHead, IsPlainText, IsRunText, asked_in};
 ghost use Rattle.observe.specs.Observing.{was_begun};
 
@@ -8,7 +8,7 @@ use crate::lines::{add_lines, broken_after};
 use crate::totals::{add_totals, totals_of};
 use crate::trap::{add_trap, trap_in};
 use std::alloc::{AllocError, Global};
-use thy_arguments::Command;
+use thy_base::Command;
 use thy_cli::Answer;
 use thy_observe::{Calls, Tally};
 use thy_text::{Events, Reporting};

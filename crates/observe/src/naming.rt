@@ -1,12 +1,12 @@
 //! Whether text can be put under OUT, and has what is asked for.
 ghost use Rattle.std.specs.Prelude.{◌≡◌, option_map};
 ghost use Rattle.std.specs.String.{string_bytes};
-ghost use Rattle.thy_arguments.specs.Settings.{job_of, order_of};
+ghost use Rattle.thy_base.specs.Settings.{job_of, order_of};
 ghost use Rattle.observe.specs.Observing.{is_name, is_of_job, is_refused, is_taken, is_untearable};
 
 use crate::beginning::run_of;
 use crate::options::Options;
-use thy_arguments::{Command, Job};
+use thy_base::{Command, Job};
 
 /// Whether OUT is this name.
 fn is_name(out: &str, name: &Option<String>) -> bool

@@ -1,12 +1,11 @@
 //! What is asked for by the words between OUT and the command.
 ghost use Rattle.std.specs.Prelude.{◌≡◌, ◌≢◌, ◌<◌, ◌≤◌, [], map};
 ghost use Rattle.std.specs.String.{string_bytes};
-ghost use Rattle.thy_answer.specs.Answering.{Closes};
+ghost use Rattle.thy_outcome.specs.Answering.{Closes};
 ghost use Rattle.observe.specs.Wanting.{IsReading, IsWindowRefused, asks, counts, has, has_bound, lacks_trace, last_fault, needs_run, no_options, options_in, take_one, takes_number, window_fault, window_of, wish_of, with_wish, word_line};
 
 use std::alloc::Global;
-use thy_arguments::{WordsError, number};
-use thy_base::Sink;
+use thy_base::{Sink, WordsError, number};
 use thy_cli::{Refusal, refuse};
 use thy_observe::Window;
 

@@ -1,9 +1,9 @@
 //! The call with a table of accesses: the table is made and put, and then the run is observed.
 ghost use Rattle.std.specs.Prelude.{◌≡◌, map, option_map};
 ghost use Rattle.std.specs.String.{string_bytes};
-ghost use Rattle.thy_answer.specs.Answering.{around, nvm_of};
-ghost use Rattle.thy_answer.specs.Machines.{by_scheme};
-ghost use Rattle.thy_arguments.specs.Settings.{job_of, order_of};
+ghost use Rattle.thy_outcome.specs.Answering.{around, nvm_of};
+ghost use Rattle.thy_outcome.specs.Machines.{by_scheme};
+ghost use Rattle.thy_base.specs.Settings.{job_of, order_of};
 ghost use Rattle.observe.specs.CountText.{counts_of};
 ghost use Rattle.observe.specs.Tabled.{ObservedBeside, Tabled, Unnamed, is_turned, is_uneven, is_unlisted, is_untabled};
 
@@ -13,16 +13,13 @@ use crate::naming::{is_refused, is_taken};
 use crate::options::Options;
 use crate::top::{NO_MEMORY, close, observe, put_text, write_report};
 use std::alloc::Global;
-use thy_arguments::{Command, Job, WordsError, settings};
-use thy_base::{Nvm, Shelf, Sink};
+use thy_base::{Command, Job, Nvm, Shelf, Sink, WordsError, settings};
 use thy_cli::{Refusal, refuse};
+use thy_computer::Computer;
 use thy_core::Machine;
-use thy_journal::Journal;
 use thy_observe::{Counts, Listing};
-use thy_shadow::Shadow;
+use thy_schemes::{Journal, Shadow, Thynvm};
 use thy_text::Closing;
-use thy_thynvm::Thynvm;
-use thy_view::Computer;
 
 /// Whether a job's run has cuts of power, or goes over a device that levels wear.
 fn is_uneven(job: &Job) -> bool

@@ -2,12 +2,12 @@
 ghost use Rattle.std.specs.Prelude.{◌≡◌, IfErr, IfOk, IfSome, OnOk, false, is_some, true, map, option_map};
 ghost use Rattle.std.specs.String.{string_bytes};
 ghost use Rattle.thy_block.specs.Outside.{HasNotFailed};
-ghost use Rattle.thy_answer.specs.Answering.{around, nvm_of};
-ghost use Rattle.thy_answer.specs.Machines.{by_scheme};
-ghost use Rattle.thy_answer.specs.Saving.{IsPut};
+ghost use Rattle.thy_outcome.specs.Answering.{around, nvm_of};
+ghost use Rattle.thy_outcome.specs.Machines.{by_scheme};
+ghost use Rattle.thy_outcome.specs.Saving.{IsPut};
 ghost use Rattle.thy_run.specs.Sending.{Sent};
 ghost use Rattle.thy_text.specs.Closings.{closing_of};
-ghost use Rattle.thy_arguments.specs.Settings.{IsInRange, order_of, settings_of};
+ghost use Rattle.thy_base.specs.Settings.{IsInRange, order_of, settings_of};
 ghost use Rattle.observe.specs.Beginning.{IsBegunOf, IsUnreadOf, has_run};
 ghost use Rattle.observe.specs.CountText.{counts_of};
 ghost use Rattle.observe.specs.HeadText.{asked_by, asked_in};
@@ -20,16 +20,13 @@ use crate::naming::is_refused;
 use crate::options::Options;
 use crate::whole::whole_text;
 use std::alloc::Global;
-use thy_arguments::{Command, WordsError, settings};
-use thy_base::{Nvm, PutError, Shelf, Sink};
+use thy_base::{Command, Nvm, PutError, Shelf, Sink, WordsError, settings};
 use thy_cli::{Refusal, observed, refuse};
+use thy_computer::Computer;
 use thy_core::Machine;
-use thy_journal::Journal;
 use thy_observe::{Counts, Watch};
-use thy_shadow::Shadow;
+use thy_schemes::{Journal, Shadow, Thynvm};
 use thy_text::{Closing, write_closing};
-use thy_thynvm::Thynvm;
-use thy_view::Computer;
 
 /// The exit status if OUT could not be put.
 const NOT_PUT: u8 = 3;

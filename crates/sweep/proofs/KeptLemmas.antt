@@ -16,9 +16,9 @@ use Rattle.thy_sweep.specs.declared.sums.Sums.{Sums}
 use Rattle.thy_sweep.specs.Lying.{LiesOn, lying}
 use Rattle.thy_sweep.specs.Repeats.{ActedOnce, IsAsBefore, IsSeen, recounted}
 use Rattle.thy_sweep.specs.Sums.{no_rows, with_row}
-use Rattle.thy_view.specs.declared.did.Stepped.{Stepped}
-use Rattle.thy_view.specs.Action.{Action, Rest, ReadAt, WriteAt, Barrier, Drain, IsAfter}
-use Rattle.thy_view.specs.Kind.{KindOf}
+use Rattle.thy_computer.specs.declared.did.Stepped.{Stepped}
+use Rattle.thy_computer.specs.Action.{Action, Rest, ReadAt, WriteAt, Barrier, Drain, IsAfter}
+use Rattle.thy_computer.specs.Kind.{KindOf}
 use Rattle.sweep.specs.declared.account.Account.{Account}
 use Rattle.sweep.specs.declared.account.Kept.{Kept}
 use Rattle.sweep.specs.declared.asked.Asked.{Asked}

@@ -13,9 +13,9 @@ use Rattle.thy_sweep.specs.declared.lead.Lead.{Lead}
 use Rattle.thy_sweep.specs.Choices.{places_of}
 use Rattle.thy_sweep.specs.Images.{crash_images}
 use Rattle.thy_sweep.specs.Lying.{Lying}
-use Rattle.thy_trial.specs.declared.part.Part.{Part}
-use Rattle.thy_trial.specs.Rooms.{counted_at, number_by}
-use Rattle.thy_view.specs.Kind.{KindOf}
+use Rattle.thy_sweep.specs.declared.trial.part.Part.{Part}
+use Rattle.thy_sweep.specs.Rooms.{counted_at, number_by}
+use Rattle.thy_computer.specs.Kind.{KindOf}
 use Rattle.sweep.specs.declared.asked.Asked.{Asked}
 use Rattle.sweep.specs.declared.row.Row.{Row}
 use Rattle.sweep.specs.Kept.{extended}

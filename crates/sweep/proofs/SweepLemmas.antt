@@ -16,9 +16,9 @@ use Rattle.thy_run.specs.World.{World, line}
 use Rattle.thy_run.proofs.AdvanceLemmas.{good_of}
 use Rattle.thy_run.proofs.PickLaws.{StaysFitted, StaysFitted-ran}
 use Rattle.thy_sweep.specs.Lying.{LiesOn, blocks_below}
-use Rattle.thy_trial.specs.declared.room.Room.{Room}
-use Rattle.thy_trial.specs.Rooms.{HasRoomFor}
-use Rattle.thy_view.specs.Kind.{KindOf, IsLawful}
+use Rattle.thy_sweep.specs.declared.trial.room.Room.{Room}
+use Rattle.thy_sweep.specs.Rooms.{HasRoomFor}
+use Rattle.thy_computer.specs.Kind.{KindOf, IsLawful}
 use Rattle.sweep.specs.Sweeping.{CanLook, HasRoomBelow, IsSwept}
 
 limit_most : (p : Parameters) → IsInRange p → p.limit ≤ 10 ^ 12

@@ -4,19 +4,19 @@ use Rattle.std.specs.Str.{bytes_eq}
 use Rattle.std.proofs.lemmas.Bool.{or_parts}
 use Rattle.std.proofs.lemmas.Bool.Decides.{nat_tests}
 use Rattle.std.proofs.lemmas.List.{length-replicate, nil_from_length}
-use Rattle.thy_answer.specs.declared.refusal.Refusal.TheVariants.{Device as DeviceRefusal}
-use Rattle.thy_answer.specs.Answering.{Outside, Closes, WordsDue}
-use Rattle.thy_answer.specs.Sources.{ProgramSource}
+use Rattle.thy_outcome.specs.declared.refusal.Refusal.TheVariants.{Device as DeviceRefusal}
+use Rattle.thy_outcome.specs.Answering.{Outside, Closes, WordsDue}
+use Rattle.thy_outcome.specs.Sources.{ProgramSource}
 use Rattle.thy_block.specs.declared.block.Block.{Block}
 use Rattle.thy_block.specs.declared.nvm.Shape.{Shape}
 use Rattle.thy_block.specs.Device.{Device, fitted, zero_block}
 use Rattle.thy_block.specs.Outside.{Stock, Stream}
 use Rattle.thy_execute.specs.Planning.{IsPlanOf}
 use Rattle.thy_run.specs.declared.plan.Plan.{Plan}
-use Rattle.thy_view.specs.Kind.{KindOf}
-use Rattle.thy_arguments.specs.declared.words.WordsError.{WordsError}
-use Rattle.thy_arguments.specs.declared.words.WordsError.TheVariants.{Usage, Word, Value, Memory}
-use Rattle.thy_arguments.specs.Settings.{Job, Order, run, resume, bench, compare, plain, make, ShowsOrMemory, order_of, settings_of}
+use Rattle.thy_computer.specs.Kind.{KindOf}
+use Rattle.thy_base.specs.declared.arguments.words.WordsError.{WordsError}
+use Rattle.thy_base.specs.declared.arguments.words.WordsError.TheVariants.{Usage, Word, Value, Memory}
+use Rattle.thy_base.specs.Settings.{Job, Order, run, resume, bench, compare, plain, make, ShowsOrMemory, order_of, settings_of}
 use Rattle.sweep.specs.declared.asked.Asked.{Asked}
 use Rattle.sweep.specs.Concluding.{SaysLine, SaysShort}
 use Rattle.sweep.specs.Naming.{IsUncut, IsUncutJob, is_barred, is_cut, is_name, is_refused}

@@ -2,15 +2,15 @@
 use Rattle.std.specs.Prelude.{◌≡◌, ◌≢◌, ℕ, ◌<◌, ◌≤◌, Bool, true, false, List, [], ◌∷◌, codes, if◌then◌else◌, Option, Some, None, is_some, unwrap_or, option_map, nat_lt, not, ◌&&◌}
 use Rattle.std.specs.Str.{bytes_eq}
 use Rattle.std.specs.String.{string_bytes}
-use Rattle.thy_arguments.specs.Numbers.{number_in, numbers_in, is_list}
+use Rattle.thy_base.specs.Numbers.{number_in, numbers_in, is_list}
 use Rattle.sweep.specs.declared.asked.Asked.{Asked}
 use Rattle.sweep.specs.declared.asked.Given.{Given}
 use Rattle.sweep.specs.declared.asked.Unasked.{Unasked}
 use Rattle.sweep.specs.declared.asked.Unasked.TheVariants.{Memory}
 use Rattle.sweep.specs.declared.asked.Name.{Name}
 use Rattle.sweep.specs.declared.asked.Name.TheVariants.{From, To, Step, Tears, All, Compare}
-use Rattle.thy_trial.specs.declared.part.Part.{Part}
-use Rattle.thy_trial.specs.declared.part.Part.TheVariants.{State, Processor}
+use Rattle.thy_sweep.specs.declared.trial.part.Part.{Part}
+use Rattle.thy_sweep.specs.declared.trial.part.Part.TheVariants.{State, Processor}
 
 -- the texts that are given for options, and whether blocks may be torn
 pub record Texts : Type 0 where

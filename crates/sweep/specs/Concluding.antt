@@ -1,9 +1,9 @@
 -- How a sweep ends: the closing line of its run, and the text under OUT.
 use Rattle.std.specs.Prelude.{◌≡◌, ◌⊎◌, ℕ, ◌==◌, Bool, true, false, ◌&&◌, if◌then◌else◌, is_none, List, [], ◌∷◌, codes, Option, Some, None}
 use Rattle.std.specs.Fmt.{decimal}
-use Rattle.thy_answer.specs.Answering.{Closes, ClosesAs, put_line}
-use Rattle.thy_answer.specs.Saving.{IsPut}
-use Rattle.thy_answer.specs.Sources.{ProgramSource}
+use Rattle.thy_outcome.specs.Answering.{Closes, ClosesAs, put_line}
+use Rattle.thy_outcome.specs.Saving.{IsPut}
+use Rattle.thy_outcome.specs.Sources.{ProgramSource}
 use Rattle.thy_block.specs.declared.outside.PutError.{PutError}
 use Rattle.thy_block.specs.Outside.{Stock, Stream}
 use Rattle.thy_run.specs.declared.ending.Ending.{Ending}

@@ -5,14 +5,14 @@ use Rattle.thy_isa.specs.declared.state.CpuState.{CpuState}
 use Rattle.thy_isa.specs.Step.{State, state_of}
 use Rattle.thy_plain.specs.Machine.{Machine, StopsAt, after_steps}
 use Rattle.thy_sweep.specs.declared.lead.Booted.{Booted}
-use Rattle.thy_trial.specs.declared.part.Part.{Part}
-use Rattle.thy_trial.specs.declared.part.Part.TheVariants.{State as Whole, Processor}
-use Rattle.thy_trial.specs.declared.part.Restored.{Restored}
-use Rattle.thy_trial.specs.declared.part.Restored.TheVariants.{State as WholeState, Processor as Cpu}
-use Rattle.thy_trial.specs.declared.room.Found.{Found}
-use Rattle.thy_trial.specs.Trials.{IsReadOf}
-use Rattle.thy_view.specs.declared.did.Did.{Did}
-use Rattle.thy_view.specs.declared.did.Did.TheVariants.{Loaded, Restarted, Retired}
+use Rattle.thy_sweep.specs.declared.trial.part.Part.{Part}
+use Rattle.thy_sweep.specs.declared.trial.part.Part.TheVariants.{State as Whole, Processor}
+use Rattle.thy_sweep.specs.declared.trial.part.Restored.{Restored}
+use Rattle.thy_sweep.specs.declared.trial.part.Restored.TheVariants.{State as WholeState, Processor as Cpu}
+use Rattle.thy_sweep.specs.declared.trial.room.Found.{Found}
+use Rattle.thy_sweep.specs.Trials.{IsReadOf}
+use Rattle.thy_computer.specs.declared.did.Did.{Did}
+use Rattle.thy_computer.specs.declared.did.Did.TheVariants.{Loaded, Restarted, Retired}
 use Rattle.sweep.specs.declared.asked.Asked.{Asked}
 use Rattle.sweep.specs.declared.beside.Beside.{Beside}
 use Rattle.sweep.specs.declared.row.Name.{Name}

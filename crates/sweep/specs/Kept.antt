@@ -11,7 +11,7 @@ use Rattle.thy_sweep.specs.Choices.{count_of, places_of}
 use Rattle.thy_sweep.specs.Lying.{LiesOn, Lying, lying}
 use Rattle.thy_sweep.specs.Repeats.{IsAsBefore}
 use Rattle.thy_sweep.specs.Sums.{no_rows, with_row}
-use Rattle.thy_view.specs.Kind.{KindOf}
+use Rattle.thy_computer.specs.Kind.{KindOf}
 use Rattle.sweep.specs.declared.account.Account.{Account}
 use Rattle.sweep.specs.declared.asked.Asked.{Asked}
 use Rattle.sweep.specs.declared.row.Row.{Row}

@@ -1,7 +1,7 @@
 -- Which orders can be swept, and which names OUT may have.
 use Rattle.std.specs.Prelude.{◌≡◌, ℕ, nat_lt, Bool, true, false, ◌||◌, ◌&&◌, is_some, List, [], length, Option, Some, None}
 use Rattle.std.specs.Str.{bytes_eq}
-use Rattle.thy_arguments.specs.Settings.{Job, Order, run, resume, bench, compare, plain, make}
+use Rattle.thy_base.specs.Settings.{Job, Order, run, resume, bench, compare, plain, make}
 
 -- OUT is this name
 abbrev pub is_name : List ℕ → Option (List ℕ) → Bool

@@ -17,11 +17,11 @@ use Rattle.thy_sweep.specs.Choices.{Place, chosen, count_of, places_of}
 use Rattle.thy_sweep.specs.Images.{crash_images}
 use Rattle.thy_sweep.specs.Leads.{noted}
 use Rattle.thy_sweep.specs.Lying.{Lying}
-use Rattle.thy_trial.specs.declared.part.Part.{Part}
-use Rattle.thy_trial.specs.declared.part.Restored.{Restored}
-use Rattle.thy_trial.specs.Rooms.{IsRunAt, counted_at, number_by}
-use Rattle.thy_trial.specs.Trials.{FewBefore, IsTried}
-use Rattle.thy_view.specs.Kind.{KindOf}
+use Rattle.thy_sweep.specs.declared.trial.part.Part.{Part}
+use Rattle.thy_sweep.specs.declared.trial.part.Restored.{Restored}
+use Rattle.thy_sweep.specs.Rooms.{IsRunAt, counted_at, number_by}
+use Rattle.thy_sweep.specs.Trials.{FewBefore, IsTried}
+use Rattle.thy_computer.specs.Kind.{KindOf}
 use Rattle.sweep.specs.declared.asked.Asked.{Asked}
 use Rattle.sweep.specs.declared.row.Row.{Row}
 use Rattle.sweep.specs.Sweeping.{most_cycles}

@@ -6,9 +6,9 @@ use Rattle.thy_run.specs.declared.progress.Progress.{Progress}
 use Rattle.thy_run.specs.Rounds.{Running, RunEnds}
 use Rattle.thy_run.specs.Sending.{Sinks}
 use Rattle.thy_sweep.specs.Lying.{blocks_below}
-use Rattle.thy_trial.specs.declared.room.Room.{Room}
-use Rattle.thy_trial.specs.Rooms.{HasRoomFor, CanTryOf}
-use Rattle.thy_view.specs.Kind.{KindOf, IsDramOf}
+use Rattle.thy_sweep.specs.declared.trial.room.Room.{Room}
+use Rattle.thy_sweep.specs.Rooms.{HasRoomFor, CanTryOf}
+use Rattle.thy_computer.specs.Kind.{KindOf, IsDramOf}
 use Rattle.sweep.specs.declared.asked.Asked.{Asked}
 use Rattle.sweep.specs.declared.running.Swept.{Swept}
 use Rattle.sweep.specs.declared.running.Swept.TheVariants.{Stopped, Reached, Short}

@@ -1,11 +1,11 @@
 -- What a call of the program does outside: it refuses, or it sweeps a run, and then puts OUT.
 use Rattle.std.specs.Prelude.{◌≡◌, ◌⊎◌, ℕ, nat_lt, Bool, true, false, List, Ok}
-use Rattle.thy_answer.specs.declared.refusal.Refusal.{Refusal}
-use Rattle.thy_answer.specs.declared.refusal.Refusal.TheVariants.{Words, Device as DeviceRefusal}
-use Rattle.thy_answer.specs.Answering.{Outside, Closes, RunDue, WordsDue, report_of_refusal, with_device}
-use Rattle.thy_answer.specs.Levelling.{IsFoundAs, IsLeftAs}
-use Rattle.thy_answer.specs.Machines.{Choice}
-use Rattle.thy_answer.specs.Sources.{ProgramSource, file as of_file, image as of_image, made as of_made}
+use Rattle.thy_outcome.specs.declared.refusal.Refusal.{Refusal}
+use Rattle.thy_outcome.specs.declared.refusal.Refusal.TheVariants.{Words, Device as DeviceRefusal}
+use Rattle.thy_outcome.specs.Answering.{Outside, Closes, RunDue, WordsDue, report_of_refusal, with_device}
+use Rattle.thy_outcome.specs.Levelling.{IsFoundAs, IsLeftAs}
+use Rattle.thy_outcome.specs.Machines.{Choice}
+use Rattle.thy_outcome.specs.Sources.{ProgramSource, file as of_file, image as of_image, made as of_made}
 use Rattle.thy_block.specs.declared.block.Block.{Block}
 use Rattle.thy_block.specs.declared.nvm.FitError.{FitError}
 use Rattle.thy_block.specs.Device.{Device, HasFailedToFit, fitted}
@@ -13,10 +13,10 @@ use Rattle.thy_block.specs.Outside.{Stream}
 use Rattle.thy_execute.specs.Planning.{IsPlanOf, shape_of}
 use Rattle.thy_run.specs.declared.plan.Plan.{Plan}
 use Rattle.thy_run.specs.Sending.{sinks}
-use Rattle.thy_view.specs.Kind.{KindOf}
-use Rattle.thy_arguments.specs.declared.words.WordsError.{WordsError}
-use Rattle.thy_arguments.specs.declared.words.WordsError.TheVariants.{Usage}
-use Rattle.thy_arguments.specs.Settings.{Job, Order, run, resume, bench, settings_of}
+use Rattle.thy_computer.specs.Kind.{KindOf}
+use Rattle.thy_base.specs.declared.arguments.words.WordsError.{WordsError}
+use Rattle.thy_base.specs.declared.arguments.words.WordsError.TheVariants.{Usage}
+use Rattle.thy_base.specs.Settings.{Job, Order, run, resume, bench, settings_of}
 use Rattle.sweep.specs.declared.account.Account.{Account}
 use Rattle.sweep.specs.declared.asked.Asked.{Asked}
 use Rattle.sweep.specs.declared.running.Swept.{Swept}

@@ -7,8 +7,8 @@ ghost use Rattle.sweep.specs.Rows.{pick_of, picks_of};
 ghost use Rattle.sweep.specs.Sweeping.{ends_at};
 
 use std::alloc::{AllocError, Global};
-use thy_arguments::{is_list, list_of, number};
-use thy_trial::Part;
+use thy_base::{is_list, list_of, number};
+use thy_sweep::Part;
 
 /// How many options there are.
 const OPTIONS: usize = 7;

@@ -1,7 +1,7 @@
 //! The plain machine that runs beside the run, and the states that it had at the two checkpoints that a cut can lead to.
 ghost use Rattle.std.specs.Prelude.{◌≡◌, ◌≤◌, true, None, IfOk, OnOk};
 ghost use Rattle.thy_isa.specs.Step.{state_of};
-ghost use Rattle.thy_trial.specs.Trials.{IsReadOf};
+ghost use Rattle.thy_sweep.specs.Trials.{IsReadOf};
 ghost use Rattle.sweep.specs.Findings.{IsBeside, IsSealed, RunsTo, committed};
 
 use crate::compared::{are_same, part_of};
@@ -9,8 +9,8 @@ use std::alloc::{AllocError, Global};
 use thy_base::Geometry;
 use thy_layout::Start;
 use thy_plain::Plain;
+use thy_sweep::{Part, Restored};
 use thy_text::Event;
-use thy_trial::{Part, Restored};
 
 /// A run counts fewer instructions than this.
 const MANY: u64 = 1 << 62;

@@ -1,13 +1,13 @@
 //! The part of a state that is compared, and whether two states have the same one.
 ghost use Rattle.std.specs.Prelude.{◌≡◌, true, IfOk};
 ghost use Rattle.thy_isa.specs.Step.{state_of};
-ghost use Rattle.thy_trial.specs.Trials.{IsReadOf};
-ghost use Rattle.thy_trial.specs.declared.part.Part.TheVariants.{State as Whole, Processor};
+ghost use Rattle.thy_sweep.specs.Trials.{IsReadOf};
+ghost use Rattle.thy_sweep.specs.declared.trial.part.Part.TheVariants.{State as Whole, Processor};
 ghost use Rattle.sweep.specs.Findings.{AreSame, IsProcessor, IsState};
 
 use std::alloc::{AllocError, Global};
 use thy_isa::{CpuState, MachState};
-use thy_trial::{Part, Restored};
+use thy_sweep::{Part, Restored};
 
 /// A copy of a state.
 fn copy_of(alloc: Global, state: &MachState) -> Result<MachState, AllocError>

@@ -1,8 +1,8 @@
 //! The end of a sweep: the closing line of its run, and the text under OUT.
 ghost use Rattle.std.specs.Prelude.{◌≡◌, IfOk, if◌then◌else◌};
 ghost use Rattle.std.specs.String.{string_bytes};
-ghost use Rattle.thy_answer.specs.Kept.{named};
-ghost use Rattle.thy_answer.specs.Saving.{IsPut};
+ghost use Rattle.thy_outcome.specs.Kept.{named};
+ghost use Rattle.thy_outcome.specs.Saving.{IsPut};
 ghost use Rattle.thy_run.specs.Sending.{Sent};
 ghost use Rattle.sweep.specs.Concluding.{ClosesSweep, ClosesStopped, IsConcluded, IsLineOf, ReportsOut, PutsOut, SaysShort, SaysWhy, closed_as, due_of, ends_before, has_ended, is_end};
 
@@ -10,8 +10,8 @@ use crate::account::{Account, Last};
 use crate::asked::{Asked, Unasked};
 use crate::running::{Swept, last_of};
 use std::alloc::{AllocError, Global};
-use thy_answer::{ProgramSource, close, stopped};
 use thy_base::{PutError, Shelf, Sink};
+use thy_outcome::{ProgramSource, close, stopped};
 use thy_run::{Ending, Stop};
 use thy_text::Closing;
 

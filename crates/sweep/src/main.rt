@@ -2,8 +2,8 @@
 //! power come on over copies of what a cut could leave there. It writes text under a name that says to which checkpoints the boots
 //! led, how long they took, and what was lost. Each state that is restored is compared with the plain machine's.
 //!
-//! Open specs/Swept.antt and src/top.rt first, then src/running.rt and src/trying.rt; src/row.rt and src/account.rt make the text. It stands on thy_trial,
-//! thy_files, thy_out, thy_gap and thy_nvm; nothing stands on it.
+//! Open specs/Swept.antt and src/top.rt first, then src/running.rt and src/trying.rt; src/row.rt and src/account.rt make the
+//! text. It stands on thy_sweep, thy_files, thy_out, thy_gap and thy_nvm; nothing stands on it.
 #![tactic(auto)]
 
 mod account;
@@ -26,11 +26,10 @@ use std::alloc::{AllocError, Global};
 use std::io::ErrorKind;
 use std::process::ExitCode;
 use std::rt::Env;
-use thy_answer::{Refusal, refuse};
-use thy_arguments::WordsError;
-use thy_base::Sink;
+use thy_base::{Sink, WordsError};
 use thy_nvm::MemNvm;
 use thy_out::{FileShelf, StdSink};
+use thy_outcome::{Refusal, refuse};
 
 /// The arguments of the command line; none if the system has none to give.
 fn words(rt: &(impl Env + Alloc<A = Global>)) -> Result<Vec<String>, AllocError> {

@@ -1,10 +1,10 @@
 //! Whether a command can be swept, and text be put under OUT.
 ghost use Rattle.std.specs.Prelude.{◌≡◌, option_map};
 ghost use Rattle.std.specs.String.{string_bytes};
-ghost use Rattle.thy_arguments.specs.Settings.{job_of, order_of};
+ghost use Rattle.thy_base.specs.Settings.{job_of, order_of};
 ghost use Rattle.sweep.specs.Naming.{is_barred, is_cut, is_name, is_refused};
 
-use thy_arguments::{Command, Job};
+use thy_base::{Command, Job};
 
 /// Whether OUT is this name.
 fn is_name(out: &str, name: &Option<String>) -> bool

@@ -10,7 +10,7 @@ ghost use Rattle.sweep.specs.Still.{IsLooked};
 ghost use Rattle.sweep.specs.Sweeping.{CanLook, SweepsRun};
 ghost use Rattle.thy_sweep.specs.Lying.{blocks_below, lying};
 ghost use Rattle.thy_sweep.specs.Sums.{no_rows};
-ghost use Rattle.thy_trial.specs.Rooms.{HasRoomFor};
+ghost use Rattle.thy_sweep.specs.Rooms.{HasRoomFor};
 
 use crate::account::{Account, Last};
 use crate::asked::Asked;
@@ -19,12 +19,11 @@ use crate::row::Row;
 use crate::trying::try_cycle;
 use std::alloc::{AllocError, Global};
 use thy_base::{Nvm, Shape, Sink};
+use thy_computer::{Computer, CoreError, Did};
 use thy_isa::Status;
 use thy_run::{Ending, Plan, Progress, SingleCycle, Stop, begin, end, single};
-use thy_sweep::OverMemory;
+use thy_sweep::{OverMemory, Part, Room, Tryable};
 use thy_text::{Event, Events};
-use thy_trial::{Part, Room, Tryable};
-use thy_view::{Computer, CoreError, Did};
 
 /// What is known of a run in addition to its machine.
 #[derive(Drop)]

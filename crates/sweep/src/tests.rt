@@ -10,7 +10,7 @@ use thy_base::{Bytes, Shelf};
 use thy_isa::{MachState, Regs, Status};
 use thy_nvm::MemNvm;
 use thy_out::{MemShelf, MemSink};
-use thy_trial::{Part, Restored};
+use thy_sweep::{Part, Restored};
 
 /// A program file of three instructions at the address 65536: `addi a7,zero,93; addi a0,zero,7; ecall`.
 static EXIT_SEVEN: [u8; 132] = [

@@ -1,16 +1,16 @@
 //! The call: the run with what is tried, and then OUT.
 ghost use Rattle.std.specs.Prelude.{◌≡◌, ◌<◌, ◌^◌, [], None, length, map};
 ghost use Rattle.std.specs.String.{string_bytes};
-ghost use Rattle.thy_answer.specs.Answering.{outside};
-ghost use Rattle.thy_answer.specs.Kept.{named};
-ghost use Rattle.thy_answer.specs.Machines.{by_scheme};
+ghost use Rattle.thy_outcome.specs.Answering.{outside};
+ghost use Rattle.thy_outcome.specs.Kept.{named};
+ghost use Rattle.thy_outcome.specs.Machines.{by_scheme};
 ghost use Rattle.thy_base.specs.Config.{fault_of as range_fault, parameters_of};
 ghost use Rattle.thy_block.specs.declared.parameters.Parameters.{Parameters as Numbers};
 ghost use Rattle.thy_execute.specs.Planning.{CanRun, HasStayed, shape_of};
 ghost use Rattle.thy_files.specs.Restoring.{ReadsFiles};
 ghost use Rattle.thy_run.specs.Going.{IsPlanned};
 ghost use Rattle.thy_run.specs.Rounds.{IsFitted};
-ghost use Rattle.thy_arguments.specs.Settings.{IsInRange, job_of, order_of};
+ghost use Rattle.thy_base.specs.Settings.{IsInRange, job_of, order_of};
 ghost use Rattle.sweep.specs.Naming.{IsUncut};
 ghost use Rattle.sweep.specs.Swept.{Sweeps, SweepsJob, SweepsOrder, SweepsOver, SweepsPlan, levels_of};
 ghost use Rattle.thy_sweep.specs.Lying.{blocks_below};
@@ -20,19 +20,18 @@ use crate::concluding::{conclude, report_short};
 use crate::naming::is_refused;
 use crate::running::{Watch, sweep_run};
 use std::alloc::Global;
-use thy_answer::{ProgramSource, Refusal, refuse};
-use thy_arguments::{Command, Job, WordsError, settings};
-use thy_base::{Block, Geometry, Nvm, SchemeName, Shape, Shelf, Sink};
+use thy_base::{
+    Block, Command, Geometry, Job, Nvm, SchemeName, Shape, Shelf, Sink, WordsError, settings,
+};
+use thy_computer::Computer;
 use thy_core::Machine;
 use thy_files::{Beginning, prepare};
 use thy_gap::Gap;
-use thy_journal::Journal;
 use thy_nvm::MemNvm;
+use thy_outcome::{ProgramSource, Refusal, refuse};
 use thy_run::Plan;
-use thy_shadow::Shadow;
-use thy_thynvm::Thynvm;
-use thy_trial::Tryable;
-use thy_view::Computer;
+use thy_schemes::{Journal, Shadow, Thynvm};
+use thy_sweep::Tryable;
 
 /// The shape that the device of a plan's machine is fitted with.
 fn shape_of<M: Computer>(plan: &Plan) -> Shape

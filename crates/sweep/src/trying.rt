@@ -4,7 +4,7 @@ ghost use Rattle.thy_block.specs.Counts.{next};
 ghost use Rattle.thy_sweep.specs.Choices.{count_of, places_of};
 ghost use Rattle.thy_sweep.specs.Images.{crash_images};
 ghost use Rattle.thy_sweep.specs.Lying.{lying};
-ghost use Rattle.thy_trial.specs.Rooms.{CanTryOf, HasRoomFor};
+ghost use Rattle.thy_sweep.specs.Rooms.{CanTryOf, HasRoomFor};
 ghost use Rattle.sweep.specs.Findings.{IsKnown, IsNamed, is_load};
 ghost use Rattle.sweep.specs.Rows.{NotesNumber, NotesPick, TriesAsked, TriesImages, TriesPicks, noted_if, picks_of, wants};
 ghost use Rattle.sweep.specs.Sweeping.{most_cycles};
@@ -14,10 +14,11 @@ use crate::beside::Beside;
 use crate::row::{Name, Row};
 use std::alloc::{AllocError, Global};
 use thy_base::Mix;
+use thy_computer::{Computer, CoreError};
 use thy_run::Plan;
-use thy_sweep::{Booted, Choices, note_boot};
-use thy_trial::{Found, Part, PickTrial, Room, Trial, Tryable, try_number, try_pick};
-use thy_view::{Computer, CoreError};
+use thy_sweep::{
+    Booted, Choices, Found, Part, PickTrial, Room, Trial, Tryable, note_boot, try_number, try_pick,
+};
 
 /// The most cycles of a boot, as of a run.
 const MOST: u64 = 1_000_000_000_000;

@@ -1,19 +1,20 @@
-//! What every other crate depends on: blocks, bytes, the configuration and its sizes, the numbers drawn for schedules,
-//! the traits of the outside world, and a list of blocks as a list of bytes. Callers rely on `Geometry::new`, which
-//! gives a geometry exactly if each field is in its range, on the clauses of `Nvm`, `Shelf`, `Sink` and `BlockStore`,
-//! all that is known of their implementations, and on `spans_are_bytes`: gathering a span, block by block, gives the
-//! bytes at its place, and scattering bytes over it changes these and no other.
+//! The options of a run with their ranges, its configuration, and the command line. Callers rely on `Config`, which says of
+//! each field whether it is in its range, and names the first one that is not; what thy_block has for crates that name
+//! options is named here too. `arguments` is the command line: `settings` gives exactly what arguments ask for, as a command
+//! with its configuration, or why they are refused, unless memory ran out.
 //!
-//! Open specs/Device.antt and src/nvm.rt first, then specs/Geometry.antt and specs/Spans.antt. It depends on no crate
-//! of this repository; every other depends on it.
+//! Open specs/Config.antt first, then specs/Options.antt and src/options.rt; of the command line specs/Settings.antt and
+//! src/arguments/words.rt. It depends on thy_block and on `clap`; every crate that names an option depends on it.
 #![tactic(auto)]
 
+mod arguments;
 mod config;
 mod configuration;
 mod numbers;
 mod options;
 mod ranges;
 
+pub use arguments::{Command, Job, WordsError, is_list, is_number, list_of, number, settings};
 pub use config::{Config, ConfigError, Field};
 pub use numbers::Numbers;
 pub use options::{Bounds, Commands, MOST_NUMBER, OptionRow, Value, fields};

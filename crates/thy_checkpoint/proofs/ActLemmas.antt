@@ -9,13 +9,13 @@ use Rattle.thy_layout.specs.declared.bad_image.BadImage.{BadImage}
 use Rattle.thy_layout.specs.Commit.{commit_of, is_zero}
 use Rattle.thy_layout.specs.declared.layout_version.LayoutVersion.{LayoutVersion}
 use Rattle.thy_layout.specs.declared.layout_version.LayoutVersion.TheVariants.{VersionOne, VersionTwo}
-use Rattle.thy_view.specs.Action.{Rest, FailsTo, IsBootAction, Asks, AsksBy, ActsBy, IsAfter}
-use Rattle.thy_view.specs.Booting.{boot_did}
-use Rattle.thy_view.specs.Dram.{ActsOnDram}
-use Rattle.thy_view.specs.declared.round.Round.{Round}
-use Rattle.thy_view.specs.declared.round.Round.TheVariants.{Write, Confirm}
-use Rattle.thy_view.specs.Round.{RoundWrites, IsInRound, round_action, next_round, round_left}
-use Rattle.thy_view.proofs.RoundLemmas.{left_then, round_counts, round_asks, next_by}
+use Rattle.thy_computer.specs.Action.{Rest, FailsTo, IsBootAction, Asks, AsksBy, ActsBy, IsAfter}
+use Rattle.thy_computer.specs.Booting.{boot_did}
+use Rattle.thy_computer.specs.Dram.{ActsOnDram}
+use Rattle.thy_computer.specs.declared.round.Round.{Round}
+use Rattle.thy_computer.specs.declared.round.Round.TheVariants.{Write, Confirm}
+use Rattle.thy_computer.specs.Round.{RoundWrites, IsInRound, round_action, next_round, round_left}
+use Rattle.thy_computer.proofs.RoundLemmas.{left_then, round_counts, round_asks, next_by}
 use Rattle.thy_checkpoint.specs.declared.boot_stage.Stage.{Stage}
 use Rattle.thy_checkpoint.specs.declared.boot_stage.Stage.TheVariants.{Reads, Loads, Migrates, Over}
 use Rattle.thy_checkpoint.specs.declared.boot_stage.ReadStage.{ReadStage}

@@ -7,8 +7,8 @@ use Rattle.std.proofs.Math.ListN.{get_or-map}
 use Rattle.thy_block.specs.declared.block.Block.{Block}
 use Rattle.thy_block.specs.Device.{Device, block_at, newest, zero_block}
 use Rattle.thy_layout.specs.Fixed.{Reads}
-use Rattle.thy_view.specs.Issuing.{ArePlaced, AreIssued}
-use Rattle.thy_view.specs.Rounds.{AreApart, HasWritten}
+use Rattle.thy_computer.specs.Issuing.{ArePlaced, AreIssued}
+use Rattle.thy_computer.specs.Rounds.{AreApart, HasWritten}
 use Rattle.thy_checkpoint.specs.Filling.{First}
 use Rattle.thy_checkpoint.specs.Loads.{part_at, place_of_first, block_of_first, first_writes}
 

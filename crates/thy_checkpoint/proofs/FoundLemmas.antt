@@ -16,20 +16,20 @@ use Rattle.thy_layout.specs.Decoded.{At, Decoded, Nothing, Refused as IsRefused}
 use Rattle.thy_layout.specs.Layout.{state_by, looked_by, Layout, decode_by}
 use Rattle.thy_layout.specs.declared.bad_image.BadImage.{BadImage}
 use Rattle.thy_layout.specs.Cpu.{cpu_of_record}
-use Rattle.thy_view.specs.Origin.{Origin, at}
-use Rattle.thy_view.specs.Booting.{boot_view, loading_view, view_of_image, boot_did}
-use Rattle.thy_view.specs.CoreStep.{CoreStep}
-use Rattle.thy_view.specs.Safe.{ceiling}
-use Rattle.thy_view.specs.declared.did.Did.TheVariants.{Restarted as HasRestarted}
-use Rattle.thy_view.specs.declared.view.Phase.TheVariants.{Boot as BootPhase}
-use Rattle.thy_view.specs.Moves.{standing, IsKeeping, Move, Goes, Standing, Seals}
-use Rattle.thy_view.proofs.KeepsLemmas.{IsKeeping-move, finding_view-meant}
-use Rattle.thy_view.specs.Rounds.{saved_in, HasWrittenBefore}
-use Rattle.thy_view.proofs.RoundLemmas.{drain_keeps_written}
-use Rattle.thy_view.specs.Keeps.{Keeps, HasKept, finding_view}
-use Rattle.thy_view.specs.declared.round.Round.{Round}
-use Rattle.thy_view.specs.declared.round.Round.TheVariants.{Write}
-use Rattle.thy_view.specs.Round.{is_written}
+use Rattle.thy_computer.specs.Origin.{Origin, at}
+use Rattle.thy_computer.specs.Booting.{boot_view, loading_view, view_of_image, boot_did}
+use Rattle.thy_computer.specs.CoreStep.{CoreStep}
+use Rattle.thy_computer.specs.Safe.{ceiling}
+use Rattle.thy_computer.specs.declared.did.Did.TheVariants.{Restarted as HasRestarted}
+use Rattle.thy_computer.specs.declared.view.Phase.TheVariants.{Boot as BootPhase}
+use Rattle.thy_computer.specs.Moves.{standing, IsKeeping, Move, Goes, Standing, Seals}
+use Rattle.thy_computer.proofs.KeepsLemmas.{IsKeeping-move, finding_view-meant}
+use Rattle.thy_computer.specs.Rounds.{saved_in, HasWrittenBefore}
+use Rattle.thy_computer.proofs.RoundLemmas.{drain_keeps_written}
+use Rattle.thy_computer.specs.Keeps.{Keeps, HasKept, finding_view}
+use Rattle.thy_computer.specs.declared.round.Round.{Round}
+use Rattle.thy_computer.specs.declared.round.Round.TheVariants.{Write}
+use Rattle.thy_computer.specs.Round.{is_written}
 use Rattle.thy_checkpoint.specs.Loads.{first_writes}
 use Rattle.thy_checkpoint.specs.declared.boot_stage.Stage.{Stage}
 use Rattle.thy_checkpoint.specs.declared.boot_stage.Stage.TheVariants.{Reads, Loads, Migrates, Over}

@@ -4,10 +4,10 @@ use Rattle.thy_layout.specs.AreLayouts.{AreLayouts}
 use Rattle.thy_layout.specs.Commit.{commit_of}
 use Rattle.thy_checkpoint.specs.declared.engine_stage.EngineStage.{EngineStage}
 use Rattle.thy_checkpoint.specs.declared.engine_stage.EngineStage.TheVariants.{Idle, Body, InRound, Tail}
-use Rattle.thy_view.specs.declared.round.Round.{Round}
-use Rattle.thy_view.specs.declared.round.Round.TheVariants.{Write, Settle, Commit, Confirm}
-use Rattle.thy_view.specs.Round.{IsInRound, round_left}
-use Rattle.thy_view.proofs.RoundLemmas.{next_by, round_most}
+use Rattle.thy_computer.specs.declared.round.Round.{Round}
+use Rattle.thy_computer.specs.declared.round.Round.TheVariants.{Write, Settle, Commit, Confirm}
+use Rattle.thy_computer.specs.Round.{IsInRound, round_left}
+use Rattle.thy_computer.proofs.RoundLemmas.{next_by, round_most}
 use Rattle.thy_block.specs.declared.parameters.Parameters.{Parameters}
 use Rattle.thy_checkpoint.specs.Filling.{FillingOf, IsFilling}
 use Rattle.thy_checkpoint.proofs.LoadLemmas.{slot_inside as all_inside}

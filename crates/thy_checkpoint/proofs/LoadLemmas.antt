@@ -29,12 +29,12 @@ use Rattle.thy_layout.proofs.PlacesLemmas.{length-memory_places, memory_place, m
 use Rattle.thy_layout.specs.declared.bad_image.BadImage.TheVariants.{Commit as BadCommit}
 use Rattle.thy_layout.specs.declared.layout_version.LayoutVersion.TheVariants.{VersionOne}
 use Rattle.thy_layout.proofs.AskingLemmas.{map-alike}
-use Rattle.thy_view.specs.Origin.{Origin}
-use Rattle.thy_view.specs.Safe.{ceiling}
-use Rattle.thy_view.specs.Issuing.{ArePlaced, AreIssued, IsCheckpoint, slot_of, CheckpointParts, ArePartsOf}
-use Rattle.thy_view.specs.Keeps.{IsOf}
-use Rattle.thy_view.proofs.IssuingLemmas.{issued_is_checkpoint}
-use Rattle.thy_view.proofs.KeepsLemmas.{at-start}
+use Rattle.thy_computer.specs.Origin.{Origin}
+use Rattle.thy_computer.specs.Safe.{ceiling}
+use Rattle.thy_computer.specs.Issuing.{ArePlaced, AreIssued, IsCheckpoint, slot_of, CheckpointParts, ArePartsOf}
+use Rattle.thy_computer.specs.Keeps.{IsOf}
+use Rattle.thy_computer.proofs.IssuingLemmas.{issued_is_checkpoint}
+use Rattle.thy_computer.proofs.KeepsLemmas.{at-start}
 use Rattle.thy_checkpoint.specs.Filling.{FillingOf, First, IsFilling, layout_at, first_slot_of, first_by, IsOlder, IsTheSame, anew, slot_anew}
 use Rattle.thy_checkpoint.specs.Sound.{layout_for, first_of, start_mark}
 use Rattle.thy_checkpoint.specs.Start.{CanStart}

@@ -6,8 +6,8 @@ use Rattle.thy_block.specs.Device.{Device, newest}
 use Rattle.thy_isa.specs.OnBlocks.{state_from}
 use Rattle.thy_isa.specs.Step.{cpu_of}
 use Rattle.thy_layout.specs.Layout.{header_bad}
-use Rattle.thy_view.specs.Origin.{Origin, IsOrigin, at}
-use Rattle.thy_view.proofs.KeepsLemmas.{at-start}
+use Rattle.thy_computer.specs.Origin.{Origin, IsOrigin, at}
+use Rattle.thy_computer.proofs.KeepsLemmas.{at-start}
 use Rattle.thy_checkpoint.specs.Filling.{FillingOf, IsFilling, first_by}
 use Rattle.thy_checkpoint.specs.Sound.{BootImages, layout_for, first_of, IsLoaded}
 use Rattle.thy_checkpoint.specs.Start.{CanStart, start_blocks}

@@ -15,18 +15,18 @@ use Rattle.thy_layout.specs.Commit.{commit_of, epoch_of, commit_magic}
 use Rattle.thy_layout.specs.declared.layout_version.LayoutVersion.TheVariants.{VersionTwo}
 use Rattle.thy_layout.proofs.CommitLemmas.{one_word-between, nothing-stated, one_word-first}
 use Rattle.thy_layout.proofs.ReadBackLemmas.{commit_fault-commit_of, is_zero-commit_of}
-use Rattle.thy_view.specs.Action.{IsLeftBy, FailsTo}
-use Rattle.thy_view.specs.Origin.{Origin, at}
-use Rattle.thy_view.specs.Safe.{ceiling}
-use Rattle.thy_view.specs.declared.round.Round.{Round}
-use Rattle.thy_view.specs.declared.round.Round.TheVariants.{Write, Settle, Commit, Confirm}
-use Rattle.thy_view.specs.Issuing.{slot_of, AreIssued}
-use Rattle.thy_view.specs.Keeps.{IsOf, HasKept}
-use Rattle.thy_view.specs.Moves.{IsKeeping, Move, Standing, standing}
-use Rattle.thy_view.specs.Round.{RoundWrites, IsInRound, round_action, next_round}
-use Rattle.thy_view.specs.Rounds.{made_after, standing_then, MayTake, AreApart, HasWritten, HasWrittenBefore, HasWrittenThen, saved_in, saved_after_fault, AreIssuedBefore, AreIssuedThen}
-use Rattle.thy_view.proofs.RoundLemmas.{next_by, rounds_move, failed_rounds_move, rounds_issue, issued_over}
-use Rattle.thy_view.proofs.IssuingLemmas.{drain_keeps}
+use Rattle.thy_computer.specs.Action.{IsLeftBy, FailsTo}
+use Rattle.thy_computer.specs.Origin.{Origin, at}
+use Rattle.thy_computer.specs.Safe.{ceiling}
+use Rattle.thy_computer.specs.declared.round.Round.{Round}
+use Rattle.thy_computer.specs.declared.round.Round.TheVariants.{Write, Settle, Commit, Confirm}
+use Rattle.thy_computer.specs.Issuing.{slot_of, AreIssued}
+use Rattle.thy_computer.specs.Keeps.{IsOf, HasKept}
+use Rattle.thy_computer.specs.Moves.{IsKeeping, Move, Standing, standing}
+use Rattle.thy_computer.specs.Round.{RoundWrites, IsInRound, round_action, next_round}
+use Rattle.thy_computer.specs.Rounds.{made_after, standing_then, MayTake, AreApart, HasWritten, HasWrittenBefore, HasWrittenThen, saved_in, saved_after_fault, AreIssuedBefore, AreIssuedThen}
+use Rattle.thy_computer.proofs.RoundLemmas.{next_by, rounds_move, failed_rounds_move, rounds_issue, issued_over}
+use Rattle.thy_computer.proofs.IssuingLemmas.{drain_keeps}
 use Rattle.thy_checkpoint.specs.declared.boot_stage.Stage.TheVariants.{Loads, Migrates}
 use Rattle.thy_checkpoint.specs.Boot.{Booting, layout_in, slot_read, at_stage}
 use Rattle.thy_checkpoint.specs.Filling.{FillingOf, First, IsFilling, IsTheSame, ReadsAlike, anew}

@@ -10,9 +10,9 @@ use Rattle.thy_block.specs.Words.{word_of}
 use Rattle.thy_checkpoint.specs.declared.boot_stage.Stage.{Stage}
 use Rattle.thy_checkpoint.specs.declared.boot_stage.Stage.TheVariants.{Reads, Loads, Migrates}
 use Rattle.thy_checkpoint.specs.declared.boot_stage.ReadStage.TheVariants.{Unread, Header, Slot, Fills}
-use Rattle.thy_view.specs.declared.round.Round.TheVariants.{Write}
-use Rattle.thy_view.specs.Round.{round_left}
-use Rattle.thy_view.proofs.RoundLemmas.{round_most}
+use Rattle.thy_computer.specs.declared.round.Round.TheVariants.{Write}
+use Rattle.thy_computer.specs.Round.{round_left}
+use Rattle.thy_computer.proofs.RoundLemmas.{round_most}
 use Rattle.thy_checkpoint.specs.Boot.{Booting, layout_in, slot_read, slot_fault, version_in, at_stage, refusing_or, after_commit, head_fault, after_header, after_slot, filled_by, filling_or, filling_from, has_more, gone_on}
 use Rattle.thy_checkpoint.specs.Filling.{FillingOf, IsFilling, anew}
 use Rattle.thy_checkpoint.specs.Left.{migration_by, numbers_of, reads_left, boot_left}

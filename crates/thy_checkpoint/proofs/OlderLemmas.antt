@@ -10,8 +10,8 @@ use Rattle.thy_layout.specs.Header.{last_word, knows_version_one}
 use Rattle.thy_checkpoint.specs.declared.boot_stage.Stage.{Stage}
 use Rattle.thy_checkpoint.specs.declared.boot_stage.Stage.TheVariants.{Migrates}
 use Rattle.thy_checkpoint.specs.Filling.{FillingOf, layout_at}
-use Rattle.thy_view.specs.declared.round.Round.TheVariants.{Write}
-use Rattle.thy_view.specs.Round.{round_left}
+use Rattle.thy_computer.specs.declared.round.Round.TheVariants.{Write}
+use Rattle.thy_computer.specs.Round.{round_left}
 use Rattle.thy_checkpoint.specs.Laws.{NumberedCountNone, NumberedNeverMigrate}
 use Rattle.thy_checkpoint.specs.Shows.{migrates_at}
 use Rattle.thy_checkpoint.specs.Sound.{IsSoundAt}

@@ -18,12 +18,12 @@ use Rattle.thy_layout.proofs.HeaderLemmas.{named_two}
 use Rattle.thy_layout.specs.Decoded.{Nothing, Refused as IsRefused, At}
 use Rattle.thy_layout.specs.Layout.{Layout, header_bad, commit_bad, state_by, slot_in, memory_in, is_sized, fault_of, refused_or_at, decode_by}
 use Rattle.thy_layout.proofs.LayoutLemmas.{sized_if_long, decode_by-zero}
-use Rattle.thy_view.specs.Safe.{ceiling}
+use Rattle.thy_computer.specs.Safe.{ceiling}
 use Rattle.thy_checkpoint.specs.declared.boot_stage.Stage.{Stage}
 use Rattle.thy_checkpoint.specs.declared.boot_stage.Stage.TheVariants.{Reads, Loads, Migrates, Over}
 use Rattle.thy_checkpoint.specs.declared.boot_stage.ReadStage.TheVariants.{Unread, Header, Slot, Fills}
 use Rattle.thy_checkpoint.specs.declared.boot_stage.End.TheVariants.{Restored}
-use Rattle.thy_view.specs.declared.round.Round.TheVariants.{Write}
+use Rattle.thy_computer.specs.declared.round.Round.TheVariants.{Write}
 use Rattle.thy_checkpoint.specs.Boot.{Booting, IsBoot, IsThere, new_boot, layout_in, slot_read, slot_fault, version_in, at_stage, refusing_or, after_commit, head_fault, after_header, after_slot, filled_by, filling_or, filling_from, has_more, gone_on, IsJudged, GoesOn}
 use Rattle.thy_checkpoint.specs.Filling.{FillingOf, IsFilling, layout_at}
 use Rattle.thy_checkpoint.specs.Reads.{slot_kept}

@@ -9,22 +9,22 @@ use Rattle.thy_layout.specs.Saved.{Kept, guarded, Saved}
 use Rattle.thy_layout.proofs.SparesLemmas.{Spares-failed}
 use Rattle.thy_isa.specs.Step.{State}
 use Rattle.thy_layout.specs.Layout.{looked_by, reading}
-use Rattle.thy_view.specs.Action.{Action, FailsTo, is_commit_write, doubt_after_fault, IsAfter, IsLeftBy}
-use Rattle.thy_view.proofs.ActionLemmas.{down-after, length-after, after-is}
-use Rattle.thy_view.specs.Booting.{loading_view, boot_did}
-use Rattle.thy_view.specs.Origin.{Origin}
-use Rattle.thy_view.specs.Safe.{Safe}
-use Rattle.thy_view.specs.Views.{doubt_of}
-use Rattle.thy_view.proofs.SafeLemmas.{Safe-same}
-use Rattle.thy_view.specs.CoreStep.{CoreStep}
-use Rattle.thy_view.specs.Keeps.{Keeps, doubt_in, finding_view}
-use Rattle.thy_view.specs.Moves.{IsKeeping, standing, Move, Goes, Standing}
-use Rattle.thy_view.proofs.KeepsLemmas.{Keeps-empty, IsKeeping-move, Safe-kept, Safe-sealed}
-use Rattle.thy_view.specs.declared.round.Round.{Round}
-use Rattle.thy_view.specs.declared.round.Round.TheVariants.{Write, Confirm, Commit}
-use Rattle.thy_view.specs.Round.{RoundWrites, IsInRound, round_action, next_round, is_written}
-use Rattle.thy_view.proofs.RoundLemmas.{next_by, next_inside, rounds_write}
-use Rattle.thy_view.specs.Rounds.{saved_in, saved_after_fault}
+use Rattle.thy_computer.specs.Action.{Action, FailsTo, is_commit_write, doubt_after_fault, IsAfter, IsLeftBy}
+use Rattle.thy_computer.proofs.ActionLemmas.{down-after, length-after, after-is}
+use Rattle.thy_computer.specs.Booting.{loading_view, boot_did}
+use Rattle.thy_computer.specs.Origin.{Origin}
+use Rattle.thy_computer.specs.Safe.{Safe}
+use Rattle.thy_computer.specs.Views.{doubt_of}
+use Rattle.thy_computer.proofs.SafeLemmas.{Safe-same}
+use Rattle.thy_computer.specs.CoreStep.{CoreStep}
+use Rattle.thy_computer.specs.Keeps.{Keeps, doubt_in, finding_view}
+use Rattle.thy_computer.specs.Moves.{IsKeeping, standing, Move, Goes, Standing}
+use Rattle.thy_computer.proofs.KeepsLemmas.{Keeps-empty, IsKeeping-move, Safe-kept, Safe-sealed}
+use Rattle.thy_computer.specs.declared.round.Round.{Round}
+use Rattle.thy_computer.specs.declared.round.Round.TheVariants.{Write, Confirm, Commit}
+use Rattle.thy_computer.specs.Round.{RoundWrites, IsInRound, round_action, next_round, is_written}
+use Rattle.thy_computer.proofs.RoundLemmas.{next_by, next_inside, rounds_write}
+use Rattle.thy_computer.specs.Rounds.{saved_in, saved_after_fault}
 use Rattle.thy_checkpoint.specs.declared.boot_stage.Stage.{Stage}
 use Rattle.thy_checkpoint.specs.declared.boot_stage.Stage.TheVariants.{Reads, Loads, Migrates, Over}
 use Rattle.thy_checkpoint.specs.Boot.{Booting, layout_in, at_stage, answer_at, answer_of}

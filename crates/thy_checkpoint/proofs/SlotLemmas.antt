@@ -13,7 +13,7 @@ use Rattle.thy_layout.specs.Saved.{next_image}
 use Rattle.thy_layout.specs.Files.{block_in, blocks_of}
 use Rattle.thy_layout.specs.Layout.{Layout, slot_in}
 use Rattle.thy_layout.proofs.FileLemmas.{length-blocks_of, block_at-blocks_of, block_in-part}
-use Rattle.thy_view.specs.Issuing.{slot_of}
+use Rattle.thy_computer.specs.Issuing.{slot_of}
 use Rattle.thy_checkpoint.specs.Boot.{Booting, layout_in, slot_read}
 use Rattle.thy_checkpoint.specs.Filling.{FillingOf, IsFilling, anew}
 use Rattle.thy_checkpoint.specs.Recovers.{HasCommit, HasSlot}

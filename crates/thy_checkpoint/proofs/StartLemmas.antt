@@ -15,7 +15,7 @@ use Rattle.thy_block.proofs.RangeLemmas.{console_below}
 use Rattle.thy_block.specs.Flat.{flat}
 use Rattle.thy_isa.specs.OnBlocks.{state_from}
 use Rattle.thy_isa.specs.Step.{State, cpu_of, state_with}
-use Rattle.thy_view.specs.Origin.{Origin, IsOrigin}
+use Rattle.thy_computer.specs.Origin.{Origin, IsOrigin}
 use Rattle.thy_checkpoint.specs.Start.{IsStartFor, CanStart, start_bytes, start_block, start_blocks}
 
 -- zeros past the end of a list

@@ -13,11 +13,11 @@ use Rattle.thy_layout.specs.Commit.{is_zero, epoch_of, version_of}
 use Rattle.thy_layout.specs.Cpu.{cpu_of_record}
 use Rattle.thy_layout.specs.Files.{blocks_of}
 use Rattle.thy_layout.specs.Layout.{Layout, header_bad, commit_bad}
-use Rattle.thy_view.specs.declared.round.Round.TheVariants.{Write}
-use Rattle.thy_view.specs.Round.{IsInRound}
-use Rattle.thy_view.specs.declared.boot_step.BootStep.{BootStep}
-use Rattle.thy_view.specs.declared.boot_step.BootStep.TheVariants.{GoesOn as Continues, Loaded as HasLoaded, Restarted, Refused}
-use Rattle.thy_view.specs.Safe.{ceiling}
+use Rattle.thy_computer.specs.declared.round.Round.TheVariants.{Write}
+use Rattle.thy_computer.specs.Round.{IsInRound}
+use Rattle.thy_computer.specs.declared.boot_step.BootStep.{BootStep}
+use Rattle.thy_computer.specs.declared.boot_step.BootStep.TheVariants.{GoesOn as Continues, Loaded as HasLoaded, Restarted, Refused}
+use Rattle.thy_computer.specs.Safe.{ceiling}
 use Rattle.thy_checkpoint.specs.declared.boot_stage.Stage.{Stage}
 use Rattle.thy_checkpoint.specs.declared.boot_stage.Stage.TheVariants.{Reads, Loads, Migrates, Over}
 use Rattle.thy_checkpoint.specs.declared.boot_stage.ReadStage.TheVariants.{Header, Slot, Fills, Refusing, Unread}

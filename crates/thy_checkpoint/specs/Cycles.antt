@@ -4,8 +4,8 @@ use Rattle.std.specs.Prelude.{◌≡◌, ℕ, ◌+◌, ◌≤◌, true, if◌the
 use Rattle.thy_block.specs.declared.parameters.Parameters.{Parameters}
 use Rattle.thy_checkpoint.specs.declared.engine_stage.EngineStage.{EngineStage}
 use Rattle.thy_checkpoint.specs.declared.engine_stage.EngineStage.TheVariants.{Idle, Body, InRound, Tail}
-use Rattle.thy_view.specs.declared.round.Round.TheVariants.{Write}
-use Rattle.thy_view.specs.Round.{round_left}
+use Rattle.thy_computer.specs.declared.round.Round.TheVariants.{Write}
+use Rattle.thy_computer.specs.Round.{round_left}
 use Rattle.thy_checkpoint.specs.Filling.{FillingOf, layout_at}
 use Rattle.thy_checkpoint.specs.Items.{ItemsOf}
 use Rattle.thy_checkpoint.specs.Progress.{Progress, Fits, slot_blocks, is_under_way, engine_next, control_next}

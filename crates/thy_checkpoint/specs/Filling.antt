@@ -14,9 +14,9 @@ use Rattle.thy_layout.specs.Commit.{commit_of, epoch_of, version_of}
 use Rattle.thy_layout.specs.Cpu.{cpu_of_record}
 use Rattle.thy_layout.specs.Header.{header_of}
 use Rattle.thy_layout.specs.Layout.{Layout, Layouts, memory_places, slot_in, memory_in}
-use Rattle.thy_view.specs.Dram.{ActsOnDram}
-use Rattle.thy_view.specs.Safe.{ceiling}
-use Rattle.thy_view.specs.Issuing.{CheckpointParts}
+use Rattle.thy_computer.specs.Dram.{ActsOnDram}
+use Rattle.thy_computer.specs.Safe.{ceiling}
+use Rattle.thy_computer.specs.Issuing.{CheckpointParts}
 use Rattle.thy_checkpoint.specs.Start.{CanStart, start_blocks}
 
 -- what controllers of a type mean, and what they show, while a boot fills them

@@ -8,25 +8,25 @@ use Rattle.thy_layout.specs.Saved.{Kept}
 use Rattle.thy_isa.specs.Step.{State}
 use Rattle.thy_layout.specs.declared.bad_image.BadImage.{BadImage}
 use Rattle.thy_layout.specs.Commit.{epoch_of, commit_of}
-use Rattle.thy_view.specs.declared.boot_step.BootStep.{BootStep}
-use Rattle.thy_view.specs.declared.boot_step.BootStep.TheVariants.{GoesOn, Loaded}
-use Rattle.thy_view.specs.Action.{AsksBy, ActsBy, doubt_after_fault}
-use Rattle.thy_view.specs.Booting.{view_of_image, boot_did}
-use Rattle.thy_view.specs.CoreStep.{CoreStep}
-use Rattle.thy_view.specs.Dram.{ActsOnDram}
-use Rattle.thy_view.specs.Origin.{Origin, IsOrigin, at}
-use Rattle.thy_view.specs.Safe.{ceiling, Safe}
-use Rattle.thy_view.specs.Views.{doubt_of}
-use Rattle.thy_view.specs.Keeps.{Keeps, HasKept}
+use Rattle.thy_computer.specs.declared.boot_step.BootStep.{BootStep}
+use Rattle.thy_computer.specs.declared.boot_step.BootStep.TheVariants.{GoesOn, Loaded}
+use Rattle.thy_computer.specs.Action.{AsksBy, ActsBy, doubt_after_fault}
+use Rattle.thy_computer.specs.Booting.{view_of_image, boot_did}
+use Rattle.thy_computer.specs.CoreStep.{CoreStep}
+use Rattle.thy_computer.specs.Dram.{ActsOnDram}
+use Rattle.thy_computer.specs.Origin.{Origin, IsOrigin, at}
+use Rattle.thy_computer.specs.Safe.{ceiling, Safe}
+use Rattle.thy_computer.specs.Views.{doubt_of}
+use Rattle.thy_computer.specs.Keeps.{Keeps, HasKept}
 use Rattle.thy_layout.specs.Layout.{state_by, decode_by, reading}
-use Rattle.thy_view.specs.Moves.{Standing, standing, Move}
+use Rattle.thy_computer.specs.Moves.{Standing, standing, Move}
 use Rattle.thy_checkpoint.specs.declared.boot_stage.Stage.{Stage}
 use Rattle.thy_checkpoint.specs.declared.boot_stage.Stage.TheVariants.{Reads, Loads, Migrates, Over}
 use Rattle.thy_checkpoint.specs.declared.boot_stage.ReadStage.{ReadStage}
 use Rattle.thy_checkpoint.specs.declared.boot_stage.ReadStage.TheVariants.{Refusing}
 use Rattle.thy_checkpoint.specs.declared.boot_stage.End.TheVariants.{Restored}
-use Rattle.thy_view.specs.declared.round.Round.TheVariants.{Confirm}
-use Rattle.thy_view.specs.Rounds.{saved_after_fault}
+use Rattle.thy_computer.specs.declared.round.Round.TheVariants.{Confirm}
+use Rattle.thy_computer.specs.Rounds.{saved_after_fault}
 use Rattle.thy_checkpoint.specs.Boot.{Booting, new_boot, layout_in, slot_read, answer_of}
 use Rattle.thy_checkpoint.specs.Filling.{FillingOf, layout_at}
 use Rattle.thy_checkpoint.specs.Left.{most_migration, boot_left}

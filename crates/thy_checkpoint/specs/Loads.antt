@@ -6,9 +6,9 @@ use Rattle.thy_block.specs.declared.nvm.NvmError.{NvmError}
 use Rattle.thy_block.specs.Device.{Device, block_at, IsFramed, CountsFault}
 use Rattle.thy_block.specs.Places.{header_place}
 use Rattle.thy_isa.specs.Step.{State}
-use Rattle.thy_view.specs.declared.round.Round.{Round}
-use Rattle.thy_view.specs.Round.{RoundWrites, IsInRound}
-use Rattle.thy_view.specs.Action.{Action, IsAfter, FailsTo}
+use Rattle.thy_computer.specs.declared.round.Round.{Round}
+use Rattle.thy_computer.specs.Round.{RoundWrites, IsInRound}
+use Rattle.thy_computer.specs.Action.{Action, IsAfter, FailsTo}
 use Rattle.thy_checkpoint.specs.declared.boot_stage.Stage.{Stage}
 use Rattle.thy_checkpoint.specs.declared.boot_stage.Stage.TheVariants.{Loads, Over}
 use Rattle.thy_checkpoint.specs.declared.boot_stage.End.TheVariants.{Loaded}

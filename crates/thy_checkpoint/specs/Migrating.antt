@@ -4,12 +4,12 @@
 use Rattle.std.specs.Prelude.{◌≡◌, ℕ, ◌-◌, ◌*◌, false, List, ◌++◌, length, take, replicate, Option, Some, None}
 use Rattle.thy_block.specs.Device.{Device, block_at}
 use Rattle.thy_layout.specs.Layout.{memory_places}
-use Rattle.thy_view.specs.declared.round.Round.{Round}
-use Rattle.thy_view.specs.declared.round.Round.TheVariants.{Confirm}
-use Rattle.thy_view.specs.Issuing.{CheckpointParts}
-use Rattle.thy_view.specs.Round.{RoundWrites, IsInRound, round_action, next_round}
-use Rattle.thy_view.specs.Rounds.{slot_writes}
-use Rattle.thy_view.specs.Action.{IsAfter}
+use Rattle.thy_computer.specs.declared.round.Round.{Round}
+use Rattle.thy_computer.specs.declared.round.Round.TheVariants.{Confirm}
+use Rattle.thy_computer.specs.Issuing.{CheckpointParts}
+use Rattle.thy_computer.specs.Round.{RoundWrites, IsInRound, round_action, next_round}
+use Rattle.thy_computer.specs.Rounds.{slot_writes}
+use Rattle.thy_computer.specs.Action.{IsAfter}
 use Rattle.thy_checkpoint.specs.declared.boot_stage.Stage.{Stage}
 use Rattle.thy_checkpoint.specs.declared.boot_stage.Stage.TheVariants.{Migrates, Over}
 use Rattle.thy_checkpoint.specs.declared.boot_stage.End.TheVariants.{Restored}

@@ -14,13 +14,13 @@ use Rattle.thy_layout.specs.Commit.{commit_of}
 use Rattle.thy_layout.specs.Cpu.{cpu_block_of}
 use Rattle.thy_layout.specs.Layout.{Layout}
 use Rattle.thy_checkpoint.specs.Filling.{FillingOf, layout_at}
-use Rattle.thy_view.specs.Action.{Action, Rest, WriteAt, Barrier, IsAfter, FailsTo}
+use Rattle.thy_computer.specs.Action.{Action, Rest, WriteAt, Barrier, IsAfter, FailsTo}
 use Rattle.thy_checkpoint.specs.declared.engine.Done.{Done}
 use Rattle.thy_checkpoint.specs.declared.engine_stage.EngineStage.{EngineStage}
 use Rattle.thy_checkpoint.specs.declared.engine_stage.EngineStage.TheVariants.{Idle, Body, InRound, Tail}
-use Rattle.thy_view.specs.declared.round.Round.{Round}
-use Rattle.thy_view.specs.declared.round.Round.TheVariants.{Write, Settle, Commit, Confirm}
-use Rattle.thy_view.specs.Round.{RoundWrites, IsInRound, round_action, next_round}
+use Rattle.thy_computer.specs.declared.round.Round.{Round}
+use Rattle.thy_computer.specs.declared.round.Round.TheVariants.{Write, Settle, Commit, Confirm}
+use Rattle.thy_computer.specs.Round.{RoundWrites, IsInRound, round_action, next_round}
 use Rattle.thy_checkpoint.specs.Items.{ItemsOf, Phase, Resting, Making, Made, Applying}
 
 pub record Progress : Type 0 where

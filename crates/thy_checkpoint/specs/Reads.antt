@@ -3,7 +3,7 @@
 use Rattle.std.specs.Prelude.{◌≡◌, ℕ, ◌+◌, length}
 use Rattle.thy_block.specs.Device.{Device, newest}
 use Rattle.thy_block.specs.Places.{commit_place, header_place}
-use Rattle.thy_view.specs.Action.{Action, Rest, ReadAt}
+use Rattle.thy_computer.specs.Action.{Action, Rest, ReadAt}
 use Rattle.thy_checkpoint.specs.declared.boot_stage.ReadStage.{ReadStage}
 use Rattle.thy_checkpoint.specs.declared.boot_stage.ReadStage.TheVariants.{Unread, Header, Slot, Fills, Refusing}
 use Rattle.thy_checkpoint.specs.Boot.{Booting, layout_in, at_stage, after_commit, after_header, filling_from, with_slot_block, has_more, gone_on, GoesOn}

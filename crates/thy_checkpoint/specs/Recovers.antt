@@ -8,14 +8,14 @@ use Rattle.thy_layout.specs.Decoded.{Nothing, Refused as IsRefused, At}
 use Rattle.thy_layout.specs.Files.{block_in}
 use Rattle.thy_layout.specs.declared.layout_version.LayoutVersion.TheVariants.{VersionOne}
 use Rattle.thy_layout.specs.Layout.{Layout, header_bad, commit_bad, state_by, slot_in, memory_in, decode_by}
-use Rattle.thy_view.specs.Safe.{ceiling}
+use Rattle.thy_computer.specs.Safe.{ceiling}
 use Rattle.thy_checkpoint.specs.declared.boot_stage.Stage.{Stage}
 use Rattle.thy_checkpoint.specs.declared.boot_stage.Stage.TheVariants.{Reads, Loads, Migrates, Over}
 use Rattle.thy_checkpoint.specs.declared.boot_stage.ReadStage.{ReadStage}
 use Rattle.thy_checkpoint.specs.declared.boot_stage.ReadStage.TheVariants.{Unread, Header, Slot, Fills, Refusing}
 use Rattle.thy_checkpoint.specs.declared.boot_stage.End.TheVariants.{Restored, Loaded}
-use Rattle.thy_view.specs.declared.round.Round.{Round}
-use Rattle.thy_view.specs.declared.round.Round.TheVariants.{Write}
+use Rattle.thy_computer.specs.declared.round.Round.{Round}
+use Rattle.thy_computer.specs.declared.round.Round.TheVariants.{Write}
 use Rattle.thy_checkpoint.specs.Boot.{Booting, layout_in, slot_read, slot_fault, version_in}
 use Rattle.thy_checkpoint.specs.Filling.{FillingOf}
 use Rattle.thy_checkpoint.specs.Left.{reads_left, boot_left}

@@ -3,13 +3,13 @@
 use Rattle.std.specs.Prelude.{◌+◌, true, false, Bool, Option, Some, None}
 use Rattle.thy_block.specs.declared.mark.Mark.{Mark}
 use Rattle.thy_block.specs.Marks.{mark}
-use Rattle.thy_view.specs.declared.view.Phase.TheVariants.{Run}
-use Rattle.thy_view.specs.declared.view.View.{View}
-use Rattle.thy_view.specs.Booting.{boot_view, loading_view}
-use Rattle.thy_view.specs.CoreStep.{phase_at}
-use Rattle.thy_view.specs.Origin.{Origin}
-use Rattle.thy_view.specs.Keeps.{finding_view}
-use Rattle.thy_view.specs.Round.{is_written}
+use Rattle.thy_computer.specs.declared.view.Phase.TheVariants.{Run}
+use Rattle.thy_computer.specs.declared.view.View.{View}
+use Rattle.thy_computer.specs.Booting.{boot_view, loading_view}
+use Rattle.thy_computer.specs.CoreStep.{phase_at}
+use Rattle.thy_computer.specs.Origin.{Origin}
+use Rattle.thy_computer.specs.Keeps.{finding_view}
+use Rattle.thy_computer.specs.Round.{is_written}
 use Rattle.thy_checkpoint.specs.declared.boot_stage.Stage.{Stage}
 use Rattle.thy_checkpoint.specs.declared.boot_stage.Stage.TheVariants.{Reads, Loads, Migrates, Over}
 use Rattle.thy_checkpoint.specs.declared.boot_stage.End.TheVariants.{Restored, Loaded}

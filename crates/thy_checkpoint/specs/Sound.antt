@@ -6,17 +6,17 @@ use Rattle.thy_block.specs.Device.{Device, block_at, newest, at_rest}
 use Rattle.thy_block.specs.Marks.{mark}
 use Rattle.thy_block.specs.Places.{commit_place, header_place}
 use Rattle.thy_layout.specs.Saved.{Kept, next_image}
-use Rattle.thy_view.specs.Origin.{Origin, at}
-use Rattle.thy_view.specs.Keeps.{IsOf}
-use Rattle.thy_view.specs.Issuing.{CheckpointParts, slot_of}
+use Rattle.thy_computer.specs.Origin.{Origin, at}
+use Rattle.thy_computer.specs.Keeps.{IsOf}
+use Rattle.thy_computer.specs.Issuing.{CheckpointParts, slot_of}
 use Rattle.thy_layout.specs.declared.layout_version.LayoutVersion.TheVariants.{VersionOne}
 use Rattle.thy_layout.specs.Commit.{commit_of, epoch_of}
 use Rattle.thy_layout.specs.Layout.{Layout, header_bad, slot_in, state_by}
-use Rattle.thy_view.specs.Moves.{Standing, standing, IsKeeping}
-use Rattle.thy_view.specs.declared.round.Round.{Round}
-use Rattle.thy_view.specs.declared.round.Round.TheVariants.{Commit, Confirm}
-use Rattle.thy_view.specs.Round.{IsInRound}
-use Rattle.thy_view.specs.Rounds.{saved_in, made_after, HasWritten, HasWrittenBefore, AreIssuedBefore}
+use Rattle.thy_computer.specs.Moves.{Standing, standing, IsKeeping}
+use Rattle.thy_computer.specs.declared.round.Round.{Round}
+use Rattle.thy_computer.specs.declared.round.Round.TheVariants.{Commit, Confirm}
+use Rattle.thy_computer.specs.Round.{IsInRound}
+use Rattle.thy_computer.specs.Rounds.{saved_in, made_after, HasWritten, HasWrittenBefore, AreIssuedBefore}
 use Rattle.thy_checkpoint.specs.declared.boot_stage.Stage.{Stage}
 use Rattle.thy_checkpoint.specs.declared.boot_stage.Stage.TheVariants.{Reads as Reading, Loads, Migrates, Over}
 use Rattle.thy_checkpoint.specs.declared.boot_stage.End.TheVariants.{Restored, Loaded}

@@ -7,7 +7,7 @@ use Rattle.thy_block.specs.declared.parameters.Parameters.{Parameters}
 use Rattle.thy_block.specs.Geometry.{IsInRange, memory_blocks, program_size, console_room}
 use Rattle.thy_isa.specs.Step.{State, cpu_of}
 use Rattle.thy_layout.specs.Cpu.{IsRecordable}
-use Rattle.thy_view.specs.Safe.{ceiling}
+use Rattle.thy_computer.specs.Safe.{ceiling}
 
 -- a start has the registers, and its memory and console have the sizes of the geometry
 pub record IsStartFor (p : Parameters) (s : State) : Type 0 where

@@ -4,12 +4,12 @@ use Rattle.std.specs.Prelude.{◌≡◌, Result, OnOk, OnErr}
 use Rattle.thy_block.specs.declared.nvm.NvmError.{NvmError}
 use Rattle.thy_block.specs.Device.{Device, IsFramed, CountsFault}
 use Rattle.thy_isa.specs.Step.{State}
-use Rattle.thy_view.specs.Action.{Action, Rest, IsAfter, FailsTo}
+use Rattle.thy_computer.specs.Action.{Action, Rest, IsAfter, FailsTo}
 use Rattle.thy_checkpoint.specs.declared.boot_stage.Stage.{Stage}
 use Rattle.thy_checkpoint.specs.declared.boot_stage.Stage.TheVariants.{Reads, Loads, Migrates, Over}
 use Rattle.thy_checkpoint.specs.declared.boot_stage.ReadStage.{ReadStage}
-use Rattle.thy_view.specs.declared.round.Round.{Round}
-use Rattle.thy_view.specs.Round.{next_round, round_action}
+use Rattle.thy_computer.specs.declared.round.Round.{Round}
+use Rattle.thy_computer.specs.Round.{next_round, round_action}
 use Rattle.thy_checkpoint.specs.Boot.{Booting, IsBoot, at_stage}
 use Rattle.thy_checkpoint.specs.Filling.{FillingOf, first_by}
 use Rattle.thy_checkpoint.specs.Loads.{CanLoad, first_writes, loads_on}

@@ -10,8 +10,8 @@ use crate::fills::Fills;
 use std::alloc::{AllocError, Global};
 use std::marker::Model;
 use thy_block::{BLOCK_SIZE, Block, Geometry, Nvm, NvmError};
+use thy_computer::BootStep;
 use thy_layout::{ImageLayout, Start, cpu_in, epoch_in};
-use thy_view::BootStep;
 
 /// A boot, with the commit block and the bytes of the slot, as far as they were read. Only `new` allocates: the room for
 /// the slot.

@@ -1,6 +1,6 @@
 //! The stages of a boot.
+use thy_computer::Round;
 use thy_layout::BadImage;
-use thy_view::Round;
 
 /// The stage of a boot that reads.
 #[derive(Clone, Copy, Debug, PartialEq, Eq)]

@@ -7,9 +7,9 @@ use crate::engine_stage::EngineStage;
 use crate::items::Checkpoints;
 use std::marker::Model;
 use thy_block::{Block, COMMIT_PLACE, Geometry, Nvm, NvmError};
+use thy_computer::Round;
 use thy_isa::CpuState;
 use thy_layout::{EngineStep, ImageLayout, commit_block, cpu_block};
-use thy_view::Round;
 
 /// The checkpoint engine of any scheme. Each step makes of the NVM what one action makes of it.
 #[derive(Drop)]
@@ -43,10 +43,10 @@ impl Engine {
     ghost use Rattle.thy_checkpoint.specs.declared.engine_stage.EngineStage.TheVariants.{Body as BodyFrom, Tail as TailFrom};
     ghost use Rattle.thy_checkpoint.specs.Progress.{RoundItem, is_under_way, is_applying, item, report_in, next_after, control_after};
     ghost use Rattle.thy_checkpoint.specs.Progress.{new_engine, begun, applying, Fits, slot_blocks, slot_place, slot_block, slot_round, layout_of, report, item_of, engine_next, control_next, action_next};
-    ghost use Rattle.thy_view.specs.Round.{IsInRound, round_action};
+    ghost use Rattle.thy_computer.specs.Round.{IsInRound, round_action};
     ghost use Rattle.thy_checkpoint.specs.Progress.{Ends, ReleaseItem};
     ghost use Rattle.thy_checkpoint.specs.Items.{Made};
-    ghost use Rattle.thy_view.specs.Action.{IsAfter, FailsTo};
+    ghost use Rattle.thy_computer.specs.Action.{IsAfter, FailsTo};
 
     /// An engine without a checkpoint under way.
     pub fn new(geometry: &Geometry) -> Engine

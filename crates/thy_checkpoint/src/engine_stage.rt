@@ -1,5 +1,5 @@
 //! The stage of a checkpoint.
-use thy_view::Round;
+use thy_computer::Round;
 
 /// What the engine looks for next.
 #[derive(Clone, Copy, Debug, PartialEq, Eq)]

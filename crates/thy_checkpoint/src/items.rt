@@ -5,7 +5,7 @@ ghost use Rattle.thy_block.specs.Places.{record_blocks};
 ghost use Rattle.thy_checkpoint.specs.Filling.{layout_at};
 ghost use Rattle.thy_checkpoint.specs.Items.{ItemsOf, AreItems, Making, Made, Applying};
 ghost use Rattle.thy_checkpoint.specs.Progress.{Acts};
-ghost use Rattle.thy_view.specs.Action.{WriteAt};
+ghost use Rattle.thy_computer.specs.Action.{WriteAt};
 
 use crate::Fills;
 use thy_block::{Block, Geometry, Nvm, NvmError};

@@ -3,7 +3,7 @@
 //! of a run: that becomes the checkpoint of epoch 0. A checkpoint of an older form is then written again, in the form
 //! that is written today: the same state, of the same epoch. The engine writes the positions of a checkpoint's body,
 //! the blocks of the slot and the commit block, and, if something follows, the positions of its tail and a barrier. All
-//! of them write in rounds (`Round` of thy_view).
+//! of them write in rounds (`Round` of thy_computer).
 //!
 //! A scheme's `Fills` says how images are laid out, and which blocks are read into the controller; its `Checkpoints`
 //! says which positions there are, what each writes and what it makes of the controller. Callers rely on `Boot::step`
@@ -11,7 +11,7 @@
 //!
 //! Open specs/Filling.antt first, then specs/Boot.antt, specs/Migrating.antt and specs/Recovers.antt, src/fills.rt and
 //! src/boot.rt; of the engine specs/Items.antt, specs/Progress.antt, src/items.rt and src/engine.rt. It depends on
-//! thy_view and its dependencies.
+//! thy_computer and its dependencies.
 #![tactic(auto)]
 
 mod boot;

@@ -2,7 +2,7 @@
 ghost use Rattle.std.specs.Prelude.{◌≡◌, ◌<◌, length, OnOk, OnErr};
 ghost use Rattle.thy_isa.specs.Step.{state_of};
 ghost use Rattle.thy_layout.specs.Header.{header_of};
-ghost use Rattle.thy_view.specs.Round.{IsInRound, next_round, round_action};
+ghost use Rattle.thy_computer.specs.Round.{IsInRound, next_round, round_action};
 ghost use Rattle.thy_checkpoint.specs.Boot.{at_stage};
 ghost use Rattle.thy_checkpoint.specs.Filling.{layout_at, first_by};
 ghost use Rattle.thy_checkpoint.specs.Loads.{CanLoad, Takes, first_writes, loads_on, place_of_first, block_of_first};
@@ -14,9 +14,9 @@ use crate::fills::Fills;
 use crate::reading::slot_at;
 use crate::start::start_block;
 use thy_block::{Block, COMMIT_PLACE, Geometry, HEADER_PLACE, Nvm, NvmError, Write};
+use thy_computer::Round;
 use thy_isa::MachState;
 use thy_layout::{ImageLayout, commit_block, header_block_of};
-use thy_view::Round;
 
 /// The header of the images of a geometry.
 fn header<F: Fills>(geometry: &Geometry) -> Block

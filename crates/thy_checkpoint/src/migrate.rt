@@ -2,7 +2,7 @@
 ghost use Rattle.std.specs.Prelude.{◌≡◌, ◌*◌, ◌≤◌, false, length, OnOk, OnErr};
 ghost use Rattle.thy_block.specs.Device.{block_at};
 ghost use Rattle.thy_layout.specs.Files.{blocks_of};
-ghost use Rattle.thy_view.specs.Round.{IsInRound, next_round, round_action};
+ghost use Rattle.thy_computer.specs.Round.{IsInRound, next_round, round_action};
 ghost use Rattle.thy_checkpoint.specs.Boot.{layout_in, slot_read};
 ghost use Rattle.thy_checkpoint.specs.Loads.{Takes};
 ghost use Rattle.thy_checkpoint.specs.Migrating.{CanMigrate, renewing, migrates_on, migrated_by, renewed, cleared};
@@ -12,8 +12,8 @@ use crate::boot_stage::{End, Stage};
 use crate::fills::Fills;
 use crate::reading::slot_at;
 use thy_block::{BLOCK_SIZE, Block, COMMIT_PLACE, Nvm, NvmError};
+use thy_computer::Round;
 use thy_layout::{ImageLayout, block_in, commit_block, epoch_in};
-use thy_view::Round;
 
 // Makes the bytes from this one on zero.
 fn clear_from(bytes: &mut [u8], from: usize)

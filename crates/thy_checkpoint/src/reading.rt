@@ -3,7 +3,7 @@ ghost use Rattle.std.specs.Prelude.{◌≡◌, ◌+◌, ◌*◌, ◌<◌, ◌≤
 ghost use Rattle.thy_block.specs.Bytes.{written};
 ghost use Rattle.thy_block.specs.Device.{newest};
 ghost use Rattle.thy_block.specs.Places.{commit_place, header_place};
-ghost use Rattle.thy_view.specs.Action.{ReadAt};
+ghost use Rattle.thy_computer.specs.Action.{ReadAt};
 ghost use Rattle.thy_checkpoint.specs.Boot.{IsBoot, layout_in, slot_fault, at_stage, stage_of_commit, after_commit, after_header, after_slot};
 ghost use Rattle.thy_checkpoint.specs.Boot.{refusing_or, filled_by, filling_from, has_more, gone_on, IsJudged, GoesOn};
 ghost use Rattle.thy_checkpoint.specs.Filling.{layout_at};
@@ -15,10 +15,10 @@ use crate::boot::Boot;
 use crate::boot_stage::{End, ReadStage, Stage};
 use crate::fills::{CEILING, Fills};
 use thy_block::{BLOCK_SIZE, Block, COMMIT_PLACE, Geometry, HEADER_PLACE, Nvm, NvmError};
+use thy_computer::Round;
 use thy_layout::{
     BadImage, ImageLayout, LayoutVersion, commit_fault, header_fault_in, is_zero, version_of,
 };
-use thy_view::Round;
 
 /// Writes a block over the bytes of block `k`.
 fn keep_block(bytes: &mut [u8], k: usize, block: &Block)

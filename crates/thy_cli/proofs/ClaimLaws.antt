@@ -2,12 +2,12 @@
 use Rattle.std.specs.Prelude.{ℕ, List}
 use Rattle.thy_isa.specs.Step.{State}
 use Rattle.thy_run.specs.Watching.{Taken}
-use Rattle.thy_answer.specs.declared.answer.Answer.{Answer}
-use Rattle.thy_answer.specs.Answering.{Around, NvmOf}
-use Rattle.thy_answer.specs.Machines.{Choice}
-use Rattle.thy_answer.specs.Orders.{Answered}
-use Rattle.thy_answer.specs.Watching.{HasSeenCall}
-use Rattle.thy_answer.proofs.AnsweredLaws.{Completes-run, Completes-pair, Completes-compare, Completes-plain, Completes-make}
+use Rattle.thy_outcome.specs.declared.answer.Answer.{Answer}
+use Rattle.thy_outcome.specs.Answering.{Around, NvmOf}
+use Rattle.thy_outcome.specs.Machines.{Choice}
+use Rattle.thy_outcome.specs.Orders.{Answered}
+use Rattle.thy_outcome.specs.Watching.{HasSeenCall}
+use Rattle.thy_outcome.proofs.AnsweredLaws.{Completes-run, Completes-pair, Completes-compare, Completes-plain, Completes-make}
 use Rattle.thy_cli.specs.Watching.{ClaimSeen}
 
 -- what is claimed of a call follows from what its result is, and from what its observer has seen

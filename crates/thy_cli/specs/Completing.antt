@@ -1,11 +1,11 @@
 -- Part of the claim.
 -- What is claimed of a call.
 use Rattle.std.specs.Prelude.{ℕ, List}
-use Rattle.thy_answer.specs.declared.answer.Answer.{Answer}
-use Rattle.thy_answer.specs.Answering.{Around, NvmOf, outside_of}
-use Rattle.thy_answer.specs.Machines.{Choice}
-use Rattle.thy_answer.specs.Orders.{Answered}
-use Rattle.thy_answer.specs.Calm.{CompareCompletes, MakeCompletes, PairCompletes, PlainCompletes, RunCompletes}
+use Rattle.thy_outcome.specs.declared.answer.Answer.{Answer}
+use Rattle.thy_outcome.specs.Answering.{Around, NvmOf, outside_of}
+use Rattle.thy_outcome.specs.Machines.{Choice}
+use Rattle.thy_outcome.specs.Orders.{Answered}
+use Rattle.thy_outcome.specs.Calm.{CompareCompletes, MakeCompletes, PairCompletes, PlainCompletes, RunCompletes}
 
 -- What is claimed of a call: what its result is, and that this is complete.
 pub record Claim {N : Type 0} (c : Choice) (d : NvmOf N) (words : List (List ℕ)) (before after : Around N) (a : Answer) : Type 0 where

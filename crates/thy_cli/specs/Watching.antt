@@ -2,11 +2,11 @@
 use Rattle.std.specs.Prelude.{ℕ, List}
 use Rattle.thy_isa.specs.Step.{State}
 use Rattle.thy_run.specs.Watching.{Taken}
-use Rattle.thy_answer.specs.declared.answer.Answer.{Answer}
-use Rattle.thy_answer.specs.Answering.{Around, NvmOf}
+use Rattle.thy_outcome.specs.declared.answer.Answer.{Answer}
+use Rattle.thy_outcome.specs.Answering.{Around, NvmOf}
 use Rattle.thy_cli.specs.Completing.{Claim}
-use Rattle.thy_answer.specs.Machines.{Choice}
-use Rattle.thy_answer.specs.Watching.{HasSeenCall}
+use Rattle.thy_outcome.specs.Machines.{Choice}
+use Rattle.thy_outcome.specs.Watching.{HasSeenCall}
 
 -- What is claimed of a call with an observer: what is claimed of one without, and that it has seen the cycles of the run,
 -- or the plain machine's last state.

@@ -2,20 +2,18 @@
 ghost use Rattle.std.specs.Prelude.{[], map};
 ghost use Rattle.std.specs.String.{string_bytes};
 ghost use Rattle.thy_cli.specs.Completing.{Claim};
-ghost use Rattle.thy_answer.specs.Answering.{around, nvm_of};
-ghost use Rattle.thy_answer.specs.Machines.{by_scheme};
+ghost use Rattle.thy_outcome.specs.Answering.{around, nvm_of};
+ghost use Rattle.thy_outcome.specs.Machines.{by_scheme};
 ghost use Rattle.thy_cli.specs.Watching.{ClaimSeen};
 
 use std::alloc::Global;
-use thy_answer::Answer;
 use thy_block::{Nvm, Shelf, Sink};
 use thy_commands::carry_out;
+use thy_computer::Computer;
 use thy_core::Machine;
-use thy_journal::Journal;
+use thy_outcome::Answer;
 use thy_run::{Observer, Silent};
-use thy_shadow::Shadow;
-use thy_thynvm::Thynvm;
-use thy_view::Computer;
+use thy_schemes::{Journal, Shadow, Thynvm};
 
 /// Does what the arguments after the program's name ask for, and keeps the claim of this project (`docs/THEOREM.md`):
 /// `run FILE`, `resume IMAGE`, `bench N`, `compare FILE`, `plain FILE` or `make N OUT`, and options.

@@ -13,19 +13,19 @@ use Rattle.thy_text.specs.Marks.{Course, Marks, AllLawful, loading_marks, marks_
 use Rattle.thy_text.specs.OneHart.{Counts, LawfulAt, AllLawfulAt, HasNoTurns, counts_of}
 use Rattle.thy_text.proofs.Histories.{AllLawful-append}
 use Rattle.thy_text.proofs.OneHartLaws.{to-counts}
-use Rattle.thy_view.specs.Origin.{Origin, at, setting_of}
-use Rattle.thy_arguments.specs.Settings.{Job}
+use Rattle.thy_computer.specs.Origin.{Origin, at, setting_of}
+use Rattle.thy_base.specs.Settings.{Job}
 use Rattle.thy_run.specs.Laws.{course_of, first_marks, marks_at}
 use Rattle.thy_run.specs.declared.plan.Plan.{Plan}
 use Rattle.thy_run.proofs.PromiseLaws.{first_without_turns}
-use Rattle.thy_answer.specs.declared.answer.Answer.{Answer}
-use Rattle.thy_answer.specs.Answering.{Around, NvmOf}
+use Rattle.thy_outcome.specs.declared.answer.Answer.{Answer}
+use Rattle.thy_outcome.specs.Answering.{Around, NvmOf}
 use Rattle.thy_commands.specs.Compared.{Compares, IsPlanFor}
-use Rattle.thy_answer.specs.Comparing.{EndAlike, IsComparison, RunsBy, RunsThrough, Stage, Subject, compared, first_stage, under}
-use Rattle.thy_answer.specs.Machines.{Choice}
-use Rattle.thy_answer.specs.Sources.{Beginning, IsProgram, file, meaning_of, origin_for}
-use Rattle.thy_answer.proofs.EndLaws.{same_end, at_is}
-use Rattle.thy_answer.proofs.ProgramLaws.{begun_fresh, begun_under}
+use Rattle.thy_outcome.specs.Comparing.{EndAlike, IsComparison, RunsBy, RunsThrough, Stage, Subject, compared, first_stage, under}
+use Rattle.thy_outcome.specs.Machines.{Choice}
+use Rattle.thy_outcome.specs.Sources.{Beginning, IsProgram, file, meaning_of, origin_for}
+use Rattle.thy_outcome.proofs.EndLaws.{same_end, at_is}
+use Rattle.thy_outcome.proofs.ProgramLaws.{begun_fresh, begun_under}
 
 -- ---- the ends among lawful events
 

@@ -2,15 +2,15 @@
 use Rattle.std.proofs.Common.{◌≡◌, ℕ, ◌-◌, List, subst}
 use Rattle.std.specs.Prelude.{Err}
 use Rattle.thy_isa.specs.Step.{State}
-use Rattle.thy_arguments.specs.declared.words.WordsError.{WordsError}
-use Rattle.thy_arguments.specs.declared.words.WordsError.TheVariants.{Usage, Word, Value, Memory as WordsMemory}
-use Rattle.thy_arguments.specs.Settings.{Job, settings_of, order_of, ShowsOrMemory}
-use Rattle.thy_view.specs.Kind.{KindOf}
-use Rattle.thy_answer.specs.declared.answer.Answer.{Answer}
-use Rattle.thy_answer.specs.Answering.{Outside, WordsDue}
-use Rattle.thy_answer.specs.Sources.{file, image}
+use Rattle.thy_base.specs.declared.arguments.words.WordsError.{WordsError}
+use Rattle.thy_base.specs.declared.arguments.words.WordsError.TheVariants.{Usage, Word, Value, Memory as WordsMemory}
+use Rattle.thy_base.specs.Settings.{Job, settings_of, order_of, ShowsOrMemory}
+use Rattle.thy_computer.specs.Kind.{KindOf}
+use Rattle.thy_outcome.specs.declared.answer.Answer.{Answer}
+use Rattle.thy_outcome.specs.Answering.{Outside, WordsDue}
+use Rattle.thy_outcome.specs.Sources.{file, image}
 use Rattle.thy_run.specs.Watching.{Taken}
-use Rattle.thy_answer.specs.Watching.{RunSeen, PlainSeen}
+use Rattle.thy_outcome.specs.Watching.{RunSeen, PlainSeen}
 
 -- why words are refused
 pub WordsDue-shown : (words : List (List ℕ)) (e : WordsError) → ShowsOrMemory order_of (settings_of words) (Err e) → WordsDue words e

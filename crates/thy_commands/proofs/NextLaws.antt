@@ -9,27 +9,27 @@ use Rattle.thy_text.specs.Event.{Event, Scheme}
 use Rattle.thy_text.specs.History.{all_of}
 use Rattle.thy_run.specs.Sending.{Sent}
 use Rattle.thy_run.specs.declared.plan.Plan.{Plan}
-use Rattle.thy_answer.specs.declared.answer.Answer.{Answer}
+use Rattle.thy_outcome.specs.declared.answer.Answer.{Answer}
 use Rattle.thy_commands.specs.declared.comparing.Compared.{Compared}
-use Rattle.thy_answer.specs.declared.refusal.Refusal.{Refusal}
-use Rattle.thy_answer.specs.declared.refusal.Refusal.TheVariants.{Words, Fetch, File, Image, Input, Device as DeviceRefusal, Memory as MemoryRefusal}
-use Rattle.thy_answer.specs.Answering.{Around, NvmOf, stop_line}
+use Rattle.thy_outcome.specs.declared.refusal.Refusal.{Refusal}
+use Rattle.thy_outcome.specs.declared.refusal.Refusal.TheVariants.{Words, Fetch, File, Image, Input, Device as DeviceRefusal, Memory as MemoryRefusal}
+use Rattle.thy_outcome.specs.Answering.{Around, NvmOf, stop_line}
 use Rattle.thy_commands.specs.Compared.{Compares, HasNotRun, HasRunNext, IsPlanFor, RunsNext, events_of, plan_under, recorded_of, stage_of}
-use Rattle.thy_answer.specs.Comparing.{EndsBefore, NotBegun, RunsBy, RunsThrough, Stage, Subject, compared, first_stage, scheme_lines, terminal_for, under, with_scheme}
-use Rattle.thy_answer.specs.Machines.{Choice}
+use Rattle.thy_outcome.specs.Comparing.{EndsBefore, NotBegun, RunsBy, RunsThrough, Stage, Subject, compared, first_stage, scheme_lines, terminal_for, under, with_scheme}
+use Rattle.thy_outcome.specs.Machines.{Choice}
 use Rattle.thy_files.specs.Beginnings.{Begins, FitsKept}
-use Rattle.thy_answer.specs.Kept.{answer_of, refused_status}
+use Rattle.thy_outcome.specs.Kept.{answer_of, refused_status}
 use Rattle.thy_block.specs.declared.parameters.Parameters.{Parameters}
 use Rattle.thy_block.specs.Bytes.{bytes_of}
 use Rattle.thy_base.specs.Config.{fault_of, parameters_of}
 use Rattle.thy_block.specs.Outside.{Stock}
-use Rattle.thy_view.specs.Origin.{IsOrigin}
-use Rattle.thy_arguments.specs.Settings.{Job}
+use Rattle.thy_computer.specs.Origin.{IsOrigin}
+use Rattle.thy_base.specs.Settings.{Job}
 use Rattle.thy_files.specs.declared.restoring.Beginning.{Beginning as BeginningValue}
-use Rattle.thy_answer.specs.Sources.{Beginning, file, origin_for}
-use Rattle.thy_answer.proofs.ProgramLaws.{begun_bare, begun_fresh, program_under}
+use Rattle.thy_outcome.specs.Sources.{Beginning, file, origin_for}
+use Rattle.thy_outcome.proofs.ProgramLaws.{begun_bare, begun_fresh, program_under}
 use Rattle.thy_execute.proofs.PlanLemmas.{IsBegun, IsBegun-begins, plan_with}
-use Rattle.thy_answer.proofs.UnsavedLaws.{shelf_stays}
+use Rattle.thy_outcome.proofs.UnsavedLaws.{shelf_stays}
 
 -- what a run of a comparison finds, with the terminal to which it writes
 abbrev pub for_run : {N : Type 0} → Bool → Around N → Around N

@@ -6,21 +6,21 @@ use Rattle.thy_block.specs.Outside.{Stock}
 use Rattle.thy_block.specs.Schemes.{scheme_number}
 use Rattle.thy_text.specs.Event.{Event, Scheme}
 use Rattle.thy_text.specs.History.{Recorded, all_of}
-use Rattle.thy_arguments.specs.Settings.{Job}
+use Rattle.thy_base.specs.Settings.{Job}
 use Rattle.thy_run.specs.Cuts.{has_ended}
 use Rattle.thy_run.specs.Sending.{Sent}
 use Rattle.thy_run.specs.declared.plan.Plan.{Plan}
-use Rattle.thy_view.specs.Kind.{KindOf}
-use Rattle.thy_answer.specs.declared.answer.Answer.{Answer}
-use Rattle.thy_answer.specs.declared.answer.Ran.{Ran}
+use Rattle.thy_computer.specs.Kind.{KindOf}
+use Rattle.thy_outcome.specs.declared.answer.Answer.{Answer}
+use Rattle.thy_outcome.specs.declared.answer.Ran.{Ran}
 use Rattle.thy_commands.specs.declared.comparing.Compared.{Compared}
-use Rattle.thy_answer.specs.declared.refusal.Refusal.{Refusal}
-use Rattle.thy_answer.specs.Answering.{Around, Closes, NvmOf, Outside, IsRunOverOf, outside, stop_line, report_of_refusal}
-use Rattle.thy_answer.specs.Comparing.{NotBegun, RunsThrough, Stage, Subject, compared, first_stage, line_status, nowhere, scheme_lines, under, with_scheme}
-use Rattle.thy_answer.specs.Machines.{Choice}
+use Rattle.thy_outcome.specs.declared.refusal.Refusal.{Refusal}
+use Rattle.thy_outcome.specs.Answering.{Around, Closes, NvmOf, Outside, IsRunOverOf, outside, stop_line, report_of_refusal}
+use Rattle.thy_outcome.specs.Comparing.{NotBegun, RunsThrough, Stage, Subject, compared, first_stage, line_status, nowhere, scheme_lines, under, with_scheme}
+use Rattle.thy_outcome.specs.Machines.{Choice}
 use Rattle.thy_execute.specs.Planning.{IsPlanOf}
-use Rattle.thy_answer.specs.Kept.{answer_of}
-use Rattle.thy_answer.specs.Sources.{file}
+use Rattle.thy_outcome.specs.Kept.{answer_of}
+use Rattle.thy_outcome.specs.Sources.{file}
 
 -- a plan under a scheme
 abbrev pub plan_under : SchemeName → Plan → Plan

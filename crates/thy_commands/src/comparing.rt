@@ -7,33 +7,32 @@ ghost use Rattle.thy_run.specs.Cuts.{has_ended, is_end};
 ghost use Rattle.thy_run.specs.Sending.{Sent};
 ghost use Rattle.thy_text.specs.Event.{Scheme};
 ghost use Rattle.thy_text.specs.Seen.{event_of};
-ghost use Rattle.thy_arguments.specs.Settings.{job_of};
-ghost use Rattle.thy_answer.specs.Answering.{around, Closes, nvm_of, stop_line};
+ghost use Rattle.thy_base.specs.Settings.{job_of};
+ghost use Rattle.thy_outcome.specs.Answering.{around, Closes, nvm_of, stop_line};
 ghost use Rattle.thy_commands.specs.Compared.{Compares, RunsNext, events_of, plan_under, recorded_of};
-ghost use Rattle.thy_answer.specs.Comparing.{CompareAnswered, line_status, scheme_lines};
-ghost use Rattle.thy_answer.specs.Machines.{by_scheme};
+ghost use Rattle.thy_outcome.specs.Comparing.{CompareAnswered, line_status, scheme_lines};
+ghost use Rattle.thy_outcome.specs.Machines.{by_scheme};
 ghost use Rattle.thy_execute.specs.Planning.{CanRun};
-ghost use Rattle.thy_answer.specs.Kept.{refused_line, refused_status};
+ghost use Rattle.thy_outcome.specs.Kept.{refused_line, refused_status};
 ghost use Rattle.thy_files.specs.Restoring.{ReadsFiles};
 
 use std::alloc::{AllocError, Global};
-use thy_answer::{
-    Answer, ProgramSource, Ran, Refusal, close, close_stop, refuse, report_of_refusal,
-};
-use thy_arguments::Job;
-use thy_base::{Geometry, Nvm, SchemeName, Shelf, Sink, SinkError};
+use thy_base::{Geometry, Job, Nvm, SchemeName, Shelf, Sink, SinkError};
+use thy_computer::Computer;
 use thy_execute::run_plan;
 use thy_files::{Beginning, prepare};
+use thy_outcome::{
+    Answer, ProgramSource, Ran, Refusal, close, close_stop, refuse, report_of_refusal,
+};
 use thy_run::{Plan, Silent};
 use thy_text::{Event, Events, History, write_scheme};
-use thy_view::Computer;
 
 /// A sink that keeps nothing and never fails.
 #[derive(Drop)]
 struct Nowhere;
 
 impl Sink for Nowhere {
-    ghost use Rattle.thy_answer.specs.Comparing.{nowhere};
+    ghost use Rattle.thy_outcome.specs.Comparing.{nowhere};
 
     ghost stream = { λ w. nowhere };
 

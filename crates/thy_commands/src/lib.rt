@@ -2,8 +2,8 @@
 //! what the arguments ask for, or why they are refused, and on `compare`: the runs of one program by each scheme, and
 //! their lines, as specified.
 //!
-//! Open src/order.rt first; then specs/Comparing.antt of thy_answer, specs/Compared.antt, and src/comparing.rt. It
-//! depends on thy_arguments, thy_execute, thy_files and thy_answer, and on their dependencies; thy_cli depends on it.
+//! Open src/order.rt first; then specs/Comparing.antt of thy_outcome, specs/Compared.antt, and src/comparing.rt. It
+//! depends on thy_base, thy_execute, thy_files and thy_outcome, and on their dependencies; thy_cli depends on it.
 #![tactic(auto)]
 
 mod comparing;

@@ -2,20 +2,20 @@
 ghost use Rattle.std.specs.Prelude.{◌≡◌, [], map};
 ghost use Rattle.std.specs.String.{string_bytes};
 ghost use Rattle.thy_block.specs.declared.parameters.Parameters.{Parameters as Numbers};
-ghost use Rattle.thy_answer.specs.Answering.{around, nvm_of};
-ghost use Rattle.thy_answer.specs.Machines.{by_scheme};
-ghost use Rattle.thy_answer.specs.Watching.{AnswerSeen};
+ghost use Rattle.thy_outcome.specs.Answering.{around, nvm_of};
+ghost use Rattle.thy_outcome.specs.Machines.{by_scheme};
+ghost use Rattle.thy_outcome.specs.Watching.{AnswerSeen};
 ghost use Rattle.thy_files.specs.Restoring.{ReadsFiles};
 
 use crate::compare;
 use std::alloc::Global;
-use thy_answer::{Answer, ProgramSource, Refusal, refuse};
-use thy_arguments::{Command, settings};
+use thy_base::{Command, settings};
 use thy_block::{Nvm, SchemeName, Shelf, Sink};
+use thy_computer::Computer;
 use thy_execute::{plain_file, run_by_scheme};
 use thy_files::make;
+use thy_outcome::{Answer, ProgramSource, Refusal, refuse};
 use thy_run::Observer;
-use thy_view::Computer;
 
 /// Does what the arguments after the program's name ask for, with the machine `A` for `SchemeName::Thynvm`, `B` for
 /// `SchemeName::Journal`, and `C` for `SchemeName::Shadow`. Each machine has to read the files of its own scheme alone.

@@ -4,7 +4,7 @@
 //!
 //! Open specs/State.antt first, then specs/Stays.antt, and src/control.rt; docs/CONTROLLER.md has the rules. It depends
 //! on thy_record, thy_table, thy_dram and their dependencies; the scheme above it, thy_thynvm_parts and
-//! thy_thynvm, depends on it.
+//! thy_schemes, depends on it.
 #![tactic(auto)]
 
 mod block_store;

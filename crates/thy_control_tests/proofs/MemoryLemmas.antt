@@ -15,8 +15,8 @@ use Rattle.thy_control.specs.Stays.{Stays}
 use Rattle.thy_checkpoint.specs.Items.{Phase, Resting, Making, Made, Applying}
 use Rattle.thy_checkpoint.specs.Progress.{Progress, Fits, new_engine, begun, phase_of, action_next}
 use Rattle.thy_thynvm_parts.specs.Filling.{filling_thynvm}
-use Rattle.thy_view.specs.Action.{IsAfter}
-use Rattle.thy_view.proofs.ActionLemmas.{down-after}
+use Rattle.thy_computer.specs.Action.{IsAfter}
+use Rattle.thy_computer.proofs.ActionLemmas.{down-after}
 use Rattle.thy_thynvm_parts.specs.Design.{is_promoting, items_thynvm}
 use Rattle.thy_thynvm_parts.specs.Fitting.{PromotesAtRest, IdleFits, SealFits}
 use Rattle.thy_thynvm_parts.proofs.DesignLemmas.{stands_drained}

@@ -16,9 +16,9 @@ use Rattle.thy_checkpoint.specs.declared.boot_stage.Stage.{Stage}
 use Rattle.thy_checkpoint.specs.declared.boot_stage.Stage.TheVariants.{Reads, Loads, Migrates, Over}
 use Rattle.thy_checkpoint.specs.declared.boot_stage.ReadStage.TheVariants.{Unread, Header, Slot, Fills, Refusing}
 use Rattle.thy_checkpoint.specs.declared.boot_stage.End.TheVariants.{Restored, Loaded}
-use Rattle.thy_view.specs.declared.round.Round.{Round}
-use Rattle.thy_view.specs.declared.round.Round.TheVariants.{Write, Settle, Commit, Confirm}
-use Rattle.thy_view.specs.Round.{round_action}
+use Rattle.thy_computer.specs.declared.round.Round.{Round}
+use Rattle.thy_computer.specs.declared.round.Round.TheVariants.{Write, Settle, Commit, Confirm}
+use Rattle.thy_computer.specs.Round.{round_action}
 use Rattle.thy_checkpoint.specs.Boot.{Booting, answer_at, new_boot}
 use Rattle.thy_checkpoint.specs.Filling.{first_by}
 use Rattle.thy_checkpoint.specs.Loads.{first_writes}
@@ -36,7 +36,7 @@ use Rattle.thy_control_tests.specs.Boots.{Boots}
 use Rattle.thy_test_support.specs.Starts.{IsLeastStart}
 use Rattle.thy_control_tests.specs.Memory.{HasRoom}
 use Rattle.thy_control_tests.specs.Starting.{Off, IsOff, starting, IsStarting, is_refused}
-use Rattle.thy_view.proofs.ActionLemmas.{down-after}
+use Rattle.thy_computer.proofs.ActionLemmas.{down-after}
 
 -- ---- steps
 

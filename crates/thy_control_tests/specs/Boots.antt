@@ -5,8 +5,8 @@ use Rattle.thy_block.specs.Device.{Device}
 use Rattle.thy_dram.specs.Contents.{Contents}
 use Rattle.thy_isa.specs.Step.{State as Plain}
 use Rattle.thy_control.specs.State.{State, new_state}
-use Rattle.thy_view.specs.declared.boot_step.BootStep.{BootStep}
-use Rattle.thy_view.specs.declared.boot_step.BootStep.TheVariants.{GoesOn}
+use Rattle.thy_computer.specs.declared.boot_step.BootStep.{BootStep}
+use Rattle.thy_computer.specs.declared.boot_step.BootStep.TheVariants.{GoesOn}
 use Rattle.thy_checkpoint.specs.Boot.{Booting, IsBoot}
 use Rattle.thy_checkpoint.specs.Steps.{CanStep}
 use Rattle.thy_checkpoint.specs.Start.{CanStart}

@@ -8,8 +8,8 @@ use Rattle.thy_block.specs.Places.{dram_blocks}
 use Rattle.thy_control.specs.State.{State}
 use Rattle.thy_dram.specs.Contents.{Contents}
 use Rattle.thy_isa.specs.Step.{State as Plain}
-use Rattle.thy_view.specs.declared.boot_step.BootStep.{BootStep}
-use Rattle.thy_view.specs.declared.boot_step.BootStep.TheVariants.{Refused}
+use Rattle.thy_computer.specs.declared.boot_step.BootStep.{BootStep}
+use Rattle.thy_computer.specs.declared.boot_step.BootStep.TheVariants.{Refused}
 use Rattle.thy_checkpoint.specs.Boot.{Booting}
 use Rattle.thy_control_tests.specs.Beside.{all}
 use Rattle.thy_control_tests.specs.Boots.{Boots}

@@ -11,14 +11,14 @@ use std::alloc::Global;
 use std::process::Abort;
 use thy_base::{Block, Geometry, Nvm, Parameters, Shape};
 use thy_checkpoint::{Boot, End, Stage, a_boot_may_go_on};
+use thy_computer::{BootStep, Round};
 use thy_control::Control;
 use thy_dram::Dram;
 use thy_isa::{CpuState, Regs, Status};
 use thy_layout::Start;
 use thy_nvm::MemNvm;
+use thy_schemes::ThynvmTables;
 use thy_test_support::{LEAST, geometry_of, start_over};
-use thy_thynvm::ThynvmTables;
-use thy_view::{BootStep, Round};
 
 /// The least memory: seven pages of the program and one of the console.
 fn least() -> Parameters

@@ -10,9 +10,9 @@ use crate::support::starting::{Off, Starting, Taken};
 use std::alloc::Global;
 use std::process::Abort;
 use thy_base::{Block, Parameters, Stored};
+use thy_computer::BootStep;
 use thy_layout::{EngineStep, Start};
 use thy_test_support::{LEAST, geometry_of, start_over};
-use thy_view::BootStep;
 
 /// The least memory: seven pages of the program and one of the console. A page is stored to densely by more than 22 stores
 /// of an epoch, and seldom by fewer than 16.

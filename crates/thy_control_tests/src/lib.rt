@@ -2,7 +2,7 @@
 //! proved; they show what no contract says: rows worked out by hand, and what is found after a cut, beside plain lists.
 //!
 //! Open src/controller_rows.rt first, then src/cuts.rt. specs/ has what is asked of the values that tests pass on. It depends
-//! on thy_control, thy_checkpoint, thy_thynvm_parts, thy_thynvm and their dependencies; nothing depends on it.
+//! on thy_control, thy_checkpoint, thy_thynvm_parts, thy_schemes and their dependencies; nothing depends on it.
 #![tactic(auto)]
 
 #[cfg(test)]

@@ -15,13 +15,13 @@ use Rattle.thy_hart.specs.HartState.{HartState}
 use Rattle.thy_hart.specs.Moments.{Moment, moment, brings_line}
 use Rattle.thy_hart.specs.OneStep.{IsStep, answer_to}
 use Rattle.thy_hart.specs.Outcomes.{Given}
-use Rattle.thy_view.specs.declared.did.Did.{Did}
-use Rattle.thy_view.specs.declared.did.Stall.{Stall}
-use Rattle.thy_view.specs.declared.did.Stall.TheVariants.{Sealing, Waiting as IsWaiting}
-use Rattle.thy_view.specs.declared.view.Phase.{Phase}
-use Rattle.thy_view.specs.declared.view.Phase.TheVariants.{Boot, Run, Halt}
-use Rattle.thy_view.specs.NextActor.{Nvm, Dram, Checkpoint, Advances, advancing}
-use Rattle.thy_view.specs.Views.{is_halt}
+use Rattle.thy_computer.specs.declared.did.Did.{Did}
+use Rattle.thy_computer.specs.declared.did.Stall.{Stall}
+use Rattle.thy_computer.specs.declared.did.Stall.TheVariants.{Sealing, Waiting as IsWaiting}
+use Rattle.thy_computer.specs.declared.view.Phase.{Phase}
+use Rattle.thy_computer.specs.declared.view.Phase.TheVariants.{Boot, Run, Halt}
+use Rattle.thy_computer.specs.NextActor.{Nvm, Dram, Checkpoint, Advances, advancing}
+use Rattle.thy_computer.specs.Views.{is_halt}
 use Rattle.thy_scheme.specs.declared.scheme_store.SchemeStore.{SchemeStore}
 use Rattle.thy_scheme.specs.SchemeStore.{held_by_scheme}
 use Rattle.thy_scheme.specs.Scheme.{SchemeOf}

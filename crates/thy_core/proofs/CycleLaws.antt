@@ -26,21 +26,21 @@ use Rattle.thy_isa.specs.declared.state.Status.TheVariants.{Running, Exited, Tra
 use Rattle.thy_isa.specs.Step.{is_running}
 use Rattle.thy_layout.specs.declared.engine_step.EngineStep.{EngineStep}
 use Rattle.thy_layout.specs.declared.engine_step.EngineStep.TheVariants.{Idle, Copied, PageBlock, StateBlock, TableBlock, Barrier, CommitWritten, Committed}
-use Rattle.thy_view.specs.declared.boot_step.BootStep.{BootStep}
-use Rattle.thy_view.specs.declared.boot_step.BootStep.TheVariants.{GoesOn, Loaded, Restarted, Refused}
-use Rattle.thy_view.specs.declared.did.Advance.{Advance}
-use Rattle.thy_view.specs.declared.did.Did.{Did}
-use Rattle.thy_view.specs.declared.did.Did.TheVariants.{Moved, Retired, Flushed as DidFlush, Merged, Sealed, Promoted, Engine, Committed as DidCommit, NvmDrained, DramDrained, Nothing, Boot as DidBoot, Loaded as DidLoad, Restarted as DidRestart, Refused as DidRefuse}
-use Rattle.thy_view.specs.declared.did.Stall.TheVariants.{Booting, Sealing, Waiting, Halted}
-use Rattle.thy_view.specs.declared.view.Phase.{Phase}
-use Rattle.thy_view.specs.declared.view.Phase.TheVariants.{Boot, Run, Halt}
-use Rattle.thy_view.specs.declared.view.View.{View}
-use Rattle.thy_view.proofs.ActionLemmas.{after-is}
-use Rattle.thy_view.specs.Action.{Action, Rest, ReadAt, WriteAt, Barrier as ActBarrier, Drain, IsAfter, after}
-use Rattle.thy_view.specs.Booting.{boot_did}
-use Rattle.thy_view.specs.Origin.{Origin}
-use Rattle.thy_view.specs.WithTurns.{IsThere}
-use Rattle.thy_view.specs.NextActor.{Actor, front_of, Nvm, Dram, Checkpoint, Advances, Stalled, Pressure, IsHanded, HandsOn, Does, Prepares}
+use Rattle.thy_computer.specs.declared.boot_step.BootStep.{BootStep}
+use Rattle.thy_computer.specs.declared.boot_step.BootStep.TheVariants.{GoesOn, Loaded, Restarted, Refused}
+use Rattle.thy_computer.specs.declared.did.Advance.{Advance}
+use Rattle.thy_computer.specs.declared.did.Did.{Did}
+use Rattle.thy_computer.specs.declared.did.Did.TheVariants.{Moved, Retired, Flushed as DidFlush, Merged, Sealed, Promoted, Engine, Committed as DidCommit, NvmDrained, DramDrained, Nothing, Boot as DidBoot, Loaded as DidLoad, Restarted as DidRestart, Refused as DidRefuse}
+use Rattle.thy_computer.specs.declared.did.Stall.TheVariants.{Booting, Sealing, Waiting, Halted}
+use Rattle.thy_computer.specs.declared.view.Phase.{Phase}
+use Rattle.thy_computer.specs.declared.view.Phase.TheVariants.{Boot, Run, Halt}
+use Rattle.thy_computer.specs.declared.view.View.{View}
+use Rattle.thy_computer.proofs.ActionLemmas.{after-is}
+use Rattle.thy_computer.specs.Action.{Action, Rest, ReadAt, WriteAt, Barrier as ActBarrier, Drain, IsAfter, after}
+use Rattle.thy_computer.specs.Booting.{boot_did}
+use Rattle.thy_computer.specs.Origin.{Origin}
+use Rattle.thy_computer.specs.WithTurns.{IsThere}
+use Rattle.thy_computer.specs.NextActor.{Actor, front_of, Nvm, Dram, Checkpoint, Advances, Stalled, Pressure, IsHanded, HandsOn, Does, Prepares}
 use Rattle.thy_scheme.specs.declared.scheme_store.SchemeStore.{SchemeStore}
 use Rattle.thy_scheme.specs.SchemeStore.{held_by_scheme, loads_by, stores_by, IsOneCall}
 use Rattle.thy_scheme.specs.CheckpointMarks.{CheckpointMarks}

@@ -1,10 +1,10 @@
 -- What a machine reports in the boot, and what a power cut leaves of it.
 use Rattle.std.proofs.Common.{◌≡◌, ◌⊎◌, ℕ, ◌&&◌, Bool, true, false, inl, inr, Some, is_none, refl, sym, ◌∙◌, ap, subst}
 use Rattle.thy_block.specs.Device.{Device}
-use Rattle.thy_view.specs.declared.view.Phase.{Phase}
-use Rattle.thy_view.specs.declared.view.Phase.TheVariants.{Boot, Run, Halt}
-use Rattle.thy_view.specs.Origin.{Origin}
-use Rattle.thy_view.specs.Views.{is_boot, loads}
+use Rattle.thy_computer.specs.declared.view.Phase.{Phase}
+use Rattle.thy_computer.specs.declared.view.Phase.TheVariants.{Boot, Run, Halt}
+use Rattle.thy_computer.specs.Origin.{Origin}
+use Rattle.thy_computer.specs.Views.{is_boot, loads}
 use Rattle.thy_scheme.specs.Laws.{IsLawful}
 use Rattle.thy_scheme.specs.Scheme.{SchemeOf}
 use Rattle.thy_scheme.specs.Machine.{Machine, run_view, view_in, view_of, has_read_in, has_read_of}

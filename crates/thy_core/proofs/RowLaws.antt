@@ -19,13 +19,13 @@ use Rattle.thy_hart.specs.OneStep.{IsStep}
 use Rattle.thy_hart.specs.Outcomes.{Given, given}
 use Rattle.thy_hart.specs.Rows.{moved_then, Takes}
 use Rattle.thy_layout.specs.declared.start.Start.{Start}
-use Rattle.thy_view.specs.declared.did.Advance.{Advance}
-use Rattle.thy_view.specs.declared.did.Advance.TheVariants as hart
-use Rattle.thy_view.specs.declared.did.Did.{Did}
-use Rattle.thy_view.specs.Advances.{did_of, stepped_of, SimulatesRow}
-use Rattle.thy_view.specs.Kind.{Simulates}
-use Rattle.thy_view.specs.Origin.{Origin}
-use Rattle.thy_view.specs.NextActor.{Advances, begins}
+use Rattle.thy_computer.specs.declared.did.Advance.{Advance}
+use Rattle.thy_computer.specs.declared.did.Advance.TheVariants as hart
+use Rattle.thy_computer.specs.declared.did.Did.{Did}
+use Rattle.thy_computer.specs.Advances.{did_of, stepped_of, SimulatesRow}
+use Rattle.thy_computer.specs.Kind.{Simulates}
+use Rattle.thy_computer.specs.Origin.{Origin}
+use Rattle.thy_computer.specs.NextActor.{Advances, begins}
 use Rattle.thy_scheme.specs.Laws.{IsLawful}
 use Rattle.thy_scheme.specs.Scheme.{SchemeOf}
 use Rattle.thy_scheme.specs.SchemeStore.{held_by_scheme}

@@ -20,14 +20,14 @@ use Rattle.thy_isa.specs.declared.state.CpuState.{CpuState}
 use Rattle.thy_isa.specs.declared.state.MachState.{MachState}
 use Rattle.thy_isa.specs.OnBlocks.{state_from}
 use Rattle.thy_isa.specs.Step.{State, cpu_of, state_of, state_with, fronted}
-use Rattle.thy_view.specs.declared.error.CoreError.{CoreError}
-use Rattle.thy_view.specs.declared.view.Phase.{Phase}
-use Rattle.thy_view.specs.declared.view.Phase.TheVariants.{Boot, Run, Halt}
-use Rattle.thy_view.specs.declared.view.View.{View}
-use Rattle.thy_view.specs.Kind.{CanRead, CanSnapshot, IsSnapshot, Snapshots, ShowsProcessor, without_memory, IsProcessor}
-use Rattle.thy_view.specs.Origin.{Origin, at}
-use Rattle.thy_view.specs.NextActor.{front_of}
-use Rattle.thy_view.specs.Views.{is_boot, is_halt, is_between}
+use Rattle.thy_computer.specs.declared.error.CoreError.{CoreError}
+use Rattle.thy_computer.specs.declared.view.Phase.{Phase}
+use Rattle.thy_computer.specs.declared.view.Phase.TheVariants.{Boot, Run, Halt}
+use Rattle.thy_computer.specs.declared.view.View.{View}
+use Rattle.thy_computer.specs.Kind.{CanRead, CanSnapshot, IsSnapshot, Snapshots, ShowsProcessor, without_memory, IsProcessor}
+use Rattle.thy_computer.specs.Origin.{Origin, at}
+use Rattle.thy_computer.specs.NextActor.{front_of}
+use Rattle.thy_computer.specs.Views.{is_boot, is_halt, is_between}
 use Rattle.thy_scheme.specs.Scheme.{SchemeOf, CanRun}
 use Rattle.thy_scheme.specs.Laws.{IsLawful, IsCommitted}
 use Rattle.thy_scheme.specs.Kind.{kind_over}

@@ -4,17 +4,17 @@ use Rattle.thy_block.specs.declared.mix.Pick.{Pick}
 use Rattle.thy_block.specs.declared.nvm.NvmError.{NvmError}
 use Rattle.thy_block.specs.Device.{Device, CountsFault}
 use Rattle.thy_layout.specs.declared.start.Start.{Start}
-use Rattle.thy_view.specs.declared.did.Did.{Did}
-use Rattle.thy_view.specs.declared.did.Stepped.{Stepped}
-use Rattle.thy_view.specs.declared.view.Phase.{Phase}
-use Rattle.thy_view.specs.declared.view.Phase.TheVariants.{Boot, Run, Halt}
-use Rattle.thy_view.specs.declared.view.View.{View}
-use Rattle.thy_view.specs.Advances.{IsOthersCycle}
-use Rattle.thy_view.specs.Kind.{IsStep, LeavesSafe, CanStep, Simulates, FailsSafe}
-use Rattle.thy_view.specs.Origin.{Origin, Begins}
-use Rattle.thy_view.specs.WithTurns.{with_turns, IsThere, HasTurn}
-use Rattle.thy_view.specs.NextActor.{Actor, Advances, Does, HandsOn, stall_at, actor_of}
-use Rattle.thy_view.specs.Views.{is_halt}
+use Rattle.thy_computer.specs.declared.did.Did.{Did}
+use Rattle.thy_computer.specs.declared.did.Stepped.{Stepped}
+use Rattle.thy_computer.specs.declared.view.Phase.{Phase}
+use Rattle.thy_computer.specs.declared.view.Phase.TheVariants.{Boot, Run, Halt}
+use Rattle.thy_computer.specs.declared.view.View.{View}
+use Rattle.thy_computer.specs.Advances.{IsOthersCycle}
+use Rattle.thy_computer.specs.Kind.{IsStep, LeavesSafe, CanStep, Simulates, FailsSafe}
+use Rattle.thy_computer.specs.Origin.{Origin, Begins}
+use Rattle.thy_computer.specs.WithTurns.{with_turns, IsThere, HasTurn}
+use Rattle.thy_computer.specs.NextActor.{Actor, Advances, Does, HandsOn, stall_at, actor_of}
+use Rattle.thy_computer.specs.Views.{is_halt}
 use Rattle.thy_scheme.specs.Scheme.{SchemeOf}
 use Rattle.thy_scheme.specs.Laws.{IsLawful}
 use Rattle.thy_scheme.specs.Machine.{Machine, view_in, view_of, pressure_of}
@@ -27,8 +27,8 @@ use Rattle.thy_core.specs.declared.turn.Actor.TheVariants as here
 use Rattle.thy_core.specs.MachineParts.{actor_seen}
 use Rattle.thy_core.specs.Turns.{actor_now}
 use Rattle.thy_core.specs.Cycles.{HasStart, IsActorOf, IsCycle, HasFailedAs, HasTaken, HasReported, reported, noted}
-use Rattle.thy_view.proofs.TurnLaws.{Begins-with_turns}
-use Rattle.thy_view.proofs.ReachLaws.{finds-turns}
+use Rattle.thy_computer.proofs.TurnLaws.{Begins-with_turns}
+use Rattle.thy_computer.proofs.ReachLaws.{finds-turns}
 use Rattle.thy_scheme.proofs.Facts.{view-run}
 use Rattle.thy_scheme.proofs.MomentLaws.{sound-here, view-alike, leads_to_moment}
 use Rattle.thy_scheme.proofs.BootingLaws.{view-boot, holds-boot, uncounted}

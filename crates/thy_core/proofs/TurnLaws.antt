@@ -7,12 +7,12 @@ use Rattle.thy_block.specs.declared.mix.Pick.{Pick}
 use Rattle.thy_block.specs.declared.mix.Pick.TheVariants.{Hart, Second, Engine, NvmDrain, DramDrain}
 use Rattle.thy_block.specs.Device.{Device}
 use Rattle.thy_block.proofs.RangeLemmas.{harts_least}
-use Rattle.thy_view.specs.declared.did.Stall.{Stall}
-use Rattle.thy_view.specs.declared.did.Stall.TheVariants.{Booting, Sealing, Waiting, Halted}
-use Rattle.thy_view.specs.declared.view.Phase.{Phase}
-use Rattle.thy_view.specs.declared.view.Phase.TheVariants.{Boot, Run, Halt}
-use Rattle.thy_view.specs.Origin.{Origin, runs_at}
-use Rattle.thy_view.specs.NextActor.{Nvm, Dram, Checkpoint, has_stopped, stall_in, rested, begins, hart_at, advancing, hart_actor, engine_actor, actor_of}
+use Rattle.thy_computer.specs.declared.did.Stall.{Stall}
+use Rattle.thy_computer.specs.declared.did.Stall.TheVariants.{Booting, Sealing, Waiting, Halted}
+use Rattle.thy_computer.specs.declared.view.Phase.{Phase}
+use Rattle.thy_computer.specs.declared.view.Phase.TheVariants.{Boot, Run, Halt}
+use Rattle.thy_computer.specs.Origin.{Origin, runs_at}
+use Rattle.thy_computer.specs.NextActor.{Nvm, Dram, Checkpoint, has_stopped, stall_in, rested, begins, hart_at, advancing, hart_actor, engine_actor, actor_of}
 use Rattle.thy_scheme.specs.Scheme.{SchemeOf}
 use Rattle.thy_scheme.specs.Machine.{Machine, view_in, view_of, shortage_of, pressure_of}
 use Rattle.thy_scheme.specs.Rows.{IsMoment, HartAdvances}

@@ -3,17 +3,17 @@ use Rattle.std.specs.Prelude.{◌≡◌, ℕ, ◌<◌, ◌&&◌, not, Bool, true
 use Rattle.thy_block.specs.declared.nvm.NvmError.{NvmError}
 use Rattle.thy_block.specs.Device.{Device, IsFramed, CountsFault}
 use Rattle.thy_layout.specs.declared.start.Start.{Start}
-use Rattle.thy_view.specs.declared.did.Advance.{Advance}
-use Rattle.thy_view.specs.declared.did.Did.{Did}
-use Rattle.thy_view.specs.declared.did.Stepped.{Stepped}
-use Rattle.thy_view.specs.declared.did.Stall.{Stall}
-use Rattle.thy_view.specs.declared.did.Stall.TheVariants.{Booting, Sealing, Waiting, Halted}
-use Rattle.thy_view.specs.declared.view.Phase.TheVariants.{Boot, Run, Halt}
-use Rattle.thy_view.specs.Advances.{did_of, stepped_of}
-use Rattle.thy_view.specs.Origin.{Origin, Begins}
-use Rattle.thy_view.specs.WithTurns.{IsThere, HasTurn}
-use Rattle.thy_view.specs.NextActor.{Actor, Nvm, Dram, Checkpoint, Advances, Stalled, HandsOn, Does, Prepares, stall_at}
-use Rattle.thy_view.specs.Views.{is_halt}
+use Rattle.thy_computer.specs.declared.did.Advance.{Advance}
+use Rattle.thy_computer.specs.declared.did.Did.{Did}
+use Rattle.thy_computer.specs.declared.did.Stepped.{Stepped}
+use Rattle.thy_computer.specs.declared.did.Stall.{Stall}
+use Rattle.thy_computer.specs.declared.did.Stall.TheVariants.{Booting, Sealing, Waiting, Halted}
+use Rattle.thy_computer.specs.declared.view.Phase.TheVariants.{Boot, Run, Halt}
+use Rattle.thy_computer.specs.Advances.{did_of, stepped_of}
+use Rattle.thy_computer.specs.Origin.{Origin, Begins}
+use Rattle.thy_computer.specs.WithTurns.{IsThere, HasTurn}
+use Rattle.thy_computer.specs.NextActor.{Actor, Nvm, Dram, Checkpoint, Advances, Stalled, HandsOn, Does, Prepares, stall_at}
+use Rattle.thy_computer.specs.Views.{is_halt}
 use Rattle.thy_scheme.specs.Scheme.{SchemeOf}
 use Rattle.thy_scheme.specs.MachineExact.{MakesCycle}
 use Rattle.thy_scheme.specs.Machine.{Machine, processor_of, view_of, pressure_of}

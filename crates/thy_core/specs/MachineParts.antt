@@ -1,8 +1,8 @@
 -- The parts of a machine as one, and the actors of its code.
 use Rattle.std.specs.Prelude.{ℕ, ◌<◌}
-use Rattle.thy_view.specs.declared.boot_step.BootStep.{BootStep}
-use Rattle.thy_view.specs.declared.boot_step.BootStep.TheVariants.{GoesOn, Loaded, Restarted, Refused}
-use Rattle.thy_view.specs.NextActor.{Actor, Nvm, Dram, Checkpoint, Advances, Stalled}
+use Rattle.thy_computer.specs.declared.boot_step.BootStep.{BootStep}
+use Rattle.thy_computer.specs.declared.boot_step.BootStep.TheVariants.{GoesOn, Loaded, Restarted, Refused}
+use Rattle.thy_computer.specs.NextActor.{Actor, Nvm, Dram, Checkpoint, Advances, Stalled}
 use Rattle.thy_scheme.specs.CheckpointMarks.{CheckpointMarks}
 use Rattle.thy_core.specs.declared.parts.Checkpoints.{Checkpoints}
 use Rattle.thy_core.specs.declared.parts.Consoles.{Consoles}

@@ -10,10 +10,10 @@ use Rattle.thy_hart.specs.HartState.{has_written}
 use Rattle.thy_isa.specs.Step.{state_of, state_with}
 use Rattle.thy_isa.specs.declared.state.CpuState.{CpuState}
 use Rattle.thy_isa.specs.declared.state.MachState.{MachState}
-use Rattle.thy_view.specs.declared.error.CoreError.{CoreError}
-use Rattle.thy_view.specs.Kind.{IsSnapshot}
-use Rattle.thy_view.specs.Origin.{Origin}
-use Rattle.thy_view.specs.Views.{is_boot}
+use Rattle.thy_computer.specs.declared.error.CoreError.{CoreError}
+use Rattle.thy_computer.specs.Kind.{IsSnapshot}
+use Rattle.thy_computer.specs.Origin.{Origin}
+use Rattle.thy_computer.specs.Views.{is_boot}
 use Rattle.thy_scheme.specs.Scheme.{SchemeOf}
 use Rattle.thy_core.specs.declared.reading.MemoryVersion.{MemoryVersion}
 use Rattle.thy_core.specs.declared.reading.MemoryVersion.TheVariants.{Executing, Committed}

@@ -1,8 +1,8 @@
 -- Steps of a hart in a row, as cycles of the machine.
 use Rattle.std.specs.Prelude.{ℕ, ◌+◌, Bool, false, if◌then◌else◌, List, [], ◌∷◌, ◌++◌, replicate, Option, Some, None}
 use Rattle.thy_hart.specs.declared.hand.HartStep.{HartStep}
-use Rattle.thy_view.specs.declared.did.Advance.{Advance}
-use Rattle.thy_view.specs.declared.did.Advance.TheVariants.{Moved, Retired}
+use Rattle.thy_computer.specs.declared.did.Advance.{Advance}
+use Rattle.thy_computer.specs.declared.did.Advance.TheVariants.{Moved, Retired}
 use Rattle.thy_scheme.specs.MachineCalls.{retires_by, ends_by, after_hart}
 use Rattle.thy_scheme.specs.Machine.{Machine, cpu_fronted}
 use Rattle.thy_core.specs.Calm.{is_over}

@@ -1,21 +1,21 @@
 //! The boot's turn.
 ghost use Rattle.std.specs.Prelude.{◌≡◌, ◌+◌, ◌-◌, ◌<◌, ◌^◌, if◌then◌else◌};
 ghost use Rattle.thy_isa.specs.Step.{state_of, cpu_of, is_running};
-ghost use Rattle.thy_view.specs.declared.did.Stall.TheVariants.{Booting};
-ghost use Rattle.thy_view.specs.Booting.{boot_did};
-ghost use Rattle.thy_view.specs.Origin.{Origin, Begins};
-ghost use Rattle.thy_view.specs.NextActor.{Stalled};
+ghost use Rattle.thy_computer.specs.declared.did.Stall.TheVariants.{Booting};
+ghost use Rattle.thy_computer.specs.Booting.{boot_did};
+ghost use Rattle.thy_computer.specs.Origin.{Origin, Begins};
+ghost use Rattle.thy_computer.specs.NextActor.{Stalled};
 ghost use Rattle.thy_scheme.specs.MachineCalls.{running_from, after_boot};
 ghost use Rattle.thy_core.specs.Cycles.{HasStart, CanTake, HasTaken};
 ghost use Rattle.thy_core.specs.MachineParts.{machine_of, IsRestartBelow};
 
 use crate::parts::{Checkpoints, Consoles, MachineParts};
 use thy_block::{Mark, Nvm, NvmError};
+use thy_computer::{BootStep, Did, Phase};
 use thy_hart::Hart;
 use thy_isa::{CpuState, MachState, is_running};
 use thy_layout::Start;
 use thy_scheme::Scheme;
-use thy_view::{BootStep, Did, Phase};
 
 /// Takes one action of the boot.
 #[inline(never)]

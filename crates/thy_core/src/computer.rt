@@ -3,11 +3,11 @@
 use crate::Machine;
 use std::alloc::{AllocError, Global};
 use thy_block::{Bytes, Geometry, Nvm, NvmError, Pick};
+use thy_computer::{Advance, Computer, CoreError, Row, Stepped};
 use thy_dram::Dram;
 use thy_isa::{CpuState, MachState};
 use thy_layout::Start;
 use thy_scheme::Scheme;
-use thy_view::{Advance, Computer, CoreError, Row, Stepped};
 
 /// Over any scheme the machine is one of the machines that are run. Each cycle is the turn of its pick and does exactly what
 /// that turn asks; before a seal the first that is left of promotions, flushes and merges. While a boot restores a checkpoint

@@ -1,8 +1,8 @@
 //! One cycle, at the turn of an actor.
 ghost use Rattle.std.specs.Prelude.{◌≡◌, ◌&&◌, not, false, Ok};
-ghost use Rattle.thy_view.specs.declared.did.Stall.TheVariants.{Waiting, Halted};
-ghost use Rattle.thy_view.specs.NextActor.{Nvm, Advances, Stalled, stall_at};
-ghost use Rattle.thy_view.specs.Views.{is_halt};
+ghost use Rattle.thy_computer.specs.declared.did.Stall.TheVariants.{Waiting, Halted};
+ghost use Rattle.thy_computer.specs.NextActor.{Nvm, Advances, Stalled, stall_at};
+ghost use Rattle.thy_computer.specs.Views.{is_halt};
 ghost use Rattle.thy_core.specs.Calm.{KnowsCalm};
 ghost use Rattle.thy_core.specs.Cycles.{IsAnyRun, HasStart, CanTake, HasTaken, HasReported, did_by, stepped_by, reported, noted};
 ghost use Rattle.thy_core.specs.MachineParts.{machine_of, actor_seen};
@@ -14,9 +14,9 @@ use crate::parts::MachineParts;
 use crate::sealing::prepare;
 use crate::turn::Actor;
 use thy_block::{Nvm, NvmError};
+use thy_computer::{Advance, Did, Phase, Stall, Stepped};
 use thy_layout::Start;
 use thy_scheme::Scheme;
-use thy_view::{Advance, Did, Phase, Stall, Stepped};
 
 /// Takes the cycle of a hart that advances its instruction. Notes whether it failed.
 #[inline(always)]

@@ -1,6 +1,6 @@
 //! The checkpoint engine's turn, and that of the DRAM's queue.
 ghost use Rattle.std.specs.Prelude.{◌≡◌, ◌+◌, ◌<◌, ◌^◌, if◌then◌else◌, Ok};
-ghost use Rattle.thy_view.specs.NextActor.{Dram, Checkpoint};
+ghost use Rattle.thy_computer.specs.NextActor.{Dram, Checkpoint};
 ghost use Rattle.thy_scheme.specs.Calls.{engine_did};
 ghost use Rattle.thy_scheme.specs.MachineCalls.{after_engine};
 ghost use Rattle.thy_core.specs.Cycles.{IsAnyRun, CanTake, HasTaken};
@@ -8,9 +8,9 @@ ghost use Rattle.thy_core.specs.MachineParts.{machine_of};
 
 use crate::parts::{Checkpoints, MachineParts};
 use thy_block::{Nvm, NvmError};
+use thy_computer::{Did, Phase};
 use thy_layout::EngineStep;
 use thy_scheme::Scheme;
-use thy_view::{Did, Phase};
 
 /// Takes one action of the checkpoint that is under way.
 #[inline(always)]

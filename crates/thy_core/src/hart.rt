@@ -1,8 +1,8 @@
 //! A hart's turn while nothing keeps it.
 ghost use Rattle.std.specs.Prelude.{◌≡◌, ℕ, None, Some, true, ◌+◌, ◌<◌, ◌≤◌, ◌^◌, ◌&&◌, not, length};
 ghost use Rattle.thy_block.specs.declared.mix.Pick.{Pick as PickOf};
-ghost use Rattle.thy_view.specs.Advances.{did_of, SimulatesRow, row_of};
-ghost use Rattle.thy_view.specs.NextActor.{Advances};
+ghost use Rattle.thy_computer.specs.Advances.{did_of, SimulatesRow, row_of};
+ghost use Rattle.thy_computer.specs.NextActor.{Advances};
 ghost use Rattle.thy_hart.specs.declared.hand.Hand.TheVariants.{Nothing};
 ghost use Rattle.thy_scheme.specs.MachineCalls.{retires_over, retires_by, ends_by, begun_by_hart, hart_did, after_hart};
 ghost use Rattle.thy_scheme.specs.Machine.{cpu_fronted};
@@ -16,10 +16,10 @@ ghost use Rattle.thy_core.specs.Turns.{hart_of};
 use crate::parts::MachineParts;
 use crate::turn::hart_of;
 use thy_block::{EndCause, Nvm, NvmError, Pick};
+use thy_computer::{Advance, Row};
 use thy_hart::HartStep;
 use thy_layout::Start;
 use thy_scheme::Scheme;
-use thy_view::{Advance, Row};
 
 /// Takes a step of this hart, whose instruction is begun if none is. A machine stays marked as calm until a line is brought or
 /// the epoch is over.

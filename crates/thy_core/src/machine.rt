@@ -2,10 +2,10 @@
 ghost use Rattle.std.specs.Prelude.{◌≡◌, ◌≤◌, ℕ, Ok, None, IfOk, IfErr, OnOk, is_err};
 ghost use Rattle.thy_block.specs.Device.{Device, IsFramed, CountsFault};
 ghost use Rattle.thy_dram.specs.Contents.{lost};
-ghost use Rattle.thy_view.specs.declared.view.View.{View};
-ghost use Rattle.thy_view.specs.Advances.{IfAdvanced, IsOthersCycle, SimulatesRow, row_of};
-ghost use Rattle.thy_view.specs.Kind.{CanStep, CanRead, CanSnapshot, Simulates, FailsSafe, IsDramOf, SnapshotsStopped, ShowsConsole, LeavesAlonePast, ShowsLoading, HasFailedToRead};
-ghost use Rattle.thy_view.specs.Origin.{Origin};
+ghost use Rattle.thy_computer.specs.declared.view.View.{View};
+ghost use Rattle.thy_computer.specs.Advances.{IfAdvanced, IsOthersCycle, SimulatesRow, row_of};
+ghost use Rattle.thy_computer.specs.Kind.{CanStep, CanRead, CanSnapshot, Simulates, FailsSafe, IsDramOf, SnapshotsStopped, ShowsConsole, LeavesAlonePast, ShowsLoading, HasFailedToRead};
+ghost use Rattle.thy_computer.specs.Origin.{Origin};
 ghost use Rattle.thy_isa.specs.Step.{zero_cpu};
 ghost use Rattle.thy_scheme.specs.Kind.{kind_over};
 ghost use Rattle.thy_scheme.specs.Machine.{processor_of};
@@ -19,11 +19,11 @@ use crate::{power, snapshot};
 use std::alloc::{AllocError, Global};
 use std::marker::Model;
 use thy_block::{Bytes, Geometry, Nvm, NvmError, Pick};
+use thy_computer::{Advance, CoreError, Row, Stepped};
 use thy_dram::Dram;
 use thy_isa::{CpuState, MachState};
 use thy_layout::Start;
 use thy_scheme::Scheme;
-use thy_view::{Advance, CoreError, Row, Stepped};
 
 /// One hart or two, with a cache over a scheme of checkpoints. One step is one cycle.
 #[derive(Drop)]

@@ -2,9 +2,9 @@
 
 use thy_block::Mark;
 use thy_cache::Cache;
+use thy_computer::Phase;
 use thy_hart::Hart;
 use thy_scheme::SchemeStore;
-use thy_view::Phase;
 
 /// The checkpoints of a machine whose boot is over.
 #[derive(Clone, Copy, Debug, PartialEq, Eq)]

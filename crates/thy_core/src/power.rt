@@ -2,9 +2,9 @@
 ghost use Rattle.std.specs.Prelude.{◌≡◌, ℕ, ◌<◌, false, IfOk, length};
 ghost use Rattle.thy_block.specs.Device.{Device};
 ghost use Rattle.thy_dram.specs.Contents.{lost};
-ghost use Rattle.thy_view.specs.declared.view.View.{View};
-ghost use Rattle.thy_view.specs.Kind.{IsDramOf, ShowsLoading};
-ghost use Rattle.thy_view.specs.Origin.{Origin};
+ghost use Rattle.thy_computer.specs.declared.view.View.{View};
+ghost use Rattle.thy_computer.specs.Kind.{IsDramOf, ShowsLoading};
+ghost use Rattle.thy_computer.specs.Origin.{Origin};
 ghost use Rattle.thy_isa.specs.Step.{zero_cpu};
 ghost use Rattle.thy_scheme.specs.Kind.{kind_over};
 ghost use Rattle.thy_core.specs.MachineParts.{machine_of};
@@ -14,11 +14,11 @@ use crate::parts::{Checkpoints, Consoles, MachineParts};
 use std::alloc::{AllocError, Global};
 use thy_block::{Geometry, Mark};
 use thy_cache::Cache;
+use thy_computer::Phase;
 use thy_dram::Dram;
 use thy_hart::Hart;
 use thy_isa::CpuState;
 use thy_scheme::{Scheme, SchemeStore};
-use thy_view::Phase;
 
 /// The parts of a machine whose power has just come on, over a DRAM of any content.
 pub(crate) fn power_on<S: Scheme>(

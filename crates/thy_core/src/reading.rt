@@ -4,7 +4,7 @@ ghost use Rattle.thy_block.specs.Blocks.{block_bytes};
 ghost use Rattle.thy_block.specs.Bytes.{bytes_of};
 ghost use Rattle.thy_block.specs.Device.{block_at, HasFailed, IsFramed, CountsFault};
 ghost use Rattle.thy_block.specs.Flat.{flat, console_bytes};
-ghost use Rattle.thy_view.specs.Kind.{ReadsNothing, HasFailedToRead};
+ghost use Rattle.thy_computer.specs.Kind.{ReadsNothing, HasFailedToRead};
 ghost use Rattle.thy_scheme.specs.Scheme.{CanRun};
 ghost use Rattle.thy_scheme.specs.Machine.{memory_of};
 ghost use Rattle.thy_core.specs.MachineParts.{machine_of};
@@ -13,8 +13,8 @@ ghost use Rattle.thy_core.specs.Reading.{blocks_in, IsRoomy};
 use crate::parts::MachineParts;
 use std::alloc::Global;
 use thy_block::{BLOCK_SIZE, Block, Bytes, Nvm, NvmError};
+use thy_computer::CoreError;
 use thy_scheme::Scheme;
-use thy_view::CoreError;
 
 /// A version of memory.
 #[derive(Clone, Copy, Debug, PartialEq, Eq)]

@@ -1,17 +1,17 @@
 //! The hart's turn while its epoch is over or a page is promoted: what comes before a seal, and the seal.
 ghost use Rattle.std.specs.Prelude.{◌≡◌, ◌≢◌, Ok, None, Some, true, false, ◌+◌, ◌<◌, ◌^◌};
 ghost use Rattle.thy_cache.specs.Contents.{dirty_count};
-ghost use Rattle.thy_view.specs.declared.did.Stall.TheVariants.{Sealing};
-ghost use Rattle.thy_view.specs.NextActor.{Stalled};
+ghost use Rattle.thy_computer.specs.declared.did.Stall.TheVariants.{Sealing};
+ghost use Rattle.thy_computer.specs.NextActor.{Stalled};
 ghost use Rattle.thy_scheme.specs.MachineCalls.{after_seal};
 ghost use Rattle.thy_core.specs.Cycles.{IsAnyRun, CanTake, HasTaken};
 ghost use Rattle.thy_core.specs.MachineParts.{machine_of};
 
 use crate::parts::MachineParts;
 use thy_block::{EndCause, Mark, Nvm, NvmError};
+use thy_computer::Did;
 use thy_isa::is_running;
 use thy_scheme::Scheme;
-use thy_view::Did;
 
 /// Promotes a block of a page, or stores a dirty line, or merges a block into its page, or else seals the epoch: steps 5, 2, 3
 /// and 4 of an epoch's end in docs/CONTROLLER.md.

@@ -6,7 +6,7 @@ ghost use Rattle.thy_hart.specs.OneStep.{current};
 ghost use Rattle.thy_isa.specs.Step.{state_of, state_with};
 ghost use Rattle.thy_block.specs.Bytes.{bytes_of};
 ghost use Rattle.thy_scheme.specs.Scheme.{CanRun};
-ghost use Rattle.thy_view.specs.Kind.{CanRead, CanSnapshot, SnapshotsStopped, ShowsConsole, LeavesAlonePast, HasFailedToRead};
+ghost use Rattle.thy_computer.specs.Kind.{CanRead, CanSnapshot, SnapshotsStopped, ShowsConsole, LeavesAlonePast, HasFailedToRead};
 ghost use Rattle.thy_scheme.specs.Kind.{kind_over};
 ghost use Rattle.thy_scheme.specs.Machine.{cpu_fronted, memory_of, processor_of, hart_put_back};
 ghost use Rattle.thy_core.specs.MachineParts.{machine_of};
@@ -16,9 +16,9 @@ use crate::parts::MachineParts;
 use crate::reading::{MemoryVersion, read_blocks, read_console};
 use std::alloc::Global;
 use thy_block::{Bytes, Nvm, PAGE_BLOCKS};
+use thy_computer::{CoreError, Phase};
 use thy_isa::{CpuState, MachState, cross};
 use thy_scheme::Scheme;
-use thy_view::{CoreError, Phase};
 
 /// The state that a processor makes with a memory and a console.
 fn state_with(cpu: &CpuState, memory: Bytes, console: Bytes) -> MachState

@@ -1,8 +1,8 @@
 //! One cycle of a pick: a hart's that advances its instruction, or another actor's.
 ghost use Rattle.std.specs.Prelude.{◌≡◌, ◌≤◌, Ok, None, is_err};
 ghost use Rattle.thy_block.specs.Device.{IsFramed, CountsFault};
-ghost use Rattle.thy_view.specs.Advances.{IfAdvanced, IsOthersCycle, SimulatesRow, row_of};
-ghost use Rattle.thy_view.specs.Kind.{CanStep, Simulates, FailsSafe};
+ghost use Rattle.thy_computer.specs.Advances.{IfAdvanced, IsOthersCycle, SimulatesRow, row_of};
+ghost use Rattle.thy_computer.specs.Kind.{CanStep, Simulates, FailsSafe};
 ghost use Rattle.thy_scheme.specs.Kind.{kind_over};
 ghost use Rattle.thy_core.specs.Calm.{KnowsCalm};
 ghost use Rattle.thy_core.specs.MachineParts.{machine_of};
@@ -12,9 +12,9 @@ use crate::hart::execute_row;
 use crate::parts::MachineParts;
 use crate::turn::{NextActor, actor_now, actor_of, only_harts};
 use thy_block::{Nvm, NvmError, Pick};
+use thy_computer::{Advance, Row, Stepped};
 use thy_layout::Start;
 use thy_scheme::Scheme;
-use thy_view::{Advance, Row, Stepped};
 
 /// Takes the pick's cycle, if a hart advances in it. Notes whether it failed.
 #[inline(always)]

@@ -5,12 +5,12 @@ ghost use Rattle.thy_scheme.specs.Machine.{shortage_of};
 ghost use Rattle.thy_core.specs.MachineParts.{machine_of, actor_seen, next_actor_seen};
 ghost use Rattle.thy_core.specs.Turns.{lacks, stopped_now, waits_now, stall_now, hart_of, hart_now, engine_now, actor_now};
 ghost use Rattle.thy_block.specs.declared.mix.Pick.TheVariants.{Engine as EnginePick};
-ghost use Rattle.thy_view.specs.NextActor.{Checkpoint, rested, begins};
+ghost use Rattle.thy_computer.specs.NextActor.{Checkpoint, rested, begins};
 
 use crate::parts::MachineParts;
 use thy_block::{Nvm, Pick};
+use thy_computer::{Phase, Stall};
 use thy_scheme::Scheme;
-use thy_view::{Phase, Stall};
 
 /// Who takes a cycle.
 #[derive(Clone, Copy, Debug, PartialEq, Eq)]

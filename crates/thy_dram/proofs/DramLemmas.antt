@@ -6,9 +6,9 @@ use Rattle.thy_block.specs.declared.block.Block.{Block}
 use Rattle.thy_block.specs.declared.nvm.Write.{Write}
 use Rattle.thy_block.specs.Device.{zero_block, block_at, applied, newest, surplus, written_to, write_of, drained as drained_device}
 use Rattle.thy_block.proofs.DeviceLemmas.{length-applied, applied-append, block_at-applied}
-use Rattle.thy_write_queue.specs.Held.{Held, made, device_of, as_device, unqueued}
-use Rattle.thy_write_queue.specs.Merged.{merged, is_marked}
-use Rattle.thy_write_queue.proofs.MergedLemmas.{length-merged, block_at-merged, merged-all, merged-none, merged-write}
+use Rattle.thy_dram.specs.Held.{Held, made, device_of, as_device, unqueued}
+use Rattle.thy_dram.specs.Merged.{merged, is_marked}
+use Rattle.thy_dram.proofs.MergedLemmas.{length-merged, block_at-merged, merged-all, merged-none, merged-write}
 use Rattle.thy_dram.specs.Contents.{Contents, fresh, written, drained, lost}
 use Rattle.thy_dram.specs.Draws.{blocks_over, drawn_block}
 use Rattle.thy_dram.specs.Jumps.{after_draws}

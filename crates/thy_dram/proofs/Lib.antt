@@ -1,3 +1,5 @@
 pub mod DramLemmas
 pub mod DrawLemmas
 pub mod JumpLemmas
+pub mod LowestLemmas
+pub mod MergedLemmas

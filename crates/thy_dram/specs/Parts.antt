@@ -2,8 +2,8 @@
 -- that loss. Of the blocks without a mark nothing is held: they are drawn when they are read.
 use Rattle.std.specs.Prelude.{◌≡◌, ℕ, ◌<◌, Bool, List, length}
 use Rattle.thy_block.specs.Device.{applied}
-use Rattle.thy_write_queue.specs.Held.{Held}
-use Rattle.thy_write_queue.specs.Merged.{merged}
+use Rattle.thy_dram.specs.Held.{Held}
+use Rattle.thy_dram.specs.Merged.{merged}
 use Rattle.thy_dram.specs.declared.jumps.Jump.{Jump}
 use Rattle.thy_dram.specs.Contents.{Contents}
 use Rattle.thy_dram.specs.Draws.{blocks_over}

@@ -3,12 +3,12 @@ ghost use Rattle.std.specs.Prelude.{◌≡◌, ◌<◌, ◌≤◌, length, IfOk,
 ghost use Rattle.thy_block.specs.Device.{block_at};
 ghost use Rattle.thy_dram.specs.Contents.{fresh, written, drained, lost};
 
+use crate::Ring;
 use crate::draws::drawn_at;
 use crate::jumps::{Jump, block_powers};
 use std::alloc::{AllocError, Global};
 use std::marker::Model;
 use thy_block::Block;
-use thy_write_queue::Ring;
 
 /// A volatile memory whose writes are queued before they land. Only `new` allocates, and no other
 /// call can fail. A loss of power takes no draws: a block that is read before it was written again takes its own then.

@@ -2,3 +2,8 @@ pub mod IndexLemmas
 pub mod MemoryLemmas
 pub mod RefusalLemmas
 pub mod SegmentLemmas
+pub mod ProgramLemmas
+pub mod FileLemmas
+pub mod DecodeLemmas
+pub mod ReachLemmas
+pub mod ImageLemmas

@@ -3,3 +3,7 @@ pub mod Header
 pub mod ProgramHeader
 pub mod Image
 pub mod Texts
+pub mod Encode
+pub mod MadeProgram
+pub mod MadeFile
+pub mod MadeLaws

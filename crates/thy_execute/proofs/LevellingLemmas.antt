@@ -22,24 +22,24 @@ use Rattle.thy_gap.proofs.SeenLemmas.{length-unmap}
 use Rattle.thy_layout.specs.Decoded.{Decoded}
 use Rattle.thy_text.specs.Event.{Event, Scheme, EpochEnd, Commit, Cut, Restart, Reload, Ended}
 use Rattle.thy_run.proofs.EveryLemmas.{every-cut}
-use Rattle.thy_view.specs.Kind.{KindOf}
-use Rattle.thy_view.specs.Origin.{Origin}
-use Rattle.thy_view.specs.Safe.{ceiling}
+use Rattle.thy_computer.specs.Kind.{KindOf}
+use Rattle.thy_computer.specs.Origin.{Origin}
+use Rattle.thy_computer.specs.Safe.{ceiling}
 use Rattle.thy_run.specs.Every.{every_of}
 use Rattle.thy_run.specs.Cuts.{cuts_among}
 use Rattle.thy_run.specs.Images.{Found, found, HasLeft, AllFit}
 use Rattle.thy_run.specs.Laws.{Promise, found_at_start}
 use Rattle.thy_run.specs.World.{Given}
-use Rattle.thy_answer.specs.declared.answer.Ran.{Ran}
-use Rattle.thy_answer.specs.Answering.{Outside, with_device, IsRunOf, IsSafeFor, given_for}
-use Rattle.thy_answer.specs.Levelling.{through, images_of_save, IsFoundAs, IsLeftAs, IsHandedBack, PutsThrough}
+use Rattle.thy_outcome.specs.declared.answer.Ran.{Ran}
+use Rattle.thy_outcome.specs.Answering.{Outside, with_device, IsRunOf, IsSafeFor, given_for}
+use Rattle.thy_outcome.specs.Levelling.{through, images_of_save, IsFoundAs, IsLeftAs, IsHandedBack, PutsThrough}
 use Rattle.thy_execute.specs.Planning.{HasStayed, RunOverSeen}
-use Rattle.thy_answer.specs.Kept.{answer_of}
-use Rattle.thy_answer.specs.Saving.{IsPut, SavesUnder, saves, save_pick}
-use Rattle.thy_answer.specs.Sources.{ProgramSource, IsProgram, origin_for}
-use Rattle.thy_arguments.specs.Settings.{Job}
+use Rattle.thy_outcome.specs.Kept.{answer_of}
+use Rattle.thy_outcome.specs.Saving.{IsPut, SavesUnder, saves, save_pick}
+use Rattle.thy_outcome.specs.Sources.{ProgramSource, IsProgram, origin_for}
+use Rattle.thy_base.specs.Settings.{Job}
 use Rattle.thy_run.specs.Watching.{Taken}
-use Rattle.thy_answer.specs.Watching.{HasSeenOf}
+use Rattle.thy_outcome.specs.Watching.{HasSeenOf}
 
 -- ---- what images are to a run
 

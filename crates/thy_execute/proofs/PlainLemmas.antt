@@ -12,16 +12,16 @@ use Rattle.thy_plain.specs.Machine.{Machine, loaded, after_steps, StopsAt as Mac
 use Rattle.thy_plain.specs.Start.{start_state}
 use Rattle.thy_text.specs.History.{of_run}
 use Rattle.thy_text.specs.Lines.{ended_lines}
-use Rattle.thy_arguments.specs.Settings.{Job}
-use Rattle.thy_answer.specs.declared.answer.Answer.{Answer}
+use Rattle.thy_base.specs.Settings.{Job}
+use Rattle.thy_outcome.specs.declared.answer.Answer.{Answer}
 use Rattle.thy_run.specs.declared.ending.Stop.{Stop}
 use Rattle.thy_files.specs.declared.source.Program.{Program}
-use Rattle.thy_view.specs.Origin.{at, runs_at}
-use Rattle.thy_answer.specs.Answering.{Outside, IsPlainOf, ClosesRun, StopsAt, plain_stop, stop_line, stop_status}
+use Rattle.thy_computer.specs.Origin.{at, runs_at}
+use Rattle.thy_outcome.specs.Answering.{Outside, IsPlainOf, ClosesRun, StopsAt, plain_stop, stop_line, stop_status}
 use Rattle.thy_files.specs.Beginnings.{IsProgramOf}
-use Rattle.thy_answer.specs.Sources.{Beginning, file, origin_for}
+use Rattle.thy_outcome.specs.Sources.{Beginning, file, origin_for}
 use Rattle.thy_run.specs.Sending.{Sent}
-use Rattle.thy_answer.proofs.EndLaws.{at_is}
+use Rattle.thy_outcome.proofs.EndLaws.{at_is}
 
 -- what a program file begins by its steps
 begun_steps : (job : Job) (b : Beginning) (input : List ℕ) (first : State) (k : ℕ) → b.start ≡ first → first.count ≡ 0

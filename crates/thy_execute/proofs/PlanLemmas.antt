@@ -11,41 +11,41 @@ use Rattle.thy_block.specs.declared.outside.PutError.{PutError}
 use Rattle.thy_block.specs.Device.{Device, HasFailedToFit, fitted, zero_block}
 use Rattle.thy_block.specs.Outside.{Stock, Stream}
 use Rattle.thy_block.specs.Bytes.{bytes_of}
-use Rattle.thy_answer.specs.Meaning.{decode_of, blocks_of_image}
+use Rattle.thy_outcome.specs.Meaning.{decode_of, blocks_of_image}
 use Rattle.thy_isa.specs.Step.{state_of}
 use Rattle.thy_layout.specs.declared.start.Start.{Start}
-use Rattle.thy_arguments.specs.Settings.{Job}
-use Rattle.thy_view.specs.Booting.{found_first}
-use Rattle.thy_view.specs.Kind.{KindOf, IsLawful, IsFittedFor}
+use Rattle.thy_base.specs.Settings.{Job}
+use Rattle.thy_computer.specs.Booting.{found_first}
+use Rattle.thy_computer.specs.Kind.{KindOf, IsLawful, IsFittedFor}
 use Rattle.thy_block.specs.declared.mark.Mark.{Mark}
 use Rattle.thy_base.proofs.ConfigLemmas.{AreIn-none, IsRising-rows}
-use Rattle.thy_view.specs.Origin.{Origin, IsOrigin}
-use Rattle.thy_view.specs.Safe.{ceiling}
+use Rattle.thy_computer.specs.Origin.{Origin, IsOrigin}
+use Rattle.thy_computer.specs.Safe.{ceiling}
 use Rattle.thy_run.specs.Laws.{Promise, marks_of}
 use Rattle.thy_run.specs.World.{Given}
 use Rattle.thy_run.proofs.PromiseLaws.{Promise-stopped}
 use Rattle.thy_run.proofs.WorldLaws.{IsSafe-cut}
 use Rattle.thy_text.specs.Event.{Event}
 use Rattle.thy_text.specs.History.{all_of, of_run}
-use Rattle.thy_answer.specs.declared.answer.Answer.{Answer}
-use Rattle.thy_answer.specs.declared.answer.Ran.{Ran}
+use Rattle.thy_outcome.specs.declared.answer.Answer.{Answer}
+use Rattle.thy_outcome.specs.declared.answer.Ran.{Ran}
 use Rattle.thy_run.specs.declared.ending.Ending.{Ending}
 use Rattle.thy_run.specs.declared.plan.Plan.{Plan}
-use Rattle.thy_answer.specs.declared.refusal.Refusal.{Refusal}
-use Rattle.thy_answer.specs.declared.refusal.Refusal.TheVariants.{Device as DeviceRefusal}
-use Rattle.thy_answer.specs.Answering.{Outside, outside, RunDue, given_for, shape_for, IsRunFrom, IsRunOf, IsSafeFor, ClosesAs}
+use Rattle.thy_outcome.specs.declared.refusal.Refusal.{Refusal}
+use Rattle.thy_outcome.specs.declared.refusal.Refusal.TheVariants.{Device as DeviceRefusal}
+use Rattle.thy_outcome.specs.Answering.{Outside, outside, RunDue, given_for, shape_for, IsRunFrom, IsRunOf, IsSafeFor, ClosesAs}
 use Rattle.thy_files.specs.Beginnings.{Begins, begun_with, Fits, FitsKept}
 use Rattle.thy_execute.specs.Planning.{CanRun, HasRoom, IsPlanOf, IsUnfitted, RunOverSeen, shape_of}
-use Rattle.thy_answer.specs.Kept.{answer_of}
+use Rattle.thy_outcome.specs.Kept.{answer_of}
 use Rattle.thy_files.specs.Restoring.{ReadsFiles}
-use Rattle.thy_answer.specs.Saving.{SavesUnder, save_pick, saves}
-use Rattle.thy_answer.specs.Sources.{ProgramSource, image, Beginning, IsProgram, origin_for, ProgramDue}
+use Rattle.thy_outcome.specs.Saving.{SavesUnder, save_pick, saves}
+use Rattle.thy_outcome.specs.Sources.{ProgramSource, image, Beginning, IsProgram, origin_for, ProgramDue}
 use Rattle.thy_files.specs.declared.restoring.Beginning.{Beginning as BeginningValue}
 use Rattle.thy_run.specs.Going.{origin_of, given_of, IsPlanned}
 use Rattle.thy_run.specs.Rounds.{RunEnds}
 use Rattle.thy_run.specs.Seeing.{RunEndsSeen}
 use Rattle.thy_run.specs.Watching.{Taken}
-use Rattle.thy_answer.specs.Watching.{HasSeenFrom, HasSeenOf, RunSeen}
+use Rattle.thy_outcome.specs.Watching.{HasSeenFrom, HasSeenOf, RunSeen}
 
 -- ---- configurations
 

@@ -11,13 +11,13 @@ use Rattle.thy_run.specs.Going.{origin_of, IsPlanned}
 use Rattle.thy_run.specs.declared.plan.Plan.{Plan}
 use Rattle.thy_run.specs.Watching.{Taken}
 use Rattle.thy_text.specs.Event.{Event}
-use Rattle.thy_view.specs.Kind.{KindOf}
-use Rattle.thy_arguments.specs.Settings.{Job}
-use Rattle.thy_answer.specs.declared.answer.Ran.{Ran}
-use Rattle.thy_answer.specs.Answering.{Outside, with_device, shape_for, IsRunOf, IsRunOverOf}
-use Rattle.thy_answer.specs.Watching.{HasSeenOf, HasSeenOver}
-use Rattle.thy_answer.specs.Sources.{ProgramSource, image, IsProgram, origin_for}
-use Rattle.thy_answer.specs.Kept.{answer_of}
+use Rattle.thy_computer.specs.Kind.{KindOf}
+use Rattle.thy_base.specs.Settings.{Job}
+use Rattle.thy_outcome.specs.declared.answer.Ran.{Ran}
+use Rattle.thy_outcome.specs.Answering.{Outside, with_device, shape_for, IsRunOf, IsRunOverOf}
+use Rattle.thy_outcome.specs.Watching.{HasSeenOf, HasSeenOver}
+use Rattle.thy_outcome.specs.Sources.{ProgramSource, image, IsProgram, origin_for}
+use Rattle.thy_outcome.specs.Kept.{answer_of}
 use Rattle.thy_files.specs.Beginnings.{begun_with, Fits}
 
 -- a plan can be run over a device with these first blocks

@@ -3,7 +3,7 @@
 //! `run_plan`. Runs are proved for every machine of the trait `Computer` that reads the images in files as they mean.
 //!
 //! Open specs/Planning.antt first, then src/running.rt and src/plain.rt. It depends on thy_run, thy_gap, thy_plain,
-//! thy_files and thy_answer, and on their dependencies; thy_commands depends on it.
+//! thy_files and thy_outcome, and on their dependencies; thy_commands depends on it.
 #![tactic(auto)]
 
 mod plain;

@@ -2,25 +2,24 @@
 ghost use Rattle.std.specs.Prelude.{◌≡◌, ◌<◌, [], None, IfOk, IfErr, OnErr, option_map};
 ghost use Rattle.thy_base.specs.Config.{fault_of as range_fault, parameters_of};
 ghost use Rattle.thy_block.specs.declared.parameters.Parameters.{Parameters as Numbers};
-ghost use Rattle.thy_arguments.specs.Settings.{job_of};
-ghost use Rattle.thy_answer.specs.Answering.{outside};
-ghost use Rattle.thy_answer.specs.Watching.{RunSeen};
-ghost use Rattle.thy_answer.specs.Machines.{by_scheme};
-ghost use Rattle.thy_answer.specs.Saving.{SavesUnder, saves};
+ghost use Rattle.thy_base.specs.Settings.{job_of};
+ghost use Rattle.thy_outcome.specs.Answering.{outside};
+ghost use Rattle.thy_outcome.specs.Watching.{RunSeen};
+ghost use Rattle.thy_outcome.specs.Machines.{by_scheme};
+ghost use Rattle.thy_outcome.specs.Saving.{SavesUnder, saves};
 ghost use Rattle.thy_execute.specs.Planning.{CanRun, HasRoom, HasStayed, IsUnfitted, RunsFitted, RunsPlan, shape_of};
-ghost use Rattle.thy_answer.specs.Kept.{named};
+ghost use Rattle.thy_outcome.specs.Kept.{named};
 ghost use Rattle.thy_files.specs.Restoring.{ReadsFiles};
 ghost use Rattle.thy_run.specs.Going.{IsPlanned};
 ghost use Rattle.thy_run.specs.Rounds.{IsFitted};
 
 use std::alloc::Global;
-use thy_answer::{Answer, ProgramSource, Ran, Refusal, refuse, stopped};
-use thy_arguments::Job;
-use thy_base::{Block, FitError, Geometry, Nvm, PutError, SchemeName, Shape, Shelf, Sink};
+use thy_base::{Block, FitError, Geometry, Job, Nvm, PutError, SchemeName, Shape, Shelf, Sink};
+use thy_computer::Computer;
 use thy_files::{Beginning, cuts_in, is_saved, prepare, save, save_pick};
 use thy_gap::Gap;
+use thy_outcome::{Answer, ProgramSource, Ran, Refusal, refuse, stopped};
 use thy_run::{Ending, Observer, Plan, run};
-use thy_view::Computer;
 
 /// Saves a run that stopped, if it is to be saved; and returns why it was not, if it was to be and was not.
 fn save_run<H: Shelf, N: Nvm>(

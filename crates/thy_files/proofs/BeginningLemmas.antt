@@ -14,8 +14,8 @@ use Rattle.thy_block.specs.Bytes.{bytes_of}
 use Rattle.thy_block.specs.Marks.{mark}
 use Rattle.thy_layout.specs.Decoded.{At}
 use Rattle.thy_layout.specs.Files.{blocks_of}
-use Rattle.thy_answer.specs.Meaning.{decode_bytes}
-use Rattle.thy_answer.proofs.LawLemmas.{file_is_image}
+use Rattle.thy_outcome.specs.Meaning.{decode_bytes}
+use Rattle.thy_outcome.proofs.LawLemmas.{file_is_image}
 use Rattle.thy_isa.specs.Step.{State, state_of}
 use Rattle.thy_isa.proofs.MemoryBounds.{anywhere}
 use Rattle.thy_layout.specs.declared.start.Start.{Start}
@@ -24,14 +24,14 @@ use Rattle.thy_elf.specs.declared.error.ElfError.{ElfError}
 use Rattle.thy_elf.specs.declared.image.Image.{Image}
 use Rattle.thy_elf.specs.Image.{Contents, contents_of, read_of}
 use Rattle.thy_plain.specs.Start.{second_hart, start_other, start_state}
-use Rattle.thy_arguments.specs.Settings.{Job}
+use Rattle.thy_base.specs.Settings.{Job}
 use Rattle.thy_block.specs.declared.mark.Mark.{Mark}
-use Rattle.thy_view.specs.Origin.{Origin, IsOrigin, StartsFrom, setting_of}
-use Rattle.thy_view.specs.Safe.{ceiling}
+use Rattle.thy_computer.specs.Origin.{Origin, IsOrigin, StartsFrom, setting_of}
+use Rattle.thy_computer.specs.Safe.{ceiling}
 use Rattle.thy_files.specs.Beginnings.{Begins, begun_with, FitsKept, IsElf, AreFetchedFor, IsProgramOf}
 use Rattle.thy_files.specs.Restoring.{IsRestored}
-use Rattle.thy_answer.specs.Sources.{ProgramSource, file, made, image, Beginning, begun, from_entry, restored, IsInput, meaning_of, origin_for}
-use Rattle.thy_answer.specs.declared.refusal.Refusal.TheVariants.{Input}
+use Rattle.thy_outcome.specs.Sources.{ProgramSource, file, made, image, Beginning, begun, from_entry, restored, IsInput, meaning_of, origin_for}
+use Rattle.thy_outcome.specs.declared.refusal.Refusal.TheVariants.{Input}
 use Rattle.thy_files.specs.declared.restoring.Beginning.{Beginning as BeginningValue}
 use Rattle.thy_files.specs.declared.source.FetchedBytes.{FetchedBytes}
 use Rattle.thy_files.specs.declared.source.Program.{Program}

@@ -13,10 +13,10 @@ use Rattle.thy_isa.specs.Storable.{IsByte, IsReadable}
 use Rattle.thy_layout.specs.Decoded.{At}
 use Rattle.thy_layout.specs.Files.{block_in, blocks_of}
 use Rattle.thy_layout.proofs.FileLemmas.{length-blocks_of, block_at-blocks_of}
-use Rattle.thy_answer.specs.Meaning.{decode_by_scheme, blocks_by_scheme, decode_bytes}
-use Rattle.thy_answer.proofs.LawLemmas.{file_begins}
-use Rattle.thy_view.specs.Kind.{KindOf}
-use Rattle.thy_view.specs.Origin.{Origin, IsOrigin, StartsFrom, setting_of}
+use Rattle.thy_outcome.specs.Meaning.{decode_by_scheme, blocks_by_scheme, decode_bytes}
+use Rattle.thy_outcome.proofs.LawLemmas.{file_begins}
+use Rattle.thy_computer.specs.Kind.{KindOf}
+use Rattle.thy_computer.specs.Origin.{Origin, IsOrigin, StartsFrom, setting_of}
 use Rattle.thy_files.specs.Restoring.{ReadsFiles}
 
 -- ---- the blocks of bytes

@@ -11,16 +11,16 @@ use Rattle.thy_block.specs.Outside.{Stock}
 use Rattle.thy_elf.specs.Image.{contents_of}
 use Rattle.thy_isa.specs.Step.{state_of}
 use Rattle.thy_layout.specs.declared.start.Start.{Start}
-use Rattle.thy_answer.specs.Saved.{AreOfCheckpoint}
-use Rattle.thy_view.specs.Origin.{IsOrigin}
-use Rattle.thy_view.specs.Safe.{ceiling}
-use Rattle.thy_arguments.specs.Settings.{Job}
-use Rattle.thy_answer.specs.declared.refusal.Refusal.{Refusal}
-use Rattle.thy_answer.specs.declared.refusal.Refusal.TheVariants.{Fetch}
+use Rattle.thy_outcome.specs.Saved.{AreOfCheckpoint}
+use Rattle.thy_computer.specs.Origin.{IsOrigin}
+use Rattle.thy_computer.specs.Safe.{ceiling}
+use Rattle.thy_base.specs.Settings.{Job}
+use Rattle.thy_outcome.specs.declared.refusal.Refusal.{Refusal}
+use Rattle.thy_outcome.specs.declared.refusal.Refusal.TheVariants.{Fetch}
 use Rattle.thy_files.specs.declared.restoring.Beginning.{Beginning as BeginningValue}
 use Rattle.thy_files.specs.declared.source.FetchedBytes.{FetchedBytes}
 use Rattle.thy_files.specs.declared.source.Program.{Program}
-use Rattle.thy_answer.specs.Sources.{ProgramSource, image, Beginning, from_entry, FetchDue, AreFetched, IsProgram, origin_for, ProgramDue}
+use Rattle.thy_outcome.specs.Sources.{ProgramSource, image, Beginning, from_entry, FetchDue, AreFetched, IsProgram, origin_for, ProgramDue}
 
 -- what comes from it is a program file
 abbrev pub IsElf : ProgramSource → Type 0

@@ -8,8 +8,8 @@ use Rattle.thy_isa.specs.Step.{state_of}
 use Rattle.thy_layout.specs.declared.found.Found.TheVariants.{At as FoundAt}
 use Rattle.thy_layout.specs.Decoded.{At}
 use Rattle.thy_layout.specs.Files.{blocks_of, found_in}
-use Rattle.thy_answer.specs.Meaning.{decode_of, blocks_of_image, decode_bytes}
-use Rattle.thy_view.specs.Kind.{KindOf}
+use Rattle.thy_outcome.specs.Meaning.{decode_of, blocks_of_image, decode_bytes}
+use Rattle.thy_computer.specs.Kind.{KindOf}
 use Rattle.thy_files.specs.declared.restoring.Beginning.{Beginning}
 
 -- a check of these bytes has found the checkpoint of this epoch, with epochs and counts below 2^62

@@ -2,17 +2,17 @@
 ghost use Rattle.std.specs.Prelude.{◌≡◌, List, ℕ, IfOk, IfErr, OnOk, option_map};
 ghost use Rattle.thy_block.specs.Geometry.{IsInRange};
 ghost use Rattle.thy_block.specs.Outside.{HasNotFailed};
-ghost use Rattle.thy_arguments.specs.Settings.{Job as JobValue};
-ghost use Rattle.thy_answer.specs.Kept.{named};
-ghost use Rattle.thy_answer.specs.Sources.{ProgramDue, ProgramSource as SourceValue, image};
+ghost use Rattle.thy_base.specs.Settings.{Job as JobValue};
+ghost use Rattle.thy_outcome.specs.Kept.{named};
+ghost use Rattle.thy_outcome.specs.Sources.{ProgramDue, ProgramSource as SourceValue, image};
 ghost use Rattle.thy_files.specs.Beginnings.{Begins, BeginsAs, IsElf, IsPlannedFor, RefusesAs};
 
 use crate::restoring::{Beginning, restore};
 use crate::source::{FetchedBytes, fetch_both, program_of};
 use std::alloc::Global;
-use thy_answer::{ProgramSource, Refusal, check};
 use thy_base::{Geometry, Shelf};
 use thy_layout::{BadImage, Found, Start};
+use thy_outcome::{ProgramSource, Refusal, check};
 use thy_plain::start_of;
 
 /// The epochs and counts of a saved image are below this.

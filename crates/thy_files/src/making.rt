@@ -2,15 +2,15 @@
 ghost use Rattle.std.specs.Prelude.{◌≡◌, length, IfOk};
 ghost use Rattle.thy_block.specs.Device.{Device};
 ghost use Rattle.thy_block.specs.Outside.{Stream};
-ghost use Rattle.thy_make.specs.File.{made_file};
-ghost use Rattle.thy_answer.specs.Answering.{outside, ReportsMade, MakeAnswered};
-ghost use Rattle.thy_answer.specs.Kept.{err_of};
-ghost use Rattle.thy_answer.specs.Saving.{IsPut};
+ghost use Rattle.thy_elf.specs.MadeFile.{made_file};
+ghost use Rattle.thy_outcome.specs.Answering.{outside, ReportsMade, MakeAnswered};
+ghost use Rattle.thy_outcome.specs.Kept.{err_of};
+ghost use Rattle.thy_outcome.specs.Saving.{IsPut};
 
 use std::alloc::Global;
-use thy_answer::{Answer, close};
 use thy_base::{PutError, Shelf, Sink};
-use thy_make::file;
+use thy_elf::made::file;
+use thy_outcome::{Answer, close};
 use thy_text::{Closing, Events, History, write_made};
 
 /// Stores the program file that is made from a number under a name, and returns its length, or why it was not put

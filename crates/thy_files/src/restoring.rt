@@ -5,9 +5,9 @@ ghost use Rattle.thy_layout.specs.Files.{blocks_of};
 ghost use Rattle.thy_files.specs.Restoring.{IsFoundAt, IsRestored};
 
 use std::alloc::{AllocError, Global};
-use thy_answer::state;
 use thy_base::{BLOCK_SIZE, Block, Bytes, Geometry, Mark};
 use thy_layout::{Start, block_in};
+use thy_outcome::state;
 
 /// What a run begins with: a start, and the first blocks of its device.
 #[derive(Drop)]

@@ -5,7 +5,7 @@ ghost use Rattle.thy_block.specs.Device.{block_at, IsCut};
 ghost use Rattle.thy_block.specs.Flat.{flat};
 ghost use Rattle.thy_text.specs.Seen.{event_of};
 ghost use Rattle.thy_run.specs.Cuts.{is_cut, cuts_among};
-ghost use Rattle.thy_answer.specs.Saving.{image_left, saves, save_pick, IsPut};
+ghost use Rattle.thy_outcome.specs.Saving.{image_left, saves, save_pick, IsPut};
 
 use std::alloc::{AllocError, Global};
 use thy_base::{BLOCK_SIZE, Config, Nvm, PutError, Shelf};

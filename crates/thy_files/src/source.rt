@@ -3,15 +3,15 @@ ghost use Rattle.std.specs.Prelude.{◌≡◌, ℕ, List, length, IfOk, IfErr, O
 ghost use Rattle.thy_block.specs.Bytes.{bytes_of};
 ghost use Rattle.thy_block.specs.Geometry.{IsInRange, program_size};
 ghost use Rattle.thy_block.specs.Outside.{HasNotFailed};
-ghost use Rattle.thy_arguments.specs.Settings.{Job};
-ghost use Rattle.thy_answer.specs.Sources.{AreBytesOf, AreFetched, IsHeld, IsInput, ProgramDue, ProgramSource as SourceValue};
+ghost use Rattle.thy_base.specs.Settings.{Job};
+ghost use Rattle.thy_outcome.specs.Sources.{AreBytesOf, AreFetched, IsHeld, IsInput, ProgramDue, ProgramSource as SourceValue};
 ghost use Rattle.thy_files.specs.Beginnings.{IsFetchRefusal, ReadsProgram, RefusesProgram};
-ghost use Rattle.thy_answer.specs.Kept.{named};
+ghost use Rattle.thy_outcome.specs.Kept.{named};
 
 use std::alloc::Global;
-use thy_answer::{ProgramSource, Refusal};
 use thy_base::{Bytes, Geometry, Shelf};
 use thy_elf::{Image, read};
+use thy_outcome::{ProgramSource, Refusal};
 use thy_plain::recall_are_bytes;
 
 /// The most bytes that a program file or an input may have.
@@ -69,7 +69,7 @@ fn source_bytes<'a, H: Shelf>(
     match source {
         ProgramSource::File(name) => fetch(alloc, name, MOST_BYTES, shelf),
         ProgramSource::Image(name) => fetch(alloc, name, MOST_IMAGE_BYTES, shelf),
-        ProgramSource::Made(number) => match thy_make::file(alloc, number) {
+        ProgramSource::Made(number) => match thy_elf::made::file(alloc, number) {
             Ok(bytes) => Ok(bytes),
             Err(error) => Err(Refusal::Memory(error)),
         },

@@ -4,8 +4,8 @@
 //! call that fails: an inner image means what is seen, by the registers in its own last block. Lines move over a device whose
 //! blocks land whole.
 //!
-//! Open specs/Lines.antt first, then specs/Seen.antt and specs/Levelled.antt, and src/gap.rt. It stands on thy_block
-//! alone; on it stand thy_answer, thy_execute, thy_sweep, thy_trial and sweep, for the option `--gap`, and thy_tests tests it.
+//! Open specs/Lines.antt first, then specs/Seen.antt and specs/Levelled.antt, and src/gap.rt. It stands on thy_block alone;
+//! on it stand thy_outcome, thy_execute, thy_sweep and sweep, for the option `--gap`, and thy_tests tests it.
 #![tactic(auto)]
 
 mod gap;

@@ -4,7 +4,7 @@ ghost use Rattle.thy_block.specs.Device.{CountsOneFault};
 ghost use Rattle.thy_cache.specs.Contents.{dirty_count};
 ghost use Rattle.thy_isa.specs.declared.state.Status.TheVariants.{Running};
 ghost use Rattle.thy_isa.specs.Step.{cpu_crossed};
-ghost use Rattle.thy_processor.specs.Processor.{IsAloneIf};
+ghost use Rattle.thy_isa.specs.Processor.{IsAloneIf};
 ghost use Rattle.thy_hart.specs.declared.hand.Hand.TheVariants.{Nothing};
 ghost use Rattle.thy_hart.specs.Epoch.{next_epoch};
 ghost use Rattle.thy_hart.specs.Bring.{CallsStore};
@@ -23,9 +23,7 @@ use crate::micro_steps::HartParts;
 use std::marker::Model;
 use thy_block::{BlockStore, Geometry, NvmError};
 use thy_cache::Cache;
-use thy_decoded::DecodedWords;
-use thy_isa::CpuState;
-use thy_processor::Fronted;
+use thy_isa::{CpuState, DecodedWords, Fronted};
 
 /// The hart in front, of RV64IM, with its epoch and the other hart, if there are two. It executes an instruction in
 /// micro-steps.

@@ -4,18 +4,20 @@
 //! retired, and why it is over. Each of its calls equals its specification, and the epoch retires less than its length
 //! until it is over.
 //!
-//! Open specs/Moments.antt first, then specs/OneStep.antt and specs/Epoch.antt, and src/hart.rt. It depends on
-//! thy_block, thy_isa, thy_decoded and thy_cache; thy_scheme and thy_core depend on it.
+//! Open specs/Moments.antt first, then specs/OneStep.antt and specs/Epoch.antt, and src/hart.rt. It depends on thy_block,
+//! thy_isa and thy_cache; thy_scheme and thy_core depend on it.
 #![tactic(auto)]
 
 mod bring;
 mod epoch;
+mod fetching;
 mod hand;
 mod hart;
 mod in_hand;
 mod laws;
 mod micro_steps;
 mod pieces;
+mod taking;
 
 pub use epoch::EpochState;
 pub use hand::{Hand, HartStep};

@@ -1,44 +1,33 @@
 //! The micro-steps of an instruction whose block is in the cache.
 #![tactic(auto, unfolding(crate::specs::HartState::fetched_block, crate::specs::Outcomes::fetched, crate::specs::Outcomes::room_secured, crate::specs::Outcomes::room_answer, thy_isa::specs::OnBlocks::effect_in, thy_isa::specs::OnBlocks::cpu_after))]
 
-ghost use Rattle.std.specs.Prelude.{◌≡◌, ◌≢◌, ℕ, Bool, List, length, None, Some, ◌+◌, ◌-◌, ◌<◌, ◌≤◌, ◌^◌, true, take, drop, Ok, IfSome};
-ghost use Rattle.thy_block.specs.Geometry.{IsInRange, memory_blocks, program_size};
+ghost use Rattle.std.specs.Prelude.{◌≡◌, ◌≢◌, ℕ, List, length, None, Some, ◌+◌, ◌-◌, ◌<◌, ◌≤◌, ◌^◌, take, drop, IfSome};
+ghost use Rattle.thy_block.specs.Geometry.{IsInRange, memory_blocks};
 ghost use Rattle.thy_block.specs.LittleEndian.{number_bytes};
 ghost use Rattle.thy_cache.specs.Contents.{Contents, dirty_count, location_of, read_from, KeepsSize};
 ghost use Rattle.thy_cache.specs.Flat.{AgreesStill, KeepsLines};
 ghost use Rattle.thy_block.specs.Spans.{IsSpanOf, span, first_block, first_byte};
-ghost use Rattle.thy_isa.specs.Access.{IsWithin};
 ghost use Rattle.thy_isa.specs.declared.state.CallState.{CallState as Calls};
-ghost use Rattle.thy_isa.specs.declared.state.Effect.TheVariants.{Next, Set, Read, Write, Environment};
-ghost use Rattle.thy_isa.specs.Effects.{size_of, word_effect};
+ghost use Rattle.thy_isa.specs.declared.state.Effect.TheVariants.{Environment};
+ghost use Rattle.thy_isa.specs.Effects.{size_of};
 ghost use Rattle.thy_isa.specs.Moves.{number_in};
-ghost use Rattle.thy_isa.specs.Regs.{reg_at};
-ghost use Rattle.thy_isa.specs.Step.{finished as effect_finished, within};
-ghost use Rattle.thy_block.specs.Inside.{is_inside};
+ghost use Rattle.thy_isa.specs.Step.{finished as effect_finished};
 ghost use Rattle.thy_hart.specs.declared.in_hand.Stage.TheVariants.{Idle, Loads, Secures, Stores};
-ghost use Rattle.thy_processor.specs.Processor.{IsAloneIf};
+ghost use Rattle.thy_isa.specs.Processor.{IsAloneIf};
 ghost use Rattle.thy_hart.specs.HartState.{secured, blocks_of, to_secure};
-ghost use Rattle.thy_hart.specs.Outcomes.{Given, begun_with, written_by, block_written, room_secured, room_answer, retired, over_or_retired, epoch_retired, given};
+ghost use Rattle.thy_hart.specs.Outcomes.{Given, written_by, block_written, room_secured, room_answer, retired, over_or_retired, epoch_retired, given};
 ghost use Rattle.thy_hart.specs.InHand.{span_of, load_of, store_of, value_bytes, at_stage, hart_state_of, ArePieces, IsSoundParts};
 ghost use Rattle.thy_hart.specs.Rows.{moved_then};
 ghost use Rattle.thy_hart.specs.declared.hand.HartStep.TheVariants.{Moved};
 ghost use Rattle.thy_hart.specs.declared.hand.MicroStep.TheVariants.{Taken};
-ghost use Rattle.thy_hart.specs.MicroSteps.{ActsAll, IsFetchedSpan, ReadsWord, FetchesIn, ReadsIn, WritesIn, IsActed, micro_step};
+ghost use Rattle.thy_hart.specs.MicroSteps.{ActsAll, ReadsIn, WritesIn, IsActed, micro_step};
 
 use crate::EpochState;
 use crate::hand::{HartStep, MicroStep, ShortStep};
 use crate::in_hand::{Access, InHand, Stage};
 use thy_block::{EndCause, Geometry, Span};
 use thy_cache::{Cache, LineLocation};
-use thy_decoded::{DecodedWords, Found, holds};
-use thy_isa::{
-    Cause, Effect, Extend, Reg, Width, after, alu, bytes_in, fetch_fault, is_running, number, word,
-    word_effect,
-};
-use thy_processor::Fronted;
-
-/// A quarter of the numbers of 64 bits.
-const QUARTER: u64 = 1 << 62;
+use thy_isa::{DecodedWords, Effect, Fronted, is_running, number};
 
 /// What a hart is made of.
 #[derive(Drop)]
@@ -48,24 +37,6 @@ pub(crate) struct HartParts {
     pub epoch: EpochState,
     pub hand: InHand,
     pub decoded: DecodedWords,
-}
-
-/// The word of a span of four bytes within one block, whose line is at this location.
-fn fetch_word(cache: &mut Cache, at: Span, location: LineLocation) -> u32
-    requires found { location_of cache.old (first_block at) ≡ Some location }
-    requires len { at.len ≡ 4 }
-    requires whole { first_byte at + 4 ≤ 64 }
-    ensures word { ReadsWord cache.old at result }
-    ensures cache { cache.new ≡ read_from (first_block at) cache.old }
-    ensures lines { KeepsLines cache.old cache.new }
-{
-    let b = at.first_block();
-    let number = word(
-        cache.block_in(b, location).bytes(),
-        at.first_byte() as usize,
-    );
-    cache.touch(b, location);
-    number
 }
 
 /// The number that an access reads from the bytes of its block.
@@ -106,438 +77,6 @@ impl HartParts {
             | Stage::Loaded
             | Stage::Stores
             | Stage::Stored => None,
-        }
-    }
-
-    /// The four bytes of memory at the program counter, or why no word can be fetched there. One comparison shows that they lie
-    /// inside: of the offset with its low two bits in front, which is low only if they are 0. Base and size of program memory are
-    /// multiples of four, and an address below the base has a greater offset than its size.
-    #[inline(always)]
-    fn fetched_span(&self, alone: bool) -> Result<Span, Cause>
-        requires range { IsInRange self.now.geometry }
-        requires alone { IsAloneIf alone self.now.cpu }
-        ensures { IsFetchedSpan self.now.geometry self.now.cpu result }
-    {
-        let base = self.geometry.numbers().base;
-        let words = self.geometry.program_size() / 4;
-        let pc = self.cpu.pc(alone);
-        let at = pc.wrapping_sub(base);
-        let turned = at % 4 * QUARTER + at / 4;
-        if turned < words {
-            Ok(Span { at, len: 4 })
-        } else {
-            self.tested_span()
-        }
-    }
-
-    /// Tests the program counter by all comparisons. An answer of three words would be one in memory, so this is no call.
-    #[inline(always)]
-    fn tested_span(&self) -> Result<Span, Cause>
-        ensures { IsFetchedSpan self.now.geometry self.now.cpu result }
-    {
-        let base = self.geometry.numbers().base;
-        let size = self.geometry.program_size();
-        let pc = self.cpu.pc(false);
-        match fetch_fault(base, size, pc) {
-            Some(cause) => Err(cause),
-            None => Ok(Span {
-                at: pc - base,
-                len: 4,
-            }),
-        }
-    }
-
-    /// Takes a load in hand.
-    #[inline(always)]
-    fn begin_load(&mut self, rd: Reg, width: Width, extend: Extend, pc: u64, at: u64, input: &[u8])
-        requires range { IsInRange self.old.geometry }
-        requires inside { IsWithin self.old.geometry.base (program_size self.old.geometry) (Read rd width extend pc at) }
-        ensures hart { hart_state_of self.new ≡ begun_with input.now (Read rd width extend pc at) (hart_state_of self.old) }
-        ensures pieces { ArePieces self.new.hand }
-    {
-        match Access::within_block(at - self.geometry.numbers().base, width) {
-            Some(access) => self.begin_access::<()>(rd, extend, pc, at, access),
-            None => {
-                let effect = Effect::Read {
-                    rd,
-                    width,
-                    extend,
-                    pc,
-                    at,
-                };
-                self.begin_in_pieces(effect, input);
-            }
-        }
-    }
-
-    /// Takes a store in hand.
-    #[inline(always)]
-    fn begin_store(&mut self, width: Width, pc: u64, at: u64, value: u64, input: &[u8])
-        requires range { IsInRange self.old.geometry }
-        requires inside { IsWithin self.old.geometry.base (program_size self.old.geometry) (Write width pc at value) }
-        ensures hart { hart_state_of self.new ≡ begun_with input.now (Write width pc at value) (hart_state_of self.old) }
-        ensures pieces { ArePieces self.new.hand }
-    {
-        match Access::within_block(at - self.geometry.numbers().base, width) {
-            Some(access) => self.begin_change::<()>(pc, at, value, access),
-            None => {
-                let effect = Effect::Write {
-                    width,
-                    pc,
-                    at,
-                    value,
-                };
-                self.begin_in_pieces(effect, input);
-            }
-        }
-    }
-
-    /// Takes an effect in hand, and the bytes that it brings along.
-    #[inline(always)]
-    #[tactic(auto, unfolding(crate::specs::Outcomes::begun, thy_isa::specs::Moves::moves_of, thy_isa::specs::Moves::brings))]
-    fn begin(&mut self, effect: Effect, input: &[u8])
-        requires range { IsInRange self.old.geometry }
-        requires inside { IsWithin self.old.geometry.base (program_size self.old.geometry) effect }
-        ensures hart { hart_state_of self.new ≡ begun_with input.now effect (hart_state_of self.old) }
-        ensures pieces { ArePieces self.new.hand }
-    {
-        match effect {
-            Effect::Next { pc } => self.begin_jump::<()>(pc),
-            Effect::Set { rd, pc, value } => self.begin_set::<()>(rd, pc, value),
-            Effect::Read {
-                rd,
-                width,
-                extend,
-                pc,
-                at,
-            } => self.begin_load(rd, width, extend, pc, at, input),
-            Effect::Write {
-                width,
-                pc,
-                at,
-                value,
-            } => self.begin_store(width, pc, at, value, input),
-            Effect::Reserve { .. }
-            | Effect::Conditional { .. }
-            | Effect::Fail { .. }
-            | Effect::Modify { .. }
-            | Effect::Environment
-            | Effect::Trap(_) => self.begin_in_pieces(effect, input),
-        }
-    }
-
-    /// Takes in hand an instruction that sets a register and continues at `pc`.
-    #[inline(always)]
-    #[tactic(auto, unfolding(crate::specs::Outcomes::begun, thy_isa::specs::Moves::moves_of, thy_isa::specs::Moves::brings))]
-    fn begin_set<N>(&mut self, rd: Reg, pc: u64, value: u64)
-        ensures hart { (input : List ℕ) → hart_state_of self.new ≡ begun_with input (Set rd pc value) (hart_state_of self.old) }
-        ensures pieces { ArePieces self.new.hand }
-    {
-        self.hand.rd = rd;
-        self.hand.pc = pc;
-        self.hand.value = value;
-        self.hand.stage = Stage::Sets;
-    }
-
-    /// Takes in hand an instruction that does nothing but continue at `pc`.
-    #[inline(always)]
-    #[tactic(auto, unfolding(crate::specs::Outcomes::begun, thy_isa::specs::Moves::moves_of, thy_isa::specs::Moves::brings))]
-    fn begin_jump<N>(&mut self, pc: u64)
-        ensures hart { (input : List ℕ) → hart_state_of self.new ≡ begun_with input (Next pc) (hart_state_of self.old) }
-        ensures pieces { ArePieces self.new.hand }
-    {
-        self.hand.pc = pc;
-        self.hand.stage = Stage::Jumps;
-    }
-
-    /// Takes in hand a load of these bytes, which are at this address.
-    #[inline(always)]
-    fn begin_access<N>(&mut self, rd: Reg, extend: Extend, pc: u64, at: u64, access: Access)
-        requires { access.0 ≡ at - self.old.geometry.base }
-        ensures hart { (input : List ℕ) → hart_state_of self.new
-            ≡ begun_with input (Read rd access.1 extend pc at) (hart_state_of self.old) }
-        ensures pieces { ArePieces self.new.hand }
-    {
-        self.hand.rd = rd;
-        self.hand.extend = extend;
-        self.hand.pc = pc;
-        self.hand.address = at;
-        self.hand.access = access;
-        self.hand.stage = Stage::Loads;
-    }
-
-    /// Takes in hand a store of these bytes, which are at this address.
-    #[inline(always)]
-    fn begin_change<N>(&mut self, pc: u64, at: u64, value: u64, access: Access)
-        requires { access.0 ≡ at - self.old.geometry.base }
-        ensures hart { (input : List ℕ) → hart_state_of self.new
-            ≡ begun_with input (Write access.1 pc at value) (hart_state_of self.old) }
-        ensures pieces { ArePieces self.new.hand }
-    {
-        self.hand.pc = pc;
-        self.hand.address = at;
-        self.hand.access = access;
-        self.hand.value = value;
-        self.hand.stage = Stage::Secures;
-    }
-
-    /// The bytes of a load or a store at an address, if they lie in program memory and in one block. Two comparisons show that:
-    /// base and size of program memory are multiples of 64, and an address below the base has a greater offset than its size.
-    #[inline(always)]
-    fn access_at<N>(&self, at: u64, width: Width) -> Option<Access>
-        ensures inside { IfSome result (λ access. is_inside self.now.geometry.base (program_size self.now.geometry) at (size_of width) ≡ true) }
-        ensures access { IfSome result (λ access. access ≡ (at - self.now.geometry.base, width)) }
-    {
-        let offset = at.wrapping_sub(self.geometry.numbers().base);
-        if offset < self.geometry.program_size() {
-            Access::within_block(offset, width)
-        } else {
-            None
-        }
-    }
-
-    /// The number of a register, of a hart that is alone if `alone` says so.
-    #[inline(always)]
-    fn operand<N>(&self, alone: bool, reg: Reg) -> u64
-        requires { IsAloneIf alone self.now.cpu }
-        ensures { result ≡ reg_at self.now.cpu.regs reg }
-    {
-        self.cpu.regs(alone).get(reg)
-    }
-
-    /// Takes in hand what a word means that was fetched at the program counter. The most frequent instructions are taken here;
-    /// no effect is made of them.
-    #[inline(always)]
-    #[tactic(auto, unfolding(thy_decoded::specs::Found::instr_by, thy_isa::specs::Arith::alu_of, thy_isa::specs::Effects::effect_of, thy_isa::specs::Step::within))]
-    fn begin_word<N>(&mut self, alone: bool, word: u32, input: &[u8])
-        requires range { IsInRange self.old.geometry }
-        requires alone { IsAloneIf alone self.old.cpu }
-        ensures hart { let p = self.old.geometry in let cpu = self.old.cpu in
-            hart_state_of self.new ≡ begun_with input.now
-            (within p.base (program_size p) cpu.other (word_effect word cpu.pc cpu.regs)) (hart_state_of self.old) }
-        ensures pieces { ArePieces self.new.hand }
-    {
-        let pc = self.cpu.pc(alone);
-        let found = self.decoded.found(word, pc);
-        match *found {
-            Found::AddImm { rd, rs1, imm } => {
-                let value = self.operand::<N>(alone, rs1).wrapping_add(imm);
-                self.begin_set::<N>(rd, after(pc), value);
-            }
-            Found::SllImm { rd, rs1, imm } => {
-                let value = self.operand::<N>(alone, rs1) << (imm & 63);
-                self.begin_set::<N>(rd, after(pc), value);
-            }
-            Found::XorImm { rd, rs1, imm } => {
-                let value = self.operand::<N>(alone, rs1) ^ imm;
-                self.begin_set::<N>(rd, after(pc), value);
-            }
-            Found::SrlImm { rd, rs1, imm } => {
-                let value = self.operand::<N>(alone, rs1) >> (imm & 63);
-                self.begin_set::<N>(rd, after(pc), value);
-            }
-            Found::OrImm { rd, rs1, imm } => {
-                let value = self.operand::<N>(alone, rs1) | imm;
-                self.begin_set::<N>(rd, after(pc), value);
-            }
-            Found::AndImm { rd, rs1, imm } => {
-                let value = self.operand::<N>(alone, rs1) & imm;
-                self.begin_set::<N>(rd, after(pc), value);
-            }
-            Found::OpImm { op, rd, rs1, imm } => {
-                let value = alu(op, self.operand::<N>(alone, rs1), imm);
-                self.begin_set::<N>(rd, after(pc), value);
-            }
-            Found::Add { rd, rs1, rs2 } => {
-                let value = self
-                    .operand::<N>(alone, rs1)
-                    .wrapping_add(self.operand::<N>(alone, rs2));
-                self.begin_set::<N>(rd, after(pc), value);
-            }
-            Found::Sub { rd, rs1, rs2 } => {
-                let value = self
-                    .operand::<N>(alone, rs1)
-                    .wrapping_sub(self.operand::<N>(alone, rs2));
-                self.begin_set::<N>(rd, after(pc), value);
-            }
-            Found::Sll { rd, rs1, rs2 } => {
-                let value = self.operand::<N>(alone, rs1) << (self.operand::<N>(alone, rs2) & 63);
-                self.begin_set::<N>(rd, after(pc), value);
-            }
-            Found::Xor { rd, rs1, rs2 } => {
-                let value = self.operand::<N>(alone, rs1) ^ self.operand::<N>(alone, rs2);
-                self.begin_set::<N>(rd, after(pc), value);
-            }
-            Found::Srl { rd, rs1, rs2 } => {
-                let value = self.operand::<N>(alone, rs1) >> (self.operand::<N>(alone, rs2) & 63);
-                self.begin_set::<N>(rd, after(pc), value);
-            }
-            Found::Or { rd, rs1, rs2 } => {
-                let value = self.operand::<N>(alone, rs1) | self.operand::<N>(alone, rs2);
-                self.begin_set::<N>(rd, after(pc), value);
-            }
-            Found::And { rd, rs1, rs2 } => {
-                let value = self.operand::<N>(alone, rs1) & self.operand::<N>(alone, rs2);
-                self.begin_set::<N>(rd, after(pc), value);
-            }
-            Found::Op { op, rd, rs1, rs2 } => {
-                let value = alu(
-                    op,
-                    self.operand::<N>(alone, rs1),
-                    self.operand::<N>(alone, rs2),
-                );
-                self.begin_set::<N>(rd, after(pc), value);
-            }
-            Found::Load {
-                width,
-                extend,
-                rd,
-                rs1,
-                imm,
-            } => {
-                let at = self.operand::<N>(alone, rs1).wrapping_add(imm);
-                match self.access_at::<N>(at, width) {
-                    Some(access) => self.begin_access::<N>(rd, extend, after(pc), at, access),
-                    None => self.begin_rarely(word, input),
-                }
-            }
-            Found::Store {
-                width,
-                rs1,
-                rs2,
-                imm,
-            } => {
-                let at = self.operand::<N>(alone, rs1).wrapping_add(imm);
-                let value = self.operand::<N>(alone, rs2);
-                match self.access_at::<N>(at, width) {
-                    Some(access) => self.begin_change::<N>(after(pc), at, value, access),
-                    None => self.begin_rarely(word, input),
-                }
-            }
-            Found::Branch {
-                cond,
-                rs1,
-                rs2,
-                imm,
-            } => {
-                let target = pc.wrapping_add(imm);
-                let a = self.operand::<N>(alone, rs1);
-                let b = self.operand::<N>(alone, rs2);
-                if !holds(cond, a, b) {
-                    self.begin_jump::<N>(after(pc));
-                } else if target % 4 == 0 {
-                    self.begin_jump::<N>(target);
-                } else {
-                    self.begin_rarely(word, input);
-                }
-            }
-            Found::Lui { rd, imm } => self.begin_set::<N>(rd, after(pc), imm),
-            Found::Auipc { rd, imm } => self.begin_set::<N>(rd, after(pc), pc.wrapping_add(imm)),
-            Found::Jal { rd, imm } => {
-                let target = pc.wrapping_add(imm);
-                if target % 4 == 0 {
-                    self.begin_set::<N>(rd, target, after(pc));
-                } else {
-                    self.begin_rarely(word, input);
-                }
-            }
-            Found::Jalr { rd, rs1, imm } => {
-                let sum = self.operand::<N>(alone, rs1).wrapping_add(imm);
-                let target = sum - sum % 2;
-                if target % 4 == 0 {
-                    self.begin_set::<N>(rd, target, after(pc));
-                } else {
-                    self.begin_rarely(word, input);
-                }
-            }
-            Found::Other => self.begin_rarely(word, input),
-        }
-    }
-
-    /// Takes in hand what any word means, by its effect.
-    #[inline(never)]
-    fn begin_rarely(&mut self, word: u32, input: &[u8])
-        requires range { IsInRange self.old.geometry }
-        ensures hart { let p = self.old.geometry in let cpu = self.old.cpu in
-            hart_state_of self.new ≡ begun_with input.now
-            (within p.base (program_size p) cpu.other (word_effect word cpu.pc cpu.regs)) (hart_state_of self.old) }
-        ensures pieces { ArePieces self.new.hand }
-    {
-        let base = self.geometry.numbers().base;
-        let size = self.geometry.program_size();
-        let meant = word_effect(word, self.cpu.pc(false), self.cpu.regs(false));
-        let effect = self.cpu.within(base, size, meant);
-        self.begin(effect, input);
-    }
-
-    /// Fetches the instruction at the program counter, whose word lies here, in the line at this location.
-    #[inline(always)]
-    fn fetch_at<N>(
-        &mut self,
-        alone: bool,
-        cache: &mut Cache,
-        at: Span,
-        location: LineLocation,
-        input: &[u8],
-    )
-        requires range { IsInRange self.old.geometry }
-        requires alone { IsAloneIf alone self.old.cpu }
-        requires at { IsFetchedSpan self.old.geometry self.old.cpu (Ok at) }
-        requires found { location_of cache.old (first_block at) ≡ Some location }
-        ensures hart { FetchesIn input.now cache.old (hart_state_of self.old) (hart_state_of self.new) }
-        ensures sound { IsSoundParts self.new }
-        ensures unsecured { secured (hart_state_of self.new).hand ≡ 0 }
-        ensures cache { cache.new ≡ read_from (first_block at) cache.old }
-        ensures lines { KeepsLines cache.old cache.new }
-    {
-        let word = fetch_word(cache, at, location);
-        self.begin_word::<N>(alone, word, input);
-    }
-
-    /// Fetches the instruction at the program counter.
-    #[inline(always)]
-    fn fetch<N>(&mut self, alone: bool, cache: &mut Cache, input: &[u8]) -> MicroStep
-        requires sound { IsSoundParts self.old }
-        requires alone { IsAloneIf alone self.old.cpu }
-        requires stage { self.old.hand.stage ≡ Idle }
-        ensures acts { (free : ℕ) (under_way : Bool) → IsActed (given input.now free under_way)
-            cache.old cache.new (hart_state_of self.old) (hart_state_of self.new) result }
-        ensures sound { IsSoundParts self.new }
-    {
-        match self.fetched_span(alone) {
-            Err(cause) => {
-                self.begin_trap(cause, input);
-                MicroStep::Taken(HartStep::Moved)
-            }
-            Ok(at) => match cache.latest(at.first_block()) {
-                Some(location) => {
-                    self.fetch_at::<N>(alone, cache, at, location, input);
-                    MicroStep::Taken(HartStep::Moved)
-                }
-                None => {
-                    let step = self.fetch_far(cache, at, input);
-                    self.came(step)
-                }
-            },
-        }
-    }
-
-    /// Fetches the instruction at the program counter, whose word lies here, from any line.
-    #[inline(never)]
-    fn fetch_far(&mut self, cache: &mut Cache, at: Span, input: &[u8]) -> ShortStep
-        requires sound { IsSoundParts self.old }
-        requires stage { self.old.hand.stage ≡ Idle }
-        requires at { IsFetchedSpan self.old.geometry self.old.cpu (Ok at) }
-        ensures acts { (free : ℕ) (under_way : Bool) → IsActed (given input.now free under_way)
-            cache.old cache.new (hart_state_of self.old) (hart_state_of self.new) (micro_step result self.new.epoch.over) }
-        ensures sound { IsSoundParts self.new }
-    {
-        match cache.find(at.first_block()) {
-            Some(location) => {
-                self.fetch_at::<()>(false, cache, at, location, input);
-                ShortStep::Moved
-            }
-            None => ShortStep::Missing(at.first_block()),
         }
     }
 
@@ -786,7 +325,7 @@ impl HartParts {
 
     /// What the step answers after a micro-step that a function of its own took.
     #[inline(always)]
-    fn came(&self, step: ShortStep) -> MicroStep
+    pub(crate) fn came(&self, step: ShortStep) -> MicroStep
         ensures { result ≡ micro_step step self.now.epoch.over }
     {
         match step {

@@ -12,3 +12,5 @@ pub mod MoveLaws
 pub mod TrapLaws
 pub mod HartLaws
 pub mod RegLaws
+pub mod ProcessorLaws
+pub mod BankLaws

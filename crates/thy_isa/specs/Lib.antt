@@ -14,3 +14,6 @@ pub mod Storable
 pub mod Access
 pub mod Console
 pub mod Laws
+pub mod Found
+pub mod Processor
+pub mod FrontedLaws

@@ -15,15 +15,15 @@ use Rattle.thy_layout.proofs.AskingLemmas.{half}
 use Rattle.thy_layout.proofs.ReadBackLemmas.{epoch_of-commit_of}
 use Rattle.thy_table.specs.Listing.{free_count}
 use Rattle.thy_table.proofs.ListingLaws.{free_count-all, free_count-mapped, IsListing-free}
-use Rattle.thy_view.specs.Safe.{ceiling}
-use Rattle.thy_journal_image.specs.CheckpointParts.{ReadsBack, HoldsCheckpoint, memory_places}
-use Rattle.thy_journal_image.specs.Free.{Target, SlotBlock, JournalBlock, HomeBlock, target_place, IsTarget, IsFree}
-use Rattle.thy_journal_image.specs.Layout.{journal_layouts}
-use Rattle.thy_journal_image.specs.Places.{slot_blocks, slot_place, first_home, image_blocks, home_place, journal_place}
-use Rattle.thy_journal_image.specs.Slots.{IsTable, table_in, slot_fault}
-use Rattle.thy_journal_image.proofs.FreeLemmas.{free_not_looked}
-use Rattle.thy_journal_image.proofs.PartsLemmas.{slot_behind}
-use Rattle.thy_journal_image.proofs.SlotLemmas.{slot_reads_back}
+use Rattle.thy_computer.specs.Safe.{ceiling}
+use Rattle.thy_images.specs.JournalCheckpointParts.{ReadsBack, HoldsCheckpoint, memory_places}
+use Rattle.thy_images.specs.JournalFree.{Target, SlotBlock, JournalBlock, HomeBlock, target_place, IsTarget, IsFree}
+use Rattle.thy_images.specs.JournalLayout.{journal_layouts}
+use Rattle.thy_images.specs.JournalPlaces.{slot_blocks, slot_place, first_home, image_blocks, home_place, journal_place}
+use Rattle.thy_images.specs.JournalSlots.{IsTable, table_in, slot_fault}
+use Rattle.thy_images.proofs.JournalFreeLemmas.{free_not_looked}
+use Rattle.thy_images.proofs.JournalPartsLemmas.{slot_behind}
+use Rattle.thy_images.proofs.JournalSlotLemmas.{slot_reads_back}
 use Rattle.thy_journal_parts.specs.declared.entry.Listed.{Listed}
 use Rattle.thy_journal_parts.specs.Holding.{works, homes}
 use Rattle.thy_journal_parts.specs.Items.{next_live, block_listed}
@@ -36,9 +36,9 @@ use Rattle.thy_journal_parts.proofs.TableLemmas.{IsTable-table_of, live_at, live
 use Rattle.thy_journal_parts.proofs.LawLemmas.{log_is_filled}
 use Rattle.thy_checkpoint.specs.Items.{AreItems, GoesTo, Phase, Resting, Making, Made, Applying}
 use Rattle.thy_checkpoint.specs.Progress.{Progress}
-use Rattle.thy_parts.specs.IsDesign.{IsDesign, CanRecord, IsSpared}
-use Rattle.thy_parts.specs.Moments.{IsMoment, Carries, Commits, SealsTo, ReadsSame, IsOwn, slot_list, parts_at}
-use Rattle.thy_parts.proofs.SameLemmas.{moment_of, carried, makes_alike}
+use Rattle.thy_scheme_parts.specs.IsDesign.{IsDesign, CanRecord, IsSpared}
+use Rattle.thy_scheme_parts.specs.Moments.{IsMoment, Carries, Commits, SealsTo, ReadsSame, IsOwn, slot_list, parts_at}
+use Rattle.thy_scheme_parts.proofs.SameLemmas.{moment_of, carried, makes_alike}
 use Rattle.thy_journal_parts.specs.Design.{items_journal, holds, IsKeptBy, committed_at, rests_at, journal_design}
 use Rattle.thy_journal_parts.proofs.PhaseLemmas.{aside_journal, IsAside, works_over, homes_over, journaled_over, journaled_on, journaled_past, journaled_all, journaled_reads, memory_is_work, works_home, home_on, home_past, home_reads, homes_are_works, works_reads, homes_reads}
 use Rattle.thy_journal_parts.proofs.WorkLemmas.{none_left, works-released}

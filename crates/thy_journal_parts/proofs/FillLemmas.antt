@@ -18,10 +18,10 @@ use Rattle.thy_layout.proofs.AskingLemmas.{half, map-alike}
 use Rattle.thy_layout.proofs.SlotLemmas.{length-entries_in}
 use Rattle.thy_layout.specs.Layout.{slot_in, memory_in}
 use Rattle.thy_table.proofs.FirstLemmas.{first_from-first, first_from-is, none-first_from}
-use Rattle.thy_journal_image.specs.Places.{image_blocks, home_place, journal_place, place_by, place_of}
-use Rattle.thy_journal_image.specs.Slots.{table_in}
-use Rattle.thy_journal_image.specs.Layout.{journal_layouts}
-use Rattle.thy_journal_image.proofs.PartsLemmas.{journal_behind}
+use Rattle.thy_images.specs.JournalPlaces.{image_blocks, home_place, journal_place, place_by, place_of}
+use Rattle.thy_images.specs.JournalSlots.{table_in}
+use Rattle.thy_images.specs.JournalLayout.{journal_layouts}
+use Rattle.thy_images.proofs.JournalPartsLemmas.{journal_behind}
 use Rattle.thy_journal_parts.specs.Holding.{works}
 use Rattle.thy_journal_parts.specs.State.{State, table_of, buffer_of, work_by, work_of}
 use Rattle.thy_journal_parts.specs.Stores.{put_into}

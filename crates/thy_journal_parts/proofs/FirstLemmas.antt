@@ -16,16 +16,16 @@ use Rattle.thy_layout.proofs.AskingLemmas.{map-alike}
 use Rattle.thy_layout.specs.TableSlots.{table_of}
 use Rattle.thy_layout.proofs.ReadBackLemmas.{epoch_of-commit_of}
 use Rattle.thy_layout.proofs.TableSlotLemmas.{table_back}
-use Rattle.thy_view.specs.Safe.{ceiling}
+use Rattle.thy_computer.specs.Safe.{ceiling}
 use Rattle.thy_table.specs.Listing.{lists}
 use Rattle.thy_table.proofs.ListingLaws.{index_of-none}
 use Rattle.thy_checkpoint.specs.Filling.{first_slot_of, first_by}
 use Rattle.thy_checkpoint.specs.Start.{CanStart}
-use Rattle.thy_journal_image.specs.Places.{home_place, place_by, place_of}
-use Rattle.thy_journal_image.specs.Slots.{IsTable, table_in, slot_fault}
-use Rattle.thy_journal_image.specs.Layout.{journal_layouts}
-use Rattle.thy_journal_image.specs.CheckpointParts.{ReadsBack}
-use Rattle.thy_journal_image.proofs.SlotLemmas.{HaveWords-table, slot_reads_back}
+use Rattle.thy_images.specs.JournalPlaces.{home_place, place_by, place_of}
+use Rattle.thy_images.specs.JournalSlots.{IsTable, table_in, slot_fault}
+use Rattle.thy_images.specs.JournalLayout.{journal_layouts}
+use Rattle.thy_images.specs.JournalCheckpointParts.{ReadsBack}
+use Rattle.thy_images.proofs.JournalSlotLemmas.{HaveWords-table, slot_reads_back}
 use Rattle.thy_journal_parts.specs.Holding.{works}
 use Rattle.thy_journal_parts.specs.Keys.{block_key}
 use Rattle.thy_journal_parts.specs.State.{State, entry_for, work_by, work_of}

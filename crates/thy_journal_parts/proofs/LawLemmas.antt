@@ -3,8 +3,8 @@ use Rattle.std.proofs.Common.{refl, inr, arith}
 use Rattle.thy_block.specs.Device.{newest}
 use Rattle.thy_checkpoint.specs.Filling.{IsFilling}
 use Rattle.thy_checkpoint.proofs.OlderLemmas.{never_older}
-use Rattle.thy_journal_image.specs.Places.{scheme_number, journal_place}
-use Rattle.thy_journal_image.proofs.LayoutLemmas.{journal_are_layouts}
+use Rattle.thy_images.specs.JournalPlaces.{scheme_number, journal_place}
+use Rattle.thy_images.proofs.JournalLayoutLemmas.{journal_are_layouts}
 use Rattle.thy_journal_parts.proofs.DrainLemmas.{works_drained, IsSoundState-drained}
 use Rattle.thy_journal_parts.specs.Filling.{filling_journal, slot_named}
 use Rattle.thy_journal_parts.proofs.FillLemmas.{next_above, next_found, filled_all, listed_put, filled_put, works_are_memory}

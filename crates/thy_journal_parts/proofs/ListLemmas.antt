@@ -10,7 +10,7 @@ use Rattle.thy_layout.specs.Entries.{entry_at as listed_at}
 use Rattle.thy_table.specs.Listing.{entry_at, lists, index_of}
 use Rattle.thy_table.proofs.ListingLaws.{index_of-none, entry_at-with_same, entry_at-with_other}
 use Rattle.thy_checkpoint.specs.Filling.{ListsOn}
-use Rattle.thy_journal_image.specs.Slots.{IsTable, table_in}
+use Rattle.thy_images.specs.JournalSlots.{IsTable, table_in}
 use Rattle.thy_journal_parts.specs.Keys.{block_key}
 use Rattle.thy_journal_parts.specs.State.{State, IsSoundState, table_of}
 use Rattle.thy_journal_parts.specs.Stores.{with_listing_at}

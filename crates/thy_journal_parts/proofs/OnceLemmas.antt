@@ -5,7 +5,7 @@ use Rattle.thy_block.specs.declared.parameters.Parameters.{Parameters}
 use Rattle.thy_block.specs.Geometry.{memory_blocks}
 use Rattle.thy_checkpoint.specs.Filling.{ListsOn}
 use Rattle.thy_dram.specs.Contents.{Contents}
-use Rattle.thy_journal_image.specs.Slots.{table_in}
+use Rattle.thy_images.specs.JournalSlots.{table_in}
 use Rattle.thy_journal_parts.specs.declared.entry.Listed.{Listed}
 use Rattle.thy_journal_parts.specs.Keys.{block_key, listing_of}
 use Rattle.thy_journal_parts.specs.State.{State, state_in, table_of}

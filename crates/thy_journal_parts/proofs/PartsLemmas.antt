@@ -14,15 +14,15 @@ use Rattle.thy_layout.specs.Layout.{slot_in}
 use Rattle.thy_layout.proofs.ReadBackLemmas.{epoch_of-commit_of}
 use Rattle.thy_table.specs.Listing.{empty_table}
 use Rattle.thy_table.proofs.ListingLaws.{entry_at-empty, free_count-all, IsListing-free}
-use Rattle.thy_view.specs.Kind.{IsDramOf}
+use Rattle.thy_computer.specs.Kind.{IsDramOf}
 use Rattle.thy_checkpoint.specs.Boot.{Booting}
 use Rattle.thy_checkpoint.specs.Filling.{first_slot_of}
 use Rattle.thy_checkpoint.specs.Recovers.{IsRestored}
 use Rattle.thy_checkpoint.specs.Start.{CanStart}
-use Rattle.thy_journal_image.specs.CheckpointParts.{HoldsCheckpoint}
-use Rattle.thy_journal_image.specs.Layout.{journal_layouts}
-use Rattle.thy_journal_image.specs.Places.{image_blocks}
-use Rattle.thy_journal_image.specs.Slots.{table_in}
+use Rattle.thy_images.specs.JournalCheckpointParts.{HoldsCheckpoint}
+use Rattle.thy_images.specs.JournalLayout.{journal_layouts}
+use Rattle.thy_images.specs.JournalPlaces.{image_blocks}
+use Rattle.thy_images.specs.JournalSlots.{table_in}
 use Rattle.thy_journal_parts.specs.declared.entry.Listed.{Listed}
 use Rattle.thy_journal_parts.specs.Keys.{block_key}
 use Rattle.thy_journal_parts.specs.State.{State, IsSoundState, table_of, home_of, work_of, work_by, new_state}
@@ -31,10 +31,10 @@ use Rattle.thy_journal_parts.proofs.TableLemmas.{IsTable-table_of, length-table_
 use Rattle.thy_journal_parts.specs.Filling.{filling_journal, IsFresh, no_table}
 use Rattle.thy_journal_parts.proofs.FirstLemmas.{IsTable-none, table_first, entry_for-fresh}
 use Rattle.thy_checkpoint.specs.Items.{Resting, Applying}
-use Rattle.thy_parts.specs.AreParts.{AreParts}
-use Rattle.thy_parts.specs.Paging.{IsPaging}
-use Rattle.thy_parts.specs.Powering.{EndsBoot, IsPowering}
-use Rattle.thy_parts.proofs.MemoryLemmas.{map_below}
+use Rattle.thy_scheme_parts.specs.AreParts.{AreParts}
+use Rattle.thy_scheme_parts.specs.Paging.{IsPaging}
+use Rattle.thy_scheme_parts.specs.Powering.{EndsBoot, IsPowering}
+use Rattle.thy_scheme_parts.proofs.MemoryLemmas.{map_below}
 use Rattle.thy_journal_parts.specs.Design.{journal_design}
 use Rattle.thy_journal_parts.proofs.DesignLemmas.{is_design}
 use Rattle.thy_journal_parts.proofs.StoreLemmas.{is_storing}

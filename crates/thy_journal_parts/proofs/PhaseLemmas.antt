@@ -9,14 +9,14 @@ use Rattle.thy_block.proofs.DeviceLemmas.{newest-written_to, newest-written_to_o
 use Rattle.thy_layout.specs.Entries.{Lists, entry_at, entry_of}
 use Rattle.thy_layout.proofs.AskingLemmas.{half}
 use Rattle.thy_layout.proofs.EntryLemmas.{entry_of-Some, entry_of-None, Lists-inside}
-use Rattle.thy_journal_image.specs.Places.{image_blocks, home_place, journal_place, place_by, place_of}
-use Rattle.thy_journal_image.specs.CheckpointParts.{memory_places}
-use Rattle.thy_journal_image.proofs.PartsLemmas.{journal_behind}
+use Rattle.thy_images.specs.JournalPlaces.{image_blocks, home_place, journal_place, place_by, place_of}
+use Rattle.thy_images.specs.JournalCheckpointParts.{memory_places}
+use Rattle.thy_images.proofs.JournalPartsLemmas.{journal_behind}
 use Rattle.thy_journal_parts.specs.Holding.{works, homes}
 use Rattle.thy_journal_parts.specs.Items.{next_live, block_listed}
 use Rattle.thy_journal_parts.specs.State.{State, IsSoundState, table_of, entry_for, buffer_of, home_of, work_by, work_of}
 use Rattle.thy_journal_parts.proofs.TableLemmas.{IsTable-table_of, live_lists, listed_below, listed_before, length-table_of, entry_for-is}
-use Rattle.thy_parts.proofs.MemoryLemmas.{map_below, map_places}
+use Rattle.thy_scheme_parts.proofs.MemoryLemmas.{map_below, map_places}
 use Rattle.thy_journal_parts.specs.Design.{AreJournaled, AreHome}
 use Rattle.thy_journal_parts.proofs.WorkLemmas.{works_same, home_over}
 

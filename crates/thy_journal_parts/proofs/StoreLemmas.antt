@@ -17,9 +17,9 @@ use Rattle.thy_layout.specs.Layout.{looked_by}
 use Rattle.thy_table.specs.Listing.{Listing, IsListing, entry_at, index_of, free_index, free_count, with_entry, added_at}
 use Rattle.thy_table.proofs.IndexLemmas.{free_one, lists-some, lists-inside}
 use Rattle.thy_table.proofs.ListingLaws.{free_first, free_found, index_of-lists, IsListing-put, index_of-put, index_of-put_other}
-use Rattle.thy_journal_image.specs.Layout.{journal_layouts}
-use Rattle.thy_journal_image.specs.Places.{image_blocks, home_place}
-use Rattle.thy_journal_image.specs.CheckpointParts.{HoldsCheckpoint}
+use Rattle.thy_images.specs.JournalLayout.{journal_layouts}
+use Rattle.thy_images.specs.JournalPlaces.{image_blocks, home_place}
+use Rattle.thy_images.specs.JournalCheckpointParts.{HoldsCheckpoint}
 use Rattle.thy_journal_parts.specs.declared.entry.Listed.{Listed}
 use Rattle.thy_journal_parts.specs.Holding.{works}
 use Rattle.thy_journal_parts.specs.Keys.{block_key, listing_of}
@@ -27,13 +27,13 @@ use Rattle.thy_journal_parts.specs.State.{State, IsSoundState, entry_for, work_b
 use Rattle.thy_journal_parts.specs.Stores.{after_store, put_into, store_entry, listing_for, with_listing}
 use Rattle.thy_journal_parts.proofs.StateLemmas.{IsSoundState-table, IsSoundState-dram}
 use Rattle.thy_checkpoint.specs.Items.{Phase, Resting}
-use Rattle.thy_parts.specs.Holding.{holding_of}
-use Rattle.thy_parts.specs.Moments.{IsMoment}
-use Rattle.thy_parts.specs.Storing.{CanStore, MakesStore, StaysAt, StaysOver, IsStoring}
-use Rattle.thy_parts.proofs.HeldLemmas.{IsHeldBlock, blocks_held, held_block}
-use Rattle.thy_parts.proofs.LeavesLemmas.{leaves-same, leaves-failed, leaves-both}
-use Rattle.thy_parts.proofs.MemoryLemmas.{map_set}
-use Rattle.thy_parts.proofs.WaitLemmas.{stays_waiting}
+use Rattle.thy_scheme_parts.specs.Holding.{holding_of}
+use Rattle.thy_scheme_parts.specs.Moments.{IsMoment}
+use Rattle.thy_scheme_parts.specs.Storing.{CanStore, MakesStore, StaysAt, StaysOver, IsStoring}
+use Rattle.thy_scheme_parts.proofs.HeldLemmas.{IsHeldBlock, blocks_held, held_block}
+use Rattle.thy_scheme_parts.proofs.LeavesLemmas.{leaves-same, leaves-failed, leaves-both}
+use Rattle.thy_scheme_parts.proofs.MemoryLemmas.{map_set}
+use Rattle.thy_scheme_parts.proofs.WaitLemmas.{stays_waiting}
 use Rattle.thy_journal_parts.specs.Design.{rests_at, StaysLog, journal_design}
 
 -- ---- the table in which a block is listed

@@ -8,7 +8,7 @@ use Rattle.thy_layout.proofs.EntryLemmas.{Lists-inside, entry_of-absent, entry_o
 use Rattle.thy_table.specs.Listing.{entry_at, lists, passes}
 use Rattle.thy_table.proofs.FirstLemmas.{first_from-first, first_from-is, none-first_from}
 use Rattle.thy_table.proofs.ListingLaws.{found-once, index_of-lists, none-lists}
-use Rattle.thy_journal_image.specs.Slots.{IsTable}
+use Rattle.thy_images.specs.JournalSlots.{IsTable}
 use Rattle.thy_journal_parts.specs.declared.entry.Listed.{Listed}
 use Rattle.thy_journal_parts.specs.Keys.{block_key}
 use Rattle.thy_journal_parts.specs.Items.{is_live, next_live, listed_by, block_listed}

@@ -6,12 +6,12 @@ use Rattle.thy_block.specs.Geometry.{memory_blocks}
 use Rattle.thy_block.proofs.DeviceLemmas.{newest-written_to_other}
 use Rattle.thy_table.specs.Listing.{entry_at, lists}
 use Rattle.thy_table.proofs.ListingLaws.{entry_at-cleared, index_of-none}
-use Rattle.thy_journal_image.specs.Places.{image_blocks, home_place}
+use Rattle.thy_images.specs.JournalPlaces.{image_blocks, home_place}
 use Rattle.thy_journal_parts.specs.Holding.{works, homes}
 use Rattle.thy_journal_parts.specs.Keys.{block_key, freed}
 use Rattle.thy_journal_parts.specs.State.{State, entry_for, home_of, work_by, work_of}
 use Rattle.thy_journal_parts.specs.Stores.{released}
-use Rattle.thy_parts.proofs.MemoryLemmas.{map_below}
+use Rattle.thy_scheme_parts.proofs.MemoryLemmas.{map_below}
 
 -- ---- over another NVM
 

@@ -9,9 +9,9 @@ use Rattle.thy_layout.specs.Commit.{slot_of_epoch}
 use Rattle.thy_layout.specs.Entries.{Lists}
 use Rattle.thy_layout.specs.TableSlots.{table_block_of}
 use Rattle.thy_table.specs.Listing.{Listing, free_count}
-use Rattle.thy_view.specs.Action.{Rest}
-use Rattle.thy_journal_image.specs.CheckpointParts.{HoldsCheckpoint}
-use Rattle.thy_journal_image.specs.Places.{home_place, journal_place}
+use Rattle.thy_computer.specs.Action.{Rest}
+use Rattle.thy_images.specs.JournalCheckpointParts.{HoldsCheckpoint}
+use Rattle.thy_images.specs.JournalPlaces.{home_place, journal_place}
 use Rattle.thy_checkpoint.specs.Items.{ItemsOf, Phase, Resting, Making, Made, Applying}
 use Rattle.thy_journal_parts.specs.declared.entry.Listed.{Listed}
 use Rattle.thy_journal_parts.specs.Holding.{works, homes}
@@ -19,7 +19,7 @@ use Rattle.thy_journal_parts.specs.Items.{next_live, block_listed}
 use Rattle.thy_journal_parts.specs.State.{State, IsSoundState, table_of, entry_for, buffer_of, new_state}
 use Rattle.thy_journal_parts.specs.Stores.{after_store, released}
 use Rattle.thy_journal_parts.specs.Filling.{filling_journal}
-use Rattle.thy_parts.specs.Design.{LeavesNvm, PartsOf, DesignOf, design_of, no_pages}
+use Rattle.thy_scheme_parts.specs.Design.{LeavesNvm, PartsOf, DesignOf, design_of, no_pages}
 
 -- the body writes each live entry's buffer into the journal of the epoch, the tail to the home of its block; after that all
 -- entries are free

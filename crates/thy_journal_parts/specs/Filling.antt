@@ -10,10 +10,10 @@ use Rattle.thy_layout.specs.Commit.{epoch_of, slot_of_epoch}
 use Rattle.thy_layout.specs.Entries.{Lists}
 use Rattle.thy_table.specs.Listing.{entry_at, first_from}
 use Rattle.thy_checkpoint.specs.Filling.{FillingOf}
-use Rattle.thy_journal_image.specs.Places.{journal_place}
+use Rattle.thy_images.specs.JournalPlaces.{journal_place}
 use Rattle.thy_layout.specs.TableSlots.{slot_block_of}
-use Rattle.thy_journal_image.specs.Slots.{table_in}
-use Rattle.thy_journal_image.specs.Layout.{journal_layouts}
+use Rattle.thy_images.specs.JournalSlots.{table_in}
+use Rattle.thy_images.specs.JournalLayout.{journal_layouts}
 use Rattle.thy_journal_parts.specs.Holding.{works}
 use Rattle.thy_journal_parts.specs.State.{State, IsSoundState, table_of, buffer_of}
 use Rattle.thy_journal_parts.specs.Stores.{after_drain, put_into}

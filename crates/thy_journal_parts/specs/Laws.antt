@@ -3,13 +3,13 @@ use Rattle.std.specs.Prelude.{◌≡◌, ◌+◌, ◌*◌, ◌≤◌, max, true,
 use Rattle.thy_block.specs.declared.parameters.Parameters.{Parameters}
 use Rattle.thy_block.specs.Device.{Device}
 use Rattle.thy_block.specs.Geometry.{memory_blocks}
-use Rattle.thy_view.specs.Origin.{Origin}
+use Rattle.thy_computer.specs.Origin.{Origin}
 use Rattle.thy_scheme.specs.CheckpointMarks.{CheckpointMarks}
 use Rattle.thy_scheme.specs.Scheme.{Stands}
 use Rattle.thy_scheme.specs.Pace.{most_spent}
-use Rattle.thy_journal_image.specs.Places.{slot_blocks}
+use Rattle.thy_images.specs.JournalPlaces.{slot_blocks}
 use Rattle.thy_journal_parts.specs.State.{State}
-use Rattle.thy_parts.specs.Design.{Composed}
+use Rattle.thy_scheme_parts.specs.Design.{Composed}
 use Rattle.thy_journal_parts.specs.Scheme.{journal_scheme}
 
 -- A boot reads the commit block. Then it writes memory's blocks, the slot's and four more, or it reads the header, the

@@ -5,7 +5,7 @@ use Rattle.thy_block.specs.declared.block.Block.{Block}
 use Rattle.thy_block.specs.declared.parameters.Parameters.{Parameters}
 use Rattle.thy_layout.specs.Entries.{entry_at as listed_at}
 use Rattle.thy_table.specs.Listing.{entry_at}
-use Rattle.thy_journal_image.specs.Slots.{table_in}
+use Rattle.thy_images.specs.JournalSlots.{table_in}
 use Rattle.thy_journal_parts.specs.Keys.{block_key}
 use Rattle.thy_journal_parts.specs.State.{State, IsSoundState}
 

@@ -10,7 +10,7 @@ use Rattle.thy_block.specs.Geometry.{IsInRange, memory_blocks}
 use Rattle.thy_block.specs.Places.{dram_blocks}
 use Rattle.thy_dram.specs.Contents.{Contents}
 use Rattle.thy_table.specs.Listing.{Listing, IsListing, index_of, empty_table}
-use Rattle.thy_journal_image.specs.Places.{image_blocks, home_place}
+use Rattle.thy_images.specs.JournalPlaces.{image_blocks, home_place}
 use Rattle.thy_journal_parts.specs.declared.entry.Listed.{Listed}
 use Rattle.thy_journal_parts.specs.Keys.{block_key}
 

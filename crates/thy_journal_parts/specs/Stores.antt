@@ -6,7 +6,7 @@ use Rattle.thy_block.specs.declared.block.Block.{Block}
 use Rattle.thy_dram.specs.Contents.{written, drained}
 use Rattle.thy_block.specs.Device.{Device, newest}
 use Rattle.thy_table.specs.Listing.{Listing, free_index, with_entry, added, mapped}
-use Rattle.thy_journal_image.specs.Places.{journal_place}
+use Rattle.thy_images.specs.JournalPlaces.{journal_place}
 use Rattle.thy_journal_parts.specs.declared.entry.Listed.{Listed}
 use Rattle.thy_journal_parts.specs.Keys.{listing_of, freed}
 use Rattle.thy_journal_parts.specs.State.{State, entry_for}

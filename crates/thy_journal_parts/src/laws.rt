@@ -1,9 +1,9 @@
 //! Laws of the journal, each the contract of a function that does nothing.
-ghost use Rattle.thy_parts.specs.Schemes.{FirstHasRoom, HartIsBarred, NeverMigrates};
+ghost use Rattle.thy_scheme_parts.specs.Schemes.{FirstHasRoom, HartIsBarred, NeverMigrates};
 ghost use Rattle.thy_journal_parts.specs.Design.{journal_design};
 ghost use Rattle.thy_journal_parts.specs.Laws.{BootsAreShort, EntriesAreFree, EpochsAreShort};
 ghost use Rattle.thy_journal_parts.specs.Scheme.{journal_scheme};
-ghost use Rattle.thy_parts.specs.AreParts.{AreParts};
+ghost use Rattle.thy_scheme_parts.specs.AreParts.{AreParts};
 ghost use Rattle.thy_scheme.specs.Laws.{IsLawful};
 
 /// The journal is a scheme of lawful parts. The body of a checkpoint is the buffer of each live entry, written to its

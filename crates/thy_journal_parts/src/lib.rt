@@ -2,11 +2,11 @@
 //! goes into the buffer of its block's entry; a checkpoint writes the buffers into the journal of its epoch, and after
 //! the commit to the homes of their blocks. `Log` equals its specification in table and devices, which speaks of no
 //! run. After a restart, the buffers have what the journal of the checkpoint has (`the_log_is_filled`, `next_listed`).
-//! That these parts are lawful is a law below thy_journal, because an `impl` can cite proofs of lower crates only.
+//! That these parts are lawful is a law below thy_schemes, because an `impl` can cite proofs of lower crates only.
 //!
 //! Open specs/State.antt first, then specs/Stores.antt and src/log.rt; of the boot specs/Filling.antt; of the laws
-//! specs/Design.antt and src/laws.rt. It depends on thy_dram, thy_table, thy_journal_image, thy_parts and their
-//! dependencies; thy_journal depends on it.
+//! specs/Design.antt and src/laws.rt. It depends on thy_dram, thy_table, thy_images, thy_scheme_parts and their
+//! dependencies; thy_schemes depends on it.
 #![tactic(auto)]
 
 mod entry;

@@ -3,14 +3,14 @@ ghost use Rattle.std.specs.Prelude.{◌≡◌, ◌+◌, ◌*◌, ◌<◌, length
 ghost use Rattle.thy_block.specs.declared.block.Block.{Block};
 ghost use Rattle.thy_layout.specs.Files.{blocks_of};
 ghost use Rattle.thy_checkpoint.specs.Filling.{ListsOn};
-ghost use Rattle.thy_journal_image.specs.Places.{slot_blocks};
-ghost use Rattle.thy_journal_image.specs.Slots.{IsTable, table_in};
+ghost use Rattle.thy_images.specs.JournalPlaces.{slot_blocks};
+ghost use Rattle.thy_images.specs.JournalSlots.{IsTable, table_in};
 ghost use Rattle.thy_journal_parts.specs.Filling.{IsFresh, filling_journal};
 ghost use Rattle.thy_journal_parts.specs.Listed.{ListsUpTo};
 
 use crate::Log;
 use thy_block::Geometry;
-use thy_journal_image::listed_block;
+use thy_images::journal::listed_block;
 
 /// Lists in a log that lists nothing what the table of a slot does, each block at the slot's entry. So it lists the
 /// slot's checkpoint, whatever the commit block.

@@ -14,7 +14,7 @@ use std::alloc::{AllocError, Global};
 use std::marker::Model;
 use thy_block::{Block, Geometry, Nvm, NvmError};
 use thy_dram::Dram;
-use thy_journal_image::{home as home_number, journal as journal_number};
+use thy_images::journal::{home as home_number, journal as journal_number};
 use thy_layout::table_block;
 use thy_table::Table;
 
@@ -60,7 +60,7 @@ fn block_or_zero(entry: Option<Listed>) -> u64
 impl Log {
     ghost use Rattle.std.specs.Prelude.{Some};
     ghost use Rattle.thy_dram.specs.Contents.{lost};
-    ghost use Rattle.thy_journal_image.specs.Places.{home_place, journal_place};
+    ghost use Rattle.thy_images.specs.JournalPlaces.{home_place, journal_place};
     ghost use Rattle.thy_layout.specs.TableSlots.{table_block_of};
     ghost use Rattle.thy_journal_parts.specs.Items.{next_live, block_listed};
     ghost use Rattle.thy_journal_parts.specs.State.{IsSoundState, IsSized, table_of, entry_for, home_of, buffer_of, work_of, new_state};

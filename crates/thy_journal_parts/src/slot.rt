@@ -1,11 +1,11 @@
 //! The table in the bytes of a slot, after the processor's record.
 ghost use Rattle.std.specs.Prelude.{◌≡◌, ◌*◌, length};
 ghost use Rattle.thy_layout.specs.Files.{blocks_of};
-ghost use Rattle.thy_journal_image.specs.Places.{slot_blocks};
+ghost use Rattle.thy_images.specs.JournalPlaces.{slot_blocks};
 ghost use Rattle.thy_journal_parts.specs.Filling.{next_entry};
 
 use thy_block::Geometry;
-use thy_journal_image::listed_block;
+use thy_images::journal::listed_block;
 
 /// The first entry from one on that lists a block.
 pub fn next_listed(slot: &[u8], from: u64, geometry: &Geometry) -> Option<u64>

@@ -2,7 +2,7 @@
 ghost use Rattle.std.specs.Prelude.{◌≡◌, ◌<◌};
 ghost use Rattle.thy_isa.specs.Step.{state_of, cpu_of};
 ghost use Rattle.thy_checkpoint.specs.Start.{CanStart};
-ghost use Rattle.thy_journal_image.specs.Places.{slot_blocks};
+ghost use Rattle.thy_images.specs.JournalPlaces.{slot_blocks};
 ghost use Rattle.thy_layout.specs.TableSlots.{slot_block_of};
 ghost use Rattle.thy_journal_parts.specs.Filling.{no_table};
 

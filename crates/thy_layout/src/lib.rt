@@ -8,7 +8,7 @@
 //! one word. `a_cut_leaves_a_copy` is the first law.
 //!
 //! Open specs/Layout.antt first, then specs/Commit.antt, specs/Cpu.antt and specs/Saved.antt, and src/slot.rt. It
-//! depends on thy_block and thy_isa; thy_text, thy_view and what is above them depend on it.
+//! depends on thy_block and thy_isa; thy_text, thy_computer and what is above them depend on it.
 #![tactic(auto)]
 
 mod bad_image;

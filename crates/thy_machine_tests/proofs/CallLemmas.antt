@@ -13,20 +13,20 @@ use Rattle.thy_isa.specs.declared.state.CpuState.{CpuState}
 use Rattle.thy_layout.specs.declared.engine_step.EngineStep.{EngineStep}
 use Rattle.thy_layout.specs.declared.engine_step.EngineStep.TheVariants.{Barrier}
 use Rattle.thy_layout.specs.declared.start.Start.{Start}
-use Rattle.thy_view.specs.declared.boot_step.BootStep.{BootStep}
-use Rattle.thy_view.specs.Action.{Action, after}
-use Rattle.thy_view.specs.Kind.{IsDramOf}
-use Rattle.thy_view.specs.Origin.{Origin, Begins}
-use Rattle.thy_view.proofs.ActionLemmas.{access-is, down-after}
+use Rattle.thy_computer.specs.declared.boot_step.BootStep.{BootStep}
+use Rattle.thy_computer.specs.Action.{Action, after}
+use Rattle.thy_computer.specs.Kind.{IsDramOf}
+use Rattle.thy_computer.specs.Origin.{Origin, Begins}
+use Rattle.thy_computer.proofs.ActionLemmas.{access-is, down-after}
 use Rattle.thy_checkpoint.specs.Progress.{Acts, is_under_way as is_engine_under_way}
 use Rattle.thy_isa.specs.Step.{state_of}
-use Rattle.thy_parts.specs.Calls.{IsReading, Promotes as MakesPromotion, drained, merged, promoted, sealed, stored}
-use Rattle.thy_parts.specs.Holding.{holding_of}
-use Rattle.thy_parts.specs.Stays.{Stays as StaysBelow}
-use Rattle.thy_parts.specs.Storing.{CanStore, MakesStore}
-use Rattle.thy_parts.proofs.BootLemmas.{boot-drains}
-use Rattle.thy_parts.proofs.HeldLemmas.{IsHeldBlock, held_block, blocks_held}
-use Rattle.thy_compose.proofs.CallLemmas.{booted_then, boots_then, boot_fails_then, drains_then, engines_then, engine_fails_then, fails-down, merges_then, promotes_then, seals_then, store_once}
+use Rattle.thy_scheme_parts.specs.Calls.{IsReading, Promotes as MakesPromotion, drained, merged, promoted, sealed, stored}
+use Rattle.thy_scheme_parts.specs.Holding.{holding_of}
+use Rattle.thy_scheme_parts.specs.Stays.{Stays as StaysBelow}
+use Rattle.thy_scheme_parts.specs.Storing.{CanStore, MakesStore}
+use Rattle.thy_scheme_parts.proofs.BootLemmas.{boot-drains}
+use Rattle.thy_scheme_parts.proofs.HeldLemmas.{IsHeldBlock, held_block, blocks_held}
+use Rattle.thy_composed_scheme.proofs.CallLemmas.{booted_then, boots_then, boot_fails_then, drains_then, engines_then, engine_fails_then, fails-down, merges_then, promotes_then, seals_then, store_once}
 use Rattle.thy_thynvm_parts.specs.Filling.{loads}
 use Rattle.thy_scheme.specs.Boots.{BootDrains, BootFails, BootsOn}
 use Rattle.thy_scheme.specs.Calls.{Drains, EngineFails, Engines, IsOneAccess, Merges, PromotionFails, Promotes, Seals, Stores, TakesNoAction}
@@ -37,11 +37,11 @@ use Rattle.thy_thynvm_parts.specs.Design.{thynvm_design, thynvm_parts, is_overla
 use Rattle.thy_thynvm_parts.specs.Scheme.{thynvm_scheme}
 use Rattle.thy_thynvm_parts.proofs.LawLemmas.{applies_nothing, lawful}
 use Rattle.thy_thynvm_parts.proofs.PartsLemmas.{are_parts}
-use Rattle.thy_waiting_laws.specs.Waiting.{Waiting, is_waiting, left_after, left_booted}
-use Rattle.thy_waiting_laws.specs.Scheme.{IsPowered, Stays, is_under_way, item_below, barrier_made}
-use Rattle.thy_waiting_laws.proofs.BootLemmas.{below-boots, boots-over, boot-fails-over}
-use Rattle.thy_waiting_laws.proofs.CallLemmas.{merges-over, promotes-over, drains-over, seals-over, engines-over, engine-fails-over, waits-on, waiting-fails}
-use Rattle.thy_waiting_laws.proofs.RunLemmas.{below-stands, neither}
+use Rattle.thy_test_support.specs.Waiting.{Waiting, is_waiting, left_after, left_booted}
+use Rattle.thy_test_support.specs.WaitingScheme.{IsPowered, Stays, is_under_way, item_below, barrier_made}
+use Rattle.thy_test_support.proofs.BootLemmas.{below-boots, boots-over, boot-fails-over}
+use Rattle.thy_test_support.proofs.CallLemmas.{merges-over, promotes-over, drains-over, seals-over, engines-over, engine-fails-over, waits-on, waiting-fails}
+use Rattle.thy_test_support.proofs.RunLemmas.{below-stands, neither}
 use Rattle.thy_machine_tests.specs.Calls.{Below, waiting_scheme, new_waiting, with_below, MakesBarrier, TakesItemBelow, TakesTurn, TakesBoot}
 
 pub stands-below : (o : Origin) (k : CheckpointMarks) (w : Waiting Below) (n : Device) → Stands waiting_scheme o k w n → Stands thynvm_scheme o k w.below n

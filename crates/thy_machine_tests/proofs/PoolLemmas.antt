@@ -11,20 +11,20 @@ use Rattle.thy_dram.specs.Contents.{Contents, lost}
 use Rattle.thy_dram.proofs.DrawLemmas.{length-over}
 use Rattle.thy_isa.specs.declared.state.CpuState.{CpuState}
 use Rattle.thy_isa.specs.Step.{State as Plain}
-use Rattle.thy_view.specs.Action.{IsAfter}
-use Rattle.thy_view.proofs.ActionLemmas.{down-after}
+use Rattle.thy_computer.specs.Action.{IsAfter}
+use Rattle.thy_computer.proofs.ActionLemmas.{down-after}
 use Rattle.thy_checkpoint.specs.declared.boot_stage.Stage.{Stage}
 use Rattle.thy_checkpoint.specs.declared.boot_stage.Stage.TheVariants.{Reads, Loads, Migrates, Over}
 use Rattle.thy_checkpoint.specs.Boot.{Booting, new_boot}
 use Rattle.thy_checkpoint.specs.Filling.{first_by}
 use Rattle.thy_checkpoint.specs.Loads.{first_writes}
 use Rattle.thy_checkpoint.specs.Migrating.{renewing}
-use Rattle.thy_view.specs.declared.round.Round.TheVariants.{Write, Settle, Commit, Confirm}
-use Rattle.thy_view.specs.Round.{round_action}
+use Rattle.thy_computer.specs.declared.round.Round.TheVariants.{Write, Settle, Commit, Confirm}
+use Rattle.thy_computer.specs.Round.{round_action}
 use Rattle.thy_checkpoint.specs.Start.{CanStart}
 use Rattle.thy_checkpoint.specs.Steps.{Steps, StepsAt}
 use Rattle.thy_checkpoint.proofs.ReadLemmas.{HasRead-new}
-use Rattle.thy_shadow_image.specs.Places.{slot_blocks, image_blocks}
+use Rattle.thy_images.specs.ShadowPlaces.{slot_blocks, image_blocks}
 use Rattle.thy_checkpoint.specs.declared.engine_stage.EngineStage.{EngineStage}
 use Rattle.thy_checkpoint.specs.declared.engine_stage.EngineStage.TheVariants.{Idle, Body, InRound, Tail}
 use Rattle.thy_checkpoint.specs.Progress.{Progress, Fits, Item, NoItem, BodyItem, RoundItem, TailItem, ReleaseItem, new_engine, begun, is_under_way, phase_of, control_after, control_next, action_next, item_of}

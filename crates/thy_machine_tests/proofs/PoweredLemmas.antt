@@ -16,13 +16,13 @@ use Rattle.thy_plain.specs.Start.{start_state}
 use Rattle.thy_plain.proofs.StartLaws.{start_other-alone}
 use Rattle.thy_layout.specs.Cpu.{is_status, status_tag, status_value, IsOtherRecordable}
 use Rattle.thy_layout.specs.declared.start.Start.{Start}
-use Rattle.thy_view.specs.Booting.{found_first}
-use Rattle.thy_view.specs.Kind.{KindOf, IsLawful, IsFittedFor, IsStep}
-use Rattle.thy_view.specs.Origin.{Origin, IsOrigin, StartsFrom, setting_of}
-use Rattle.thy_view.specs.WithTurns.{HasTurn, IsThere}
-use Rattle.thy_view.specs.declared.did.Stepped.{Stepped}
-use Rattle.thy_view.proofs.AgainLaws.{goes_on_after_cut}
-use Rattle.thy_view.proofs.OneHartLaws.{has-turn}
+use Rattle.thy_computer.specs.Booting.{found_first}
+use Rattle.thy_computer.specs.Kind.{KindOf, IsLawful, IsFittedFor, IsStep}
+use Rattle.thy_computer.specs.Origin.{Origin, IsOrigin, StartsFrom, setting_of}
+use Rattle.thy_computer.specs.WithTurns.{HasTurn, IsThere}
+use Rattle.thy_computer.specs.declared.did.Stepped.{Stepped}
+use Rattle.thy_computer.proofs.AgainLaws.{goes_on_after_cut}
+use Rattle.thy_computer.proofs.OneHartLaws.{has-turn}
 use Rattle.thy_machine_tests.specs.Powered.{origin_from, powered, IsPowered}
 use Rattle.thy_machine_tests.proofs.LeastLemmas.{HasRoom-framed}
 

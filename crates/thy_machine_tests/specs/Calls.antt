@@ -10,15 +10,15 @@ use Rattle.thy_checkpoint.specs.Progress.{Acts, action_next}
 use Rattle.thy_layout.specs.declared.engine_step.EngineStep.{EngineStep}
 use Rattle.thy_layout.specs.declared.engine_step.EngineStep.TheVariants.{Barrier}
 use Rattle.thy_layout.specs.declared.start.Start.{Start}
-use Rattle.thy_view.specs.declared.boot_step.BootStep.{BootStep}
-use Rattle.thy_parts.specs.Calls.{TakesBootStep, powered_on, step_of, taken}
-use Rattle.thy_parts.specs.Design.{Composed}
+use Rattle.thy_computer.specs.declared.boot_step.BootStep.{BootStep}
+use Rattle.thy_scheme_parts.specs.Calls.{TakesBootStep, powered_on, step_of, taken}
+use Rattle.thy_scheme_parts.specs.Design.{Composed}
 use Rattle.thy_thynvm_parts.specs.Filling.{filling_thynvm}
 use Rattle.thy_scheme.specs.Scheme.{SchemeOf}
 use Rattle.thy_thynvm_parts.specs.Design.{items_thynvm, thynvm_design}
 use Rattle.thy_thynvm_parts.specs.Scheme.{thynvm_scheme}
-use Rattle.thy_waiting_laws.specs.Waiting.{Waiting, left_after, left_booted}
-use Rattle.thy_waiting_laws.specs.Scheme.{waits_over}
+use Rattle.thy_test_support.specs.Waiting.{Waiting, left_after, left_booted}
+use Rattle.thy_test_support.specs.WaitingScheme.{waits_over}
 
 -- the scheme below
 abbrev pub Below : Type 0

@@ -3,8 +3,8 @@ use Rattle.std.specs.Prelude.{◌≡◌, ℕ, ◌+◌, ◌≤◌, Bool, true, fa
 use Rattle.thy_block.specs.declared.parameters.Parameters.{Parameters}
 use Rattle.thy_block.specs.Device.{Device}
 use Rattle.thy_dram.specs.Contents.{Contents}
-use Rattle.thy_view.specs.declared.boot_step.BootStep.{BootStep}
-use Rattle.thy_view.specs.declared.boot_step.BootStep.TheVariants.{GoesOn}
+use Rattle.thy_computer.specs.declared.boot_step.BootStep.{BootStep}
+use Rattle.thy_computer.specs.declared.boot_step.BootStep.TheVariants.{GoesOn}
 
 -- how many blocks the least memory has
 abbrev pub all : ℕ

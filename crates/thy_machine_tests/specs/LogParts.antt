@@ -8,8 +8,8 @@ use Rattle.thy_isa.specs.Step.{State as Plain}
 use Rattle.thy_checkpoint.specs.Boot.{Booting, IsBoot}
 use Rattle.thy_checkpoint.specs.Start.{CanStart}
 use Rattle.thy_checkpoint.specs.Steps.{CanStep}
-use Rattle.thy_journal_image.specs.Places.{image_blocks}
-use Rattle.thy_view.specs.declared.round.Round.{Round}
+use Rattle.thy_images.specs.JournalPlaces.{image_blocks}
+use Rattle.thy_computer.specs.declared.round.Round.{Round}
 use Rattle.thy_checkpoint.specs.declared.engine_stage.EngineStage.TheVariants.{InRound}
 use Rattle.thy_checkpoint.specs.Progress.{Progress, Fits}
 use Rattle.thy_journal_parts.specs.Design.{items_journal}

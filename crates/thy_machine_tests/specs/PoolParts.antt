@@ -8,7 +8,7 @@ use Rattle.thy_isa.specs.Step.{State as Plain}
 use Rattle.thy_checkpoint.specs.Boot.{Booting, IsBoot}
 use Rattle.thy_checkpoint.specs.Start.{CanStart}
 use Rattle.thy_checkpoint.specs.Steps.{CanStep}
-use Rattle.thy_shadow_image.specs.Places.{image_blocks}
+use Rattle.thy_images.specs.ShadowPlaces.{image_blocks}
 use Rattle.thy_checkpoint.specs.Progress.{Progress, Fits}
 use Rattle.thy_shadow_parts.specs.State.{State}
 use Rattle.thy_shadow_parts.specs.Filling.{filling_shadow}

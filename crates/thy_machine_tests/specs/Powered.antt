@@ -5,8 +5,8 @@ use Rattle.thy_block.specs.Bytes.{bytes_of}
 use Rattle.thy_block.specs.Device.{Device}
 use Rattle.thy_isa.specs.Step.{state_of}
 use Rattle.thy_layout.specs.declared.start.Start.{Start}
-use Rattle.thy_view.specs.Kind.{KindOf}
-use Rattle.thy_view.specs.Origin.{Origin}
+use Rattle.thy_computer.specs.Kind.{KindOf}
+use Rattle.thy_computer.specs.Origin.{Origin}
 
 -- what a run from a start is about
 abbrev pub origin_from : Parameters → Start → Origin

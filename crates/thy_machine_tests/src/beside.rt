@@ -9,10 +9,10 @@ use crate::support::expect::{expect, expect_at};
 use std::alloc::Global;
 use std::process::Abort;
 use thy_base::{Block, Geometry, Lcg, Parameters, SchemeName};
+use thy_computer::BootStep;
 use thy_isa::{CpuState, Regs, Status};
 use thy_layout::{EngineStep, Start};
 use thy_test_support::{LEAST, cpu_at, start_over};
-use thy_view::BootStep;
 
 /// The least memory, of 512 blocks in eight pages, with the least table and the least frames of a scheme.
 pub(crate) fn least(scheme: SchemeName) -> Parameters {

@@ -6,10 +6,9 @@
 //! each commit and each restart the engine makes three barriers before the hart runs: an example of a scheme of another
 //! kind. No program runs on it, only tests.
 //!
-//! Open src/machine.rt first, then src/log/random.rt and src/log/parts.rt; src/pool is as src/log; of the scheme that
-//! waits src/waiting.rt, specs/Calls.antt and src/scheme.rt. specs/ has what is asked of the values that tests pass on.
-//! It depends on thy_core, thy_thynvm, thy_waiting_laws, thy_journal, thy_shadow and thy_plain, with their dependencies;
-//! nothing depends on it.
+//! Open src/machine.rt first, then src/log/random.rt and src/log/parts.rt; src/pool is as src/log; of the scheme that waits
+//! src/waiting.rt, specs/Calls.antt and src/scheme.rt. specs/ has what is asked of the values that tests pass on. It depends
+//! on thy_core, thy_schemes, thy_test_support and thy_plain, with their dependencies; nothing depends on it.
 #![tactic(auto)]
 
 #[cfg(test)]

@@ -3,8 +3,8 @@
 //! committed, and the state there and at the end with that of the plain machine.
 ghost use Rattle.std.specs.Prelude.{◌≡◌, None};
 ghost use Rattle.thy_block.specs.Geometry.{program_size};
-ghost use Rattle.thy_view.specs.Origin.{IsOrigin};
-ghost use Rattle.thy_view.specs.Kind.{IsDramOf};
+ghost use Rattle.thy_computer.specs.Origin.{IsOrigin};
+ghost use Rattle.thy_computer.specs.Kind.{IsDramOf};
 ghost use Rattle.thy_machine_tests.specs.Powered.{origin_from};
 
 mod by_scheme;
@@ -19,15 +19,15 @@ use std::alloc::Global;
 use std::marker::Model;
 use std::process::Abort;
 use thy_base::{Bytes, EndCause, Geometry, Lcg, Mark, Mix, Nvm, Parameters, Shape};
+use thy_computer::{Computer, Did, Stepped};
 use thy_core::Machine;
 use thy_dram::Dram;
 use thy_isa::{MachState, Status};
 use thy_layout::{EngineStep, Start};
 use thy_nvm::MemNvm;
 use thy_plain::{Plain, recall_are_bytes, start_of};
+use thy_schemes::Thynvm;
 use thy_test_support::{FOUR_INSTRUCTIONS, SMALLEST, cpu_of, geometry_of, image_of};
-use thy_thynvm::Thynvm;
-use thy_view::{Computer, Did, Stepped};
 
 /// A program, and the result of its run without cuts.
 struct Row {

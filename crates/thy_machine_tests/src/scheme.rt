@@ -2,12 +2,12 @@
 use crate::waiting::WaitingScheme;
 use std::alloc::{AllocError, Global};
 use thy_block::{Block, Geometry, Nvm, NvmError, Stored};
+use thy_computer::BootStep;
 use thy_dram::Dram;
 use thy_isa::CpuState;
 use thy_layout::{EngineStep, Start};
 use thy_scheme::Scheme;
-use thy_thynvm::Thynvm;
-use thy_view::BootStep;
+use thy_schemes::Thynvm;
 
 /// Each call makes of scheme and NVM exactly what one call of the scheme below makes of them, and answers the same. A
 /// step of the engine is one barrier instead if one is left. After a commit and after a restart three barriers are left;
@@ -15,7 +15,7 @@ use thy_view::BootStep;
 impl Scheme for WaitingScheme {
     ghost use Rattle.thy_thynvm_parts.proofs.LawLemmas.{applies_nothing, lawful as laws_below};
     ghost use Rattle.thy_thynvm_parts.specs.Scheme.{thynvm_scheme};
-    ghost use Rattle.thy_waiting_laws.proofs.LawfulLemmas.{lawful as laws_over};
+    ghost use Rattle.thy_test_support.proofs.LawfulLemmas.{lawful as laws_over};
     ghost use Rattle.thy_machine_tests.specs.Calls.{waiting_scheme};
 
     ghost scheme = { waiting_scheme };

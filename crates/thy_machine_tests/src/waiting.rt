@@ -3,31 +3,31 @@ ghost use Rattle.std.specs.Prelude.{◌≡◌, ◌-◌, ◌<◌, true, false, le
 ghost use Rattle.thy_block.specs.Device.{HasFailedToSettle, IsFramed, IsSettled, CountsFault, block_at};
 ghost use Rattle.thy_checkpoint.specs.Boot.{IsBoot};
 ghost use Rattle.thy_checkpoint.specs.Steps.{CanStep};
-ghost use Rattle.thy_parts.specs.Seen.{loads_at};
+ghost use Rattle.thy_scheme_parts.specs.Seen.{loads_at};
 ghost use Rattle.thy_control.specs.State.{AreSoundTables};
 ghost use Rattle.thy_dram.specs.Contents.{lost};
 ghost use Rattle.thy_thynvm_parts.specs.Design.{items_thynvm, thynvm_parts, thynvm_design, is_overlaid, is_promoting, penults};
 ghost use Rattle.thy_thynvm_parts.specs.Scheme.{thynvm_scheme};
 ghost use Rattle.thy_checkpoint.specs.Progress.{Acts, Fits, is_under_way as is_engine_under_way};
 ghost use Rattle.thy_isa.specs.Step.{state_of};
-ghost use Rattle.thy_parts.specs.Calls.{IsReading, Promotes, drained, merged, promoted, sealed, stored};
-ghost use Rattle.thy_parts.specs.Storing.{CanStore};
+ghost use Rattle.thy_scheme_parts.specs.Calls.{IsReading, Promotes, drained, merged, promoted, sealed, stored};
+ghost use Rattle.thy_scheme_parts.specs.Storing.{CanStore};
 ghost use Rattle.thy_table.specs.Places.{image_blocks};
 ghost use Rattle.thy_thynvm_parts.specs.Filling.{filling_thynvm, loads};
-ghost use Rattle.thy_view.specs.Kind.{IsDramOf};
-ghost use Rattle.thy_waiting_laws.specs.Scheme.{is_under_way};
-ghost use Rattle.thy_waiting_laws.specs.Waiting.{left_after, left_booted};
+ghost use Rattle.thy_computer.specs.Kind.{IsDramOf};
+ghost use Rattle.thy_test_support.specs.WaitingScheme.{is_under_way};
+ghost use Rattle.thy_test_support.specs.Waiting.{left_after, left_booted};
 ghost use Rattle.thy_machine_tests.specs.Calls.{TakesBoot, TakesTurn, new_waiting, with_below};
 
 use std::alloc::{AllocError, Global};
 use std::marker::Model;
 use thy_block::{Block, Geometry, Nvm, NvmError, Stored};
+use thy_computer::BootStep;
 use thy_dram::Dram;
 use thy_isa::CpuState;
 use thy_layout::{EngineStep, Start};
 use thy_scheme::Scheme;
-use thy_thynvm::Thynvm;
-use thy_view::BootStep;
+use thy_schemes::Thynvm;
 
 /// How many barriers follow a commit or a restart.
 const BARRIERS: u64 = 3;
@@ -42,7 +42,7 @@ pub struct WaitingScheme {
 }
 
 impl Model for WaitingScheme {
-    ghost use Rattle.thy_waiting_laws.specs.Waiting.{Waiting};
+    ghost use Rattle.thy_test_support.specs.Waiting.{Waiting};
     ghost use Rattle.thy_machine_tests.specs.Calls.{Below};
 
     ghost Value = { Waiting Below };

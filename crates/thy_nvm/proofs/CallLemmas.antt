@@ -8,7 +8,7 @@ use Rattle.thy_block.specs.declared.nvm.NvmError.{NvmError}
 use Rattle.thy_block.specs.Counts.{next}
 use Rattle.thy_block.specs.Device.{Device, CountsBy, own_count, CountsNothing, HoldsNoMore, HasFailed, HasFailedToSettle, HasFailedToWrite, IsFramed, IsSettled, Plain, Wear, applied, landed, drained, is_worn, at_rest, with_queued}
 use Rattle.thy_block.proofs.DeviceLemmas.{length-applied, length-landed, applied-append, no_more-with_queued}
-use Rattle.thy_write_queue.specs.Held.{Held, as_device}
+use Rattle.thy_dram.specs.Held.{Held, as_device}
 use Rattle.thy_nvm.specs.declared.call_faults.Fault.{Fault}
 use Rattle.thy_nvm.specs.declared.call_faults.Fault.TheVariants.{Undone, Late}
 use Rattle.thy_nvm.specs.DeviceInMemory.{InMemory, on_device, left_after}

@@ -4,7 +4,7 @@ use Rattle.std.proofs.lemmas.List.{drop-drop, get_or-drop, length-drop}
 use Rattle.thy_block.specs.declared.block.Block.{Block}
 use Rattle.thy_block.specs.declared.nvm.Write.{Write}
 use Rattle.thy_block.specs.Device.{word_bytes, block_at, queued_for}
-use Rattle.thy_write_queue.specs.Held.{Held}
+use Rattle.thy_dram.specs.Held.{Held}
 use Rattle.thy_nvm.specs.Chosen.{number_at, one_if_any, places_below, chosen_at, numbers_from, HasChosenWords}
 
 -- ---- the numbers to come

@@ -6,9 +6,9 @@ use Rattle.thy_block.specs.declared.block.Block.{Block}
 use Rattle.thy_block.specs.declared.nvm.Write.{Write}
 use Rattle.thy_block.specs.Device.{Crash, IsCrashOf, CrashAt, zero_block, block_at, queued_for, newest_over, applied, newest, landed, at_rest, surplus, written_to, write_of}
 use Rattle.thy_block.proofs.CrashLemmas.{Crash-image}
-use Rattle.thy_write_queue.specs.Held.{Held, device_of, as_device, put_at}
-use Rattle.thy_write_queue.specs.Merged.{merged, is_marked, AreMarked}
-use Rattle.thy_write_queue.proofs.MergedLemmas.{length-merged, block_at-merged, merged-write, merged-applied, merged-copy, AreMarked-append, AreMarked-take, AreMarked-drop, queued_for-unmarked, newest_over-unmarked}
+use Rattle.thy_dram.specs.Held.{Held, device_of, as_device, put_at}
+use Rattle.thy_dram.specs.Merged.{merged, is_marked, AreMarked}
+use Rattle.thy_dram.proofs.MergedLemmas.{length-merged, block_at-merged, merged-write, merged-applied, merged-copy, AreMarked-append, AreMarked-take, AreMarked-drop, queued_for-unmarked, newest_over-unmarked}
 use Rattle.thy_nvm.specs.Overlaid.{over_below}
 use Rattle.thy_nvm.specs.Pick.{drawn_block, drawn_seed, drawn, torn_block, torn_seed, torn, left_by_draws, picked, left_by, landing}
 

@@ -13,7 +13,7 @@ use Rattle.thy_block.proofs.BlockLemmas.{overwritten-long}
 use Rattle.thy_block.proofs.CrashLemmas.{Contains-stands, Crash-of_blocks, CutsWear-same}
 use Rattle.thy_block.proofs.MadeLemmas.{IsMadeOf-one}
 use Rattle.thy_block.proofs.WrittenLemmas.{drop-written, take-written_behind, take-drop_take}
-use Rattle.thy_write_queue.specs.Held.{Held, device_of, put_at}
+use Rattle.thy_dram.specs.Held.{Held, device_of, put_at}
 use Rattle.thy_nvm.specs.Pick.{drawn_block, drawn_seed, drawn, with_word, torn_on, torn_block, after_draws, torn_seed, torn, torn_at, landing, picked}
 
 -- ---- whole blocks

@@ -3,7 +3,7 @@ use Rattle.std.specs.Prelude.{◌≡◌, ℕ, zero, suc, ◌+◌, ◌*◌, ◌%�
 use Rattle.thy_block.specs.declared.block.Block.{Block}
 use Rattle.thy_block.specs.declared.nvm.Write.{Write}
 use Rattle.thy_block.specs.Device.{possible, word_bytes, block_at, queued_for, IsMadeOf}
-use Rattle.thy_write_queue.specs.Held.{Held, device_of, held_by, choice_at, put_at}
+use Rattle.thy_dram.specs.Held.{Held, device_of, held_by, choice_at, put_at}
 use Rattle.thy_nvm.specs.DeviceInMemory.{InMemory}
 
 -- the number at an index of the numbers to come: 0 after the last

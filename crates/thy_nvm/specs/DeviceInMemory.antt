@@ -6,7 +6,7 @@ use Rattle.thy_block.specs.declared.nvm.NvmError.{NvmError}
 use Rattle.thy_block.specs.declared.nvm.Shape.{Shape}
 use Rattle.thy_block.specs.Counts.{next}
 use Rattle.thy_block.specs.Device.{Device, landed, written_to, fitted}
-use Rattle.thy_write_queue.specs.Held.{Held, nothing, made, device_of}
+use Rattle.thy_dram.specs.Held.{Held, nothing, made, device_of}
 use Rattle.thy_nvm.specs.declared.call_faults.Fault.{Fault}
 use Rattle.thy_nvm.specs.declared.call_faults.Fault.TheVariants.{Undone, Late}
 use Rattle.thy_nvm.specs.Calls.{Calls, no_calls, counted, next_fault}

@@ -3,8 +3,8 @@ use Rattle.std.specs.Prelude.{◌≡◌, ℕ, false, Bool, List, [], length, sli
 use Rattle.thy_block.specs.declared.block.Block.{Block}
 use Rattle.thy_block.specs.Counts.{next}
 use Rattle.thy_block.specs.Device.{Device, written_to}
-use Rattle.thy_write_queue.specs.Held.{Held}
-use Rattle.thy_write_queue.specs.Merged.{merged, AreMarked}
+use Rattle.thy_dram.specs.Held.{Held}
+use Rattle.thy_dram.specs.Merged.{merged, AreMarked}
 use Rattle.thy_nvm.specs.DeviceInMemory.{InMemory, device_in, failed}
 use Rattle.thy_nvm.specs.Kept.{no_cuts}
 use Rattle.thy_nvm.specs.Pick.{picked}

@@ -5,7 +5,7 @@ use Rattle.thy_block.specs.declared.nvm.Write.{Write}
 use Rattle.thy_block.specs.Blocks.{overwritten}
 use Rattle.thy_block.specs.Device.{Device, word_bytes, block_at, queued_for, applied, cut_to}
 use Rattle.thy_block.specs.Lcg.{lcg_next, lcg_draw}
-use Rattle.thy_write_queue.specs.Held.{Held, device_of, put_at, unqueued}
+use Rattle.thy_dram.specs.Held.{Held, device_of, put_at, unqueued}
 use Rattle.thy_nvm.specs.DeviceInMemory.{InMemory, on_device}
 
 -- ---- whole blocks

@@ -1,14 +1,14 @@
 //! What a cut leaves that is given its choices.
 ghost use Rattle.std.specs.Prelude.{◌≡◌, ◌*◌, ◌<◌, ◌^◌, [], false, length, drop, Contains};
 ghost use Rattle.thy_block.specs.Device.{possible, queued_for, IsMadeOf, Crash};
-ghost use Rattle.thy_write_queue.specs.Held.{device_of};
+ghost use Rattle.thy_dram.specs.Held.{device_of};
 ghost use Rattle.thy_nvm.specs.Chosen.{number_at, one_if_any, chosen_at, numbers_from, HasChosenWords, IsChosenAt, AreChosen};
 ghost use Rattle.thy_nvm.specs.Pick.{landing};
 
 use crate::pick::replace_word;
 use std::marker::Model;
 use thy_block::Block;
-use thy_write_queue::Ring;
+use thy_dram::Ring;
 
 /// Which words cuts leave: of each place with queued writes, by rising number, eight numbers, one for each of its words. A
 /// number chooses a block: 0 the image's, 1 the one that was queued first for the place, and so on, from 0 again after

@@ -3,8 +3,8 @@
 //! leaves of a `MemNvm`, as a device over its image, which is not copied. `ChosenNvm` is for tests: which words its cuts leave is a
 //! list.
 //!
-//! Open specs/Pick.antt first, then specs/DeviceInMemory.antt and src/mem_nvm.rt, and specs/Overlaid.antt. It stands on thy_block and thy_write_queue.
-//! The program and the tests use it; no other crate does, since each is proved for every device.
+//! Open specs/Pick.antt first, then specs/DeviceInMemory.antt and src/mem_nvm.rt, and specs/Overlaid.antt. It stands on
+//! thy_block and thy_dram. The program and the tests use it; no other crate does, since each is proved for every device.
 #![tactic(auto)]
 
 mod call_faults;

@@ -6,8 +6,8 @@ ghost use Rattle.thy_block.specs.Device.{Device, newest, block_at, written_to, d
 ghost use Rattle.thy_nvm.specs.Chosen.{AreChosen, numbers_from};
 ghost use Rattle.thy_nvm.specs.DeviceInMemory.{InMemory, fresh_device, with_device, on_device, IsFit, IsFresh, written, with_write, half_settled, failed, left_after, IsCall};
 ghost use Rattle.thy_nvm.specs.Pick.{cut_by};
-ghost use Rattle.thy_write_queue.specs.Held.{as_device, held_by};
-ghost use Rattle.thy_write_queue.specs.Lowest.{IsLowestOf};
+ghost use Rattle.thy_dram.specs.Held.{as_device, held_by};
+ghost use Rattle.thy_dram.specs.Lowest.{IsLowestOf};
 
 use crate::call_faults::{CallFaults, Fault};
 use crate::choices::{Choices, leave_chosen};
@@ -17,7 +17,7 @@ use crate::pick::{leave, size_of};
 use std::alloc::{AllocError, Global};
 use std::marker::Model;
 use thy_block::{Block, FitError, Nvm, NvmError, Shape, Write};
-use thy_write_queue::Ring;
+use thy_dram::Ring;
 
 /// A non-volatile memory. It is empty until it is fitted. Its reads, writes, drains and barriers are numbered from 1 on,
 /// through fits and cuts; after 2^64 - 1 of them each has this last number. One fails exactly if its number is listed. Its

@@ -2,11 +2,11 @@
 ghost use Rattle.std.specs.Prelude.{◌≡◌, ◌<◌, [], true, length, replicate, slice_set};
 ghost use Rattle.thy_block.specs.Counts.{next};
 ghost use Rattle.thy_block.specs.Device.{block_at};
-ghost use Rattle.thy_write_queue.specs.Held.{put_at};
-ghost use Rattle.thy_write_queue.specs.Merged.{merged, AreMarked};
+ghost use Rattle.thy_dram.specs.Held.{put_at};
+ghost use Rattle.thy_dram.specs.Merged.{merged, AreMarked};
 
 use thy_block::Block;
-use thy_write_queue::Ring;
+use thy_dram::Ring;
 
 /// A count with 1 added, unless it has its last value, `2^64 - 1`.
 pub(crate) fn one_more(count: u64) -> u64

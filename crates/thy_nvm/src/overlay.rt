@@ -13,7 +13,7 @@ use crate::pick::leave;
 use std::alloc::{AllocError, Global};
 use std::marker::Model;
 use thy_block::{Block, FitError, Nvm, NvmError, Shape};
-use thy_write_queue::Ring;
+use thy_dram::Ring;
 
 /// Room for a device over another one that has a shape. The shape says how many cuts can be kept.
 #[derive(Drop)]

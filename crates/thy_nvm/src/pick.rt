@@ -3,11 +3,11 @@ ghost use Rattle.std.specs.Prelude.{◌≡◌, ◌≢◌, ◌<◌, ◌^◌, ℕ,
 ghost use Rattle.thy_block.specs.declared.block.Block.{Block as BlockOf};
 ghost use Rattle.thy_block.specs.Device.{possible, queued_for, block_at, word_bytes, IsMadeOf, Crash};
 ghost use Rattle.thy_block.specs.Lcg.{lcg_next};
-ghost use Rattle.thy_write_queue.specs.Held.{device_of};
+ghost use Rattle.thy_dram.specs.Held.{device_of};
 ghost use Rattle.thy_nvm.specs.Pick.{drawn_block, drawn_seed, drawn, drawn_at, with_word, torn_block, torn_seed, torn, torn_at, left_by_draws, picked, left_by, landing};
 
 use thy_block::{Block, Lcg};
-use thy_write_queue::Ring;
+use thy_dram::Ring;
 
 /// Draws for one place, which has this number of queued writes, a block that may be left there.
 fn draw_block(ring: &Ring, at: u64, count: u64, draws: &mut Lcg) -> Block

@@ -10,20 +10,20 @@ use Rattle.thy_isa.specs.Step.{State, Setting, step_of}
 use Rattle.thy_layout.specs.declared.engine_step.EngineStep.{EngineStep}
 use Rattle.thy_layout.specs.declared.engine_step.EngineStep.TheVariants.{Idle, Copied, PageBlock, StateBlock, TableBlock, Barrier, CommitWritten, Committed as EngineCommitted}
 use Rattle.thy_layout.specs.Decoded.{Decoded, Nothing as NothingLeft, Refused as RefusedImage, At}
-use Rattle.thy_view.specs.declared.did.Did.{Did}
-use Rattle.thy_view.specs.declared.did.Did.TheVariants.{Boot, Loaded, Restarted, Refused, Moved, Retired, Flushed, Merged, Sealed, Promoted, Engine, Committed, NvmDrained, DramDrained, Nothing}
-use Rattle.thy_view.specs.declared.view.Phase.{Phase}
-use Rattle.thy_view.specs.declared.view.Phase.TheVariants.{Boot as BootPhase, Run, Halt}
-use Rattle.thy_view.specs.declared.view.View.{View}
-use Rattle.thy_view.specs.Booting.{found_first, view_of_image}
-use Rattle.thy_view.specs.CoreStep.{BootsTo, CoreStep, EngineTo, MovesTo, phase_at}
-use Rattle.thy_view.specs.Kind.{KindOf}
-use Rattle.thy_view.specs.Origin.{Origin, at, by_turns, runs_at, setting_of}
-use Rattle.thy_view.specs.Safe.{ceiling}
-use Rattle.thy_view.specs.WithTurns.{with_turns, AgreeBelow, count_of, reach}
-use Rattle.thy_view.specs.Views.{is_boot}
-use Rattle.thy_view.proofs.ReachLaws.{reach-boot, reach-count, runs_behind, stays-there}
-use Rattle.thy_view.proofs.TurnLaws.{turn_late}
+use Rattle.thy_computer.specs.declared.did.Did.{Did}
+use Rattle.thy_computer.specs.declared.did.Did.TheVariants.{Boot, Loaded, Restarted, Refused, Moved, Retired, Flushed, Merged, Sealed, Promoted, Engine, Committed, NvmDrained, DramDrained, Nothing}
+use Rattle.thy_computer.specs.declared.view.Phase.{Phase}
+use Rattle.thy_computer.specs.declared.view.Phase.TheVariants.{Boot as BootPhase, Run, Halt}
+use Rattle.thy_computer.specs.declared.view.View.{View}
+use Rattle.thy_computer.specs.Booting.{found_first, view_of_image}
+use Rattle.thy_computer.specs.CoreStep.{BootsTo, CoreStep, EngineTo, MovesTo, phase_at}
+use Rattle.thy_computer.specs.Kind.{KindOf}
+use Rattle.thy_computer.specs.Origin.{Origin, at, by_turns, runs_at, setting_of}
+use Rattle.thy_computer.specs.Safe.{ceiling}
+use Rattle.thy_computer.specs.WithTurns.{with_turns, AgreeBelow, count_of, reach}
+use Rattle.thy_computer.specs.Views.{is_boot}
+use Rattle.thy_computer.proofs.ReachLaws.{reach-boot, reach-count, runs_behind, stays-there}
+use Rattle.thy_computer.proofs.TurnLaws.{turn_late}
 use Rattle.thy_run.specs.Laws.{marks_of}
 use Rattle.thy_run.specs.Watching.{Taken, IsListed, taken_in}
 use Rattle.thy_run.specs.World.{World, Given, IsCutOff, Ran, TakesStep, is_due, line, seen, tear}

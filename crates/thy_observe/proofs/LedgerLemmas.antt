@@ -1,7 +1,7 @@
 -- The ledger of one cycle more.
 use Rattle.std.proofs.Common.{◌≡◌, ℕ, ◌+◌, ◌==◌, ◌<◌, Bool, false, cond, Option, List, [], ◌∷◌, ◌++◌, length, slice_index_or, slice_set, refl, sym, ◌∙◌, ap, arith}
 use Rattle.std.proofs.lemmas.List.{length-set}
-use Rattle.thy_view.specs.declared.did.Stepped.{Stepped}
+use Rattle.thy_computer.specs.declared.did.Stepped.{Stepped}
 use Rattle.thy_run.specs.Watching.{Taken}
 use Rattle.thy_observe.specs.declared.causes.Cause.{Cause}
 use Rattle.thy_observe.specs.declared.ledger.Ledger.{Ledger}

@@ -13,7 +13,7 @@ use Rattle.thy_isa.specs.OnBlocks.{setting_for}
 use Rattle.thy_isa.specs.Step.{State, Setting, state_of, step_of}
 use Rattle.thy_layout.specs.declared.start.Start.{Start}
 use Rattle.thy_plain.specs.Machine.{Machine, in_state, stepped_by}
-use Rattle.thy_view.specs.Origin.{by_turns}
+use Rattle.thy_computer.specs.Origin.{by_turns}
 use Rattle.thy_run.specs.Watching.{Taken}
 use Rattle.thy_observe.specs.declared.changes.Change.{Change}
 use Rattle.thy_observe.specs.declared.changes.Change.TheVariants.{Retired, Lost}

@@ -4,15 +4,15 @@ use Rattle.std.specs.Prelude.{MatchBool}
 use Rattle.thy_block.specs.declared.mark.Mark.{Mark}
 use Rattle.thy_layout.specs.declared.engine_step.EngineStep.{EngineStep}
 use Rattle.thy_layout.specs.declared.engine_step.EngineStep.TheVariants.{Idle, Copied, PageBlock, StateBlock, TableBlock, Barrier, CommitWritten, Committed as EngineCommitted}
-use Rattle.thy_view.specs.declared.did.Did.{Did}
-use Rattle.thy_view.specs.declared.did.Did.TheVariants.{Boot, Loaded, Restarted, Refused, Moved, Retired, Flushed, Merged, Sealed, Promoted, Engine, Committed, NvmDrained, DramDrained, Nothing}
-use Rattle.thy_view.specs.declared.view.Phase.{Phase}
-use Rattle.thy_view.specs.declared.view.View.{View}
-use Rattle.thy_view.specs.CoreStep.{CoreStep, EngineTo, MovesTo}
-use Rattle.thy_view.specs.Kind.{KindOf}
-use Rattle.thy_view.specs.Origin.{Origin}
-use Rattle.thy_view.specs.Safe.{ceiling}
-use Rattle.thy_view.specs.Views.{is_boot}
+use Rattle.thy_computer.specs.declared.did.Did.{Did}
+use Rattle.thy_computer.specs.declared.did.Did.TheVariants.{Boot, Loaded, Restarted, Refused, Moved, Retired, Flushed, Merged, Sealed, Promoted, Engine, Committed, NvmDrained, DramDrained, Nothing}
+use Rattle.thy_computer.specs.declared.view.Phase.{Phase}
+use Rattle.thy_computer.specs.declared.view.View.{View}
+use Rattle.thy_computer.specs.CoreStep.{CoreStep, EngineTo, MovesTo}
+use Rattle.thy_computer.specs.Kind.{KindOf}
+use Rattle.thy_computer.specs.Origin.{Origin}
+use Rattle.thy_computer.specs.Safe.{ceiling}
+use Rattle.thy_computer.specs.Views.{is_boot}
 use Rattle.thy_run.specs.Watching.{Taken, IsListed, taken_in}
 use Rattle.thy_run.specs.World.{World, Given, IsCutOff, is_due, line, seen, tear}
 use Rattle.thy_run.proofs.StepAlong.{core_of}

@@ -2,9 +2,9 @@
 -- which power is cut.
 use Rattle.std.specs.Prelude.{◌≡◌, ℕ, ◌+◌, ◌<◌, ◌≤◌, nat_le, if◌then◌else◌, cond, Bool, true, false, Option, Some, None, IfSome, is_some, List, [], ◌∷◌, ◌++◌, length, replicate, fold, sum_by, count_by, slice_index_or, slice_set}
 use Rattle.thy_block.specs.Counts.{next}
-use Rattle.thy_view.specs.declared.did.Did.{Did}
-use Rattle.thy_view.specs.declared.did.Did.TheVariants as did
-use Rattle.thy_view.specs.declared.did.Stepped.{Stepped}
+use Rattle.thy_computer.specs.declared.did.Did.{Did}
+use Rattle.thy_computer.specs.declared.did.Did.TheVariants as did
+use Rattle.thy_computer.specs.declared.did.Stepped.{Stepped}
 use Rattle.thy_run.specs.Watching.{Taken}
 use Rattle.thy_observe.specs.declared.epochs.End.{End}
 use Rattle.thy_observe.specs.declared.epochs.End.TheVariants as end

@@ -1,7 +1,7 @@
 -- The cycles in which events were made, and how many instructions were retired by then.
 use Rattle.std.specs.Prelude.{ℕ, ◌+◌, ◌==◌, ◌<◌, if◌then◌else◌, Bool, Option, Some, None, List, [], ◌∷◌, ◌++◌}
-use Rattle.thy_view.specs.declared.did.Did.{Did}
-use Rattle.thy_view.specs.declared.did.Did.TheVariants.{Loaded, Restarted, Retired}
+use Rattle.thy_computer.specs.declared.did.Did.{Did}
+use Rattle.thy_computer.specs.declared.did.Did.TheVariants.{Loaded, Restarted, Retired}
 use Rattle.thy_run.specs.Watching.{Taken}
 use Rattle.thy_observe.specs.declared.event_cycle.EventCycle.{EventCycle}
 use Rattle.thy_observe.specs.declared.event_cycle.RetiredCount.{RetiredCount}

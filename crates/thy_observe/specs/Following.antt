@@ -1,9 +1,9 @@
 -- What is executed again is what the run has executed.
 use Rattle.std.specs.Prelude.{◌≡◌, ℕ, ◌+◌, ◌≤◌, false, not, List, length, take}
 use Rattle.thy_base.specs.Config.{IsRising}
-use Rattle.thy_view.specs.Kind.{KindOf}
-use Rattle.thy_view.specs.Origin.{Origin, at, setting_of}
-use Rattle.thy_view.specs.Views.{is_boot}
+use Rattle.thy_computer.specs.Kind.{KindOf}
+use Rattle.thy_computer.specs.Origin.{Origin, at, setting_of}
+use Rattle.thy_computer.specs.Views.{is_boot}
 use Rattle.thy_run.specs.Watching.{Taken, IsListed}
 use Rattle.thy_run.specs.World.{World, Given, line, seen}
 use Rattle.thy_observe.specs.Changes.{changes_of}

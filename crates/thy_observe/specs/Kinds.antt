@@ -2,10 +2,10 @@
 use Rattle.std.specs.Prelude.{◌≡◌, ℕ, ◌==◌, Bool, true, false, List, length, sum_by, count_by, Option, Some}
 use Rattle.std.specs.List.{range_with_len}
 use Rattle.thy_layout.specs.declared.engine_step.EngineStep.TheVariants as engine
-use Rattle.thy_view.specs.declared.did.Did.{Did}
-use Rattle.thy_view.specs.declared.did.Did.TheVariants as did
-use Rattle.thy_view.specs.declared.did.Stall.{Stall}
-use Rattle.thy_view.specs.declared.did.Stall.TheVariants.{Waiting}
+use Rattle.thy_computer.specs.declared.did.Did.{Did}
+use Rattle.thy_computer.specs.declared.did.Did.TheVariants as did
+use Rattle.thy_computer.specs.declared.did.Stall.{Stall}
+use Rattle.thy_computer.specs.declared.did.Stall.TheVariants.{Waiting}
 use Rattle.thy_run.specs.Watching.{Taken}
 use Rattle.thy_observe.specs.declared.kinds.Kind.{Kind}
 use Rattle.thy_observe.specs.declared.kinds.Kind.TheVariants as kind

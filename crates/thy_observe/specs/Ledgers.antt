@@ -1,7 +1,7 @@
 -- What the ledger of cycles has.
 use Rattle.std.specs.Prelude.{◌≡◌, ℕ, ◌<◌, false, List, Some, length, slice_index_or}
 use Rattle.thy_run.specs.Watching.{Taken}
-use Rattle.thy_view.specs.declared.did.Stepped.{Stepped}
+use Rattle.thy_computer.specs.declared.did.Stepped.{Stepped}
 use Rattle.thy_observe.specs.declared.ledger.Ledger.{Ledger}
 use Rattle.thy_observe.specs.declared.causes.Cause.{Cause}
 use Rattle.thy_observe.specs.Causes.{cause_index, how_many_by, under_way_after}

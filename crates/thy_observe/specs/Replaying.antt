@@ -9,7 +9,7 @@ use Rattle.thy_isa.specs.OnBlocks.{setting_for}
 use Rattle.thy_isa.specs.Step.{State, Setting, state_of, fronted}
 use Rattle.thy_layout.specs.declared.start.Start.{Start}
 use Rattle.thy_plain.specs.Machine.{Machine, in_state}
-use Rattle.thy_view.specs.Origin.{by_turns}
+use Rattle.thy_computer.specs.Origin.{by_turns}
 use Rattle.thy_observe.specs.declared.changes.Change.{Change}
 use Rattle.thy_observe.specs.declared.changes.Change.TheVariants.{Loaded, Restored, Retired, Lost}
 use Rattle.thy_observe.specs.declared.changes.Dated.{Dated}

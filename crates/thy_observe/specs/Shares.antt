@@ -1,8 +1,8 @@
 -- What each hart did. A move belongs to the hart that retires the instruction. It is no hart's if the epoch is sealed before,
 -- as too few entries were free, or power is cut.
 use Rattle.std.specs.Prelude.{◌≡◌, ℕ, ◌+◌, ◌==◌, ◌≤◌, if◌then◌else◌, Bool, List, [], ◌∷◌}
-use Rattle.thy_view.specs.declared.did.Did.{Did}
-use Rattle.thy_view.specs.declared.did.Did.TheVariants.{Moved, Retired, Sealed}
+use Rattle.thy_computer.specs.declared.did.Did.{Did}
+use Rattle.thy_computer.specs.declared.did.Did.TheVariants.{Moved, Retired, Sealed}
 use Rattle.thy_run.specs.Watching.{Taken}
 use Rattle.thy_observe.specs.declared.shares.Share.{Share}
 use Rattle.thy_observe.specs.declared.shares.Shares.{Shares}

@@ -1,7 +1,7 @@
 -- What the tally of cycles is.
 use Rattle.std.specs.Prelude.{◌≡◌, ℕ, ◌<◌, false, List, [], Some, None, length, slice_index_or, count_by}
 use Rattle.thy_run.specs.Watching.{Taken}
-use Rattle.thy_view.specs.declared.did.Stepped.{Stepped}
+use Rattle.thy_computer.specs.declared.did.Stepped.{Stepped}
 use Rattle.thy_observe.specs.declared.tally.Tally.{Tally}
 use Rattle.thy_observe.specs.Kinds.{how_many, has_waited}
 use Rattle.thy_observe.specs.EventCycles.{event_cycles_from, retired_after}

@@ -1,8 +1,8 @@
 -- What counts as a checkpoint under way is one of the run's.
 use Rattle.std.specs.Prelude.{◌≡◌, ℕ, false, ◌&&◌, not, is_some, List}
-use Rattle.thy_view.specs.Kind.{KindOf}
-use Rattle.thy_view.specs.Origin.{Origin}
-use Rattle.thy_view.specs.Views.{is_boot}
+use Rattle.thy_computer.specs.Kind.{KindOf}
+use Rattle.thy_computer.specs.Origin.{Origin}
+use Rattle.thy_computer.specs.Views.{is_boot}
 use Rattle.thy_run.specs.Watching.{Taken, IsListed}
 use Rattle.thy_run.specs.World.{World, Given, seen}
 use Rattle.thy_observe.specs.Causes.{under_way_after}

@@ -1,7 +1,7 @@
 -- What is seen of a run by all that look on.
 use Rattle.std.specs.Prelude.{ℕ, List}
 use Rattle.thy_isa.specs.Step.{State}
-use Rattle.thy_view.specs.declared.did.Stepped.{Stepped}
+use Rattle.thy_computer.specs.declared.did.Stepped.{Stepped}
 use Rattle.thy_run.specs.Watching.{Taken}
 use Rattle.thy_observe.specs.declared.watch.Watch.{Watch}
 use Rattle.thy_observe.specs.Changes.{AreChanges, KeepsChanges}

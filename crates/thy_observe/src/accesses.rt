@@ -12,8 +12,8 @@ use crate::listing::{Call, Listing};
 use crate::tracing::{Window, is_within};
 use std::alloc::{AllocError, Global};
 use thy_base::{Nvm, Sink, SinkError};
+use thy_computer::{Computer, Did};
 use thy_run::{Plan, SingleCycle, begin, single};
-use thy_view::{Computer, Did};
 
 /// An access to a block of the NVM.
 #[derive(Clone, Copy, Debug, PartialEq, Eq, Drop)]

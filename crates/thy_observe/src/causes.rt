@@ -4,7 +4,7 @@ ghost use Rattle.thy_observe.specs.Causes.{CausesAddUp, CausesAgree, all_causes,
 ghost use Rattle.thy_observe.specs.UnderWay.{KnowsUnderWay};
 
 use crate::kinds::Kind;
-use thy_view::{Computer, Did};
+use thy_computer::{Computer, Did};
 
 /// Why a cycle was taken.
 #[derive(Clone, Copy, Debug, PartialEq, Eq, Drop)]

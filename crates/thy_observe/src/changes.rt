@@ -4,9 +4,9 @@ ghost use Rattle.thy_observe.specs.Changes.{change_of, as_list, lost_in, dated, 
 ghost use Rattle.thy_run.specs.Watching.{CanSee, Sees, Taken, taken};
 
 use std::alloc::Global;
+use thy_computer::{Did, Stepped};
 use thy_isa::MachState;
 use thy_run::Observer;
-use thy_view::{Did, Stepped};
 
 /// What a cycle made of the program's state.
 #[derive(Clone, Copy, Debug, PartialEq, Eq, Drop)]

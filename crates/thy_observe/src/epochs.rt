@@ -7,9 +7,9 @@ use crate::causes::{CAUSES, cause_of, index_of, under_way_then};
 use crate::kinds::kind_of;
 use crate::tally::waiting_in;
 use std::alloc::Global;
+use thy_computer::{Did, Stepped};
 use thy_isa::MachState;
 use thy_run::Observer;
-use thy_view::{Did, Stepped};
 
 /// How a stretch of cycles has ended.
 #[derive(Clone, Copy, Debug, PartialEq, Eq, Drop)]

@@ -2,7 +2,7 @@
 ghost use Rattle.std.specs.Prelude.{◌≡◌, ◌-◌, ◌^◌};
 ghost use Rattle.thy_observe.specs.EventCycles.{retired_after_step, retired_after_cut, IsShort};
 
-use thy_view::Did;
+use thy_computer::Did;
 
 /// A count of retired instructions: where the run began or was restored last, and how many were retired since.
 #[derive(Clone, Copy, Debug, PartialEq, Eq, Drop)]

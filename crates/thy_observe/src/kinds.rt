@@ -2,8 +2,8 @@
 ghost use Rattle.std.specs.Prelude.{◌≡◌, ◌<◌};
 ghost use Rattle.thy_observe.specs.Kinds.{kind_of, index_of, KindsAddUp};
 
+use thy_computer::Did;
 use thy_layout::EngineStep;
-use thy_view::Did;
 
 /// The kind of a cycle.
 #[derive(Clone, Copy, Debug, PartialEq, Eq, Drop)]

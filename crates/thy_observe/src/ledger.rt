@@ -6,9 +6,9 @@ ghost use Rattle.thy_run.specs.Watching.{CanSee, Sees, Taken, taken};
 
 use crate::causes::{CAUSES, Cause, cause_of, index_of, under_way_then};
 use crate::kinds::kind_of;
+use thy_computer::Stepped;
 use thy_isa::MachState;
 use thy_run::Observer;
-use thy_view::Stepped;
 
 /// How many cycles there were of each cause.
 #[derive(Drop)]

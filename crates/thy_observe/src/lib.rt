@@ -10,7 +10,7 @@
 //! Open specs/Kinds.antt first, then specs/EventCycles.antt, specs/Shares.antt and src/tally.rt; for the causes
 //! specs/Causes.antt, specs/Epochs.antt and src/ledger.rt; for the program counters specs/Replaying.antt and src/replay.rt,
 //! for the states specs/States.antt too, and for the instructions specs/Tracing.antt and src/tracing.rt; for the accesses
-//! specs/Accesses.antt and src/accesses.rt. It stands on thy_block, thy_base, thy_isa, thy_plain, thy_layout, thy_view and
+//! specs/Accesses.antt and src/accesses.rt. It stands on thy_block, thy_base, thy_isa, thy_plain, thy_layout, thy_computer and
 //! thy_run; on it stands the program observe.
 #![tactic(auto)]
 

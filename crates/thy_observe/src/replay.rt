@@ -15,9 +15,9 @@ use crate::changes::{Change, Dated};
 use std::alloc::{AllocError, Global};
 use std::collections::BTreeMap;
 use thy_base::Geometry;
+use thy_computer::Computer;
 use thy_layout::Start;
 use thy_plain::Plain;
-use thy_view::Computer;
 
 /// The states whose count is at least this are not executed further.
 const MOST_COUNT: u64 = 1 << 62;

@@ -2,7 +2,7 @@
 ghost use Rattle.std.specs.Prelude.{◌≡◌, ◌+◌, ◌-◌, ◌^◌, ◌<◌};
 ghost use Rattle.thy_observe.specs.Shares.{nobodys, with_one, retired_by, dropped, shares_after_step, shares_after_cut, AreOf, SharesAddUp};
 
-use thy_view::Did;
+use thy_computer::Did;
 
 /// What a hart did.
 #[derive(Clone, Copy, Debug, PartialEq, Eq, Drop)]

@@ -13,9 +13,9 @@ use crate::kinds::{KINDS, Kind, index_of, kind_of};
 use crate::shares::{Shares, nobodys, shares_after_cut, shares_after_step};
 use crate::trap::{Trap, trap_of};
 use std::alloc::Global;
+use thy_computer::{Stall, Stepped};
 use thy_isa::MachState;
 use thy_run::Observer;
-use thy_view::{Stall, Stepped};
 
 /// How many cycles there were of each kind, what each hart did, and in which cycles events were made.
 #[derive(Drop)]

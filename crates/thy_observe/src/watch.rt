@@ -9,9 +9,9 @@ use crate::epochs::Epochs;
 use crate::ledger::Ledger;
 use crate::tally::Tally;
 use std::alloc::Global;
+use thy_computer::Stepped;
 use thy_isa::MachState;
 use thy_run::Observer;
-use thy_view::Stepped;
 
 /// The tally of a run's cycles and their ledger, or the trap of the plain machine; and, if that is wanted, what the cycles made of
 /// the program's state, and their stretches.

@@ -11,8 +11,8 @@ use Rattle.thy_isa.proofs.HartLaws.{step_of-alone}
 use Rattle.thy_plain.specs.declared.held.Held.{Held}
 use Rattle.thy_plain.specs.Machine.{stepped, stepped_by}
 use Rattle.thy_plain.specs.Held.{IsSeat, any_calls, state_at, taken}
-use Rattle.thy_processor.specs.Processor.{ProcessorState, processor_finished, cpu_at}
-use Rattle.thy_processor.proofs.ProcessorLaws.{finished-harts, finished-front, finished-as_cpu, crossed-as_cpu, alone-few}
+use Rattle.thy_isa.specs.Processor.{ProcessorState, processor_finished, cpu_at}
+use Rattle.thy_isa.proofs.ProcessorLaws.{finished-harts, finished-front, finished-as_cpu, crossed-as_cpu, alone-few}
 
 -- an effect leaves each hart where it is
 pub seat-kept : (h : ℕ) (p q : ProcessorState) (e : Effect) (n : ℕ) (c : CallState) → IsSeat h p → q ≡ processor_finished h p e n c → IsSeat h q

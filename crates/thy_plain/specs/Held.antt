@@ -6,7 +6,7 @@ use Rattle.thy_isa.specs.declared.state.CallState.{CallState}
 use Rattle.thy_isa.specs.declared.state.Effect.{Effect}
 use Rattle.thy_isa.specs.Step.{State, cpu_of, state_with, finished}
 use Rattle.thy_plain.specs.declared.held.Held.{Held}
-use Rattle.thy_processor.specs.Processor.{ProcessorState, cpu_at}
+use Rattle.thy_isa.specs.Processor.{ProcessorState, cpu_at}
 
 -- the state with hart h in front
 abbrev pub state_at : ℕ → Held → State

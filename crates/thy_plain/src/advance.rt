@@ -21,10 +21,9 @@ use crate::held::Held;
 use crate::setup::Setup;
 use crate::window::{far_offset, far_word, near_offset, near_word};
 use thy_block::{Bytes, is_inside};
-use thy_decoded::{DecodedWords, Found, holds};
 use thy_isa::{
-    Call, CallState, Cause, Effect, Extend, Reg, Width, after, alu, bytes_in, call, extended,
-    is_reserved, is_running, modified, number, word, word_effect,
+    Call, CallState, Cause, DecodedWords, Effect, Extend, Found, Reg, Width, after, alu, bytes_in,
+    call, extended, holds, is_reserved, is_running, modified, number, word, word_effect,
 };
 
 // What is rare is called, and takes no reference to what the loop over steps has in registers; the rest becomes a part of that loop.
@@ -517,7 +516,7 @@ fn perform_rarely(state: &mut Held, hart: u8, setup: &Setup, word: u32) -> bool
 /// Does what a word does that was fetched at the program counter. The frequent instructions are done here; no effect is made of
 /// them.
 #[inline(always)]
-#[tactic(auto, unfolding(thy_decoded::specs::Found::instr_by, thy_isa::specs::Arith::alu_of, thy_isa::specs::Effects::effect_of, thy_isa::specs::Step::performed, thy_isa::specs::Step::within, thy_isa::specs::Step::read_by, thy_isa::specs::Step::memory_by, thy_isa::specs::Step::console_by, thy_isa::specs::Step::finished))]
+#[tactic(auto, unfolding(thy_isa::specs::Found::instr_by, thy_isa::specs::Arith::alu_of, thy_isa::specs::Effects::effect_of, thy_isa::specs::Step::performed, thy_isa::specs::Step::within, thy_isa::specs::Step::read_by, thy_isa::specs::Step::memory_by, thy_isa::specs::Step::console_by, thy_isa::specs::Step::finished))]
 fn perform_word(
     state: &mut Held,
     hart: u8,

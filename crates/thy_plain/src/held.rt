@@ -5,8 +5,7 @@ ghost use Rattle.thy_isa.specs.Step.{fronted, state_of};
 ghost use Rattle.thy_plain.specs.Held.{IsSeat, state_at};
 
 use thy_block::Bytes;
-use thy_isa::MachState;
-use thy_processor::Processor;
+use thy_isa::{MachState, Processor};
 
 /// A processor with its memory and its console. The harts stay where they are, whichever takes a step.
 #[derive(Drop)]

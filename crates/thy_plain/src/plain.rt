@@ -15,9 +15,8 @@ use crate::window::{window_of, words_of};
 use std::alloc::{AllocError, Global};
 use std::marker::Model;
 use thy_block::{Bytes, Geometry};
-use thy_decoded::DecodedWords;
 use thy_elf::Image;
-use thy_isa::{CpuState, MachState, Status, is_running};
+use thy_isa::{CpuState, DecodedWords, MachState, Status, is_running};
 
 /// The plain machine: its processor, memory and console. Contracts see its state, and what stays the same over a run. Only
 /// `load`, `in_state` and `state` allocate, and no other call can fail.

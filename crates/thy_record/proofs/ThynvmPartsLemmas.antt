@@ -26,11 +26,11 @@ use Rattle.thy_layout.proofs.ReadBackLemmas.{epoch_of-commit_of, version_of-comm
 use Rattle.thy_record.proofs.SlotLemmas.{BeginsWithRecord-slot, tables_in-back, counts_back, slot_fault-back, tables_of_slot}
 use Rattle.thy_layout.specs.Saved.{next_image}
 use Rattle.thy_layout.proofs.SavedLemmas.{next_image-commit}
-use Rattle.thy_view.specs.Issuing.{slot_of, ArePlaced, ArePartsOf, IsCheckpoint, CheckpointParts, AreIssued}
+use Rattle.thy_computer.specs.Issuing.{slot_of, ArePlaced, ArePartsOf, IsCheckpoint, CheckpointParts, AreIssued}
 use Rattle.thy_layout.specs.Layout.{decode_by}
 use Rattle.thy_record.specs.ThynvmLayouts.{thynvm_layouts}
 use Rattle.thy_record.specs.ThynvmParts.{parts_by, IsIssuing, IsIssuedCheckpoint, IssuedDecodes}
-use Rattle.thy_view.proofs.IssuingLemmas.{issued_is_checkpoint}
+use Rattle.thy_computer.proofs.IssuingLemmas.{issued_is_checkpoint}
 use Rattle.thy_record.specs.Issuing.{HoldsCheckpoint}
 use Rattle.thy_record.specs.Migrated.{IsWrittenAnew, MeansTheSame}
 use Rattle.thy_record.proofs.MigratedLemmas.{anew_means_the_same}

@@ -17,7 +17,7 @@ use Rattle.thy_record.specs.Images.{slot_in, memory_numbers}
 use Rattle.thy_record.specs.Issuing.{HoldsCheckpoint}
 use Rattle.thy_record.specs.Slots.{tables_in, counts_in, slot_fault}
 use Rattle.thy_layout.specs.Saved.{IsIssued, next_image}
-use Rattle.thy_view.specs.Issuing.{CheckpointParts, AreIssued}
+use Rattle.thy_computer.specs.Issuing.{CheckpointParts, AreIssued}
 use Rattle.thy_layout.specs.Layout.{decode_by, looked_by}
 use Rattle.thy_record.specs.ThynvmLayouts.{thynvm_layouts}
 

@@ -12,7 +12,7 @@ use Rattle.thy_layout.specs.Layout.{Layout, Layouts, reading}
 use Rattle.thy_record.specs.Number.{scheme_number}
 use Rattle.thy_record.specs.Slots.{tables_in, slot_fault}
 use Rattle.thy_record.specs.Tables.{place_of}
-use Rattle.thy_view.specs.Origin.{Origin}
+use Rattle.thy_computer.specs.Origin.{Origin}
 
 -- the blocks of an image of version 1 are enough, if the commit block is of that version, and so with one hart
 abbrev pub older_of : Parameters → LayoutVersion → Option ℕ

@@ -20,7 +20,7 @@ use Rattle.thy_record.specs.Slots.{slot_block_of, byte_in, AreCounts, counts_in}
 use Rattle.thy_record.specs.Tables.{Tables, IsTables}
 use Rattle.thy_record.specs.Issuing.{HoldsCheckpoint}
 use Rattle.thy_layout.specs.Saved.{IsIssued, next_image}
-use Rattle.thy_view.specs.Issuing.{CheckpointParts, AreIssued}
+use Rattle.thy_computer.specs.Issuing.{CheckpointParts, AreIssued}
 use Rattle.thy_layout.specs.Layout.{decode_by, looked_by}
 use Rattle.thy_record.specs.ThynvmLayouts.{thynvm_layouts}
 

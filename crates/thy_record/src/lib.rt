@@ -4,7 +4,7 @@
 //! `decoded_has_tables`: what was written decodes, and what decodes has tables that a checkpoint may have.
 //!
 //! Open specs/ThynvmLayouts.antt first, then specs/Images.antt, specs/Slots.antt and src/images.rt. It depends on thy_layout,
-//! thy_table, thy_view and their dependencies; thy_control, thy_thynvm_parts and thy_answer depend on it.
+//! thy_table, thy_computer and their dependencies; thy_control, thy_thynvm_parts and thy_outcome depend on it.
 #![tactic(auto)]
 
 mod header;

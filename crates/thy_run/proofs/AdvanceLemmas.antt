@@ -12,20 +12,20 @@ use Rattle.thy_block.specs.Mix.{mix_next}
 use Rattle.thy_isa.specs.declared.state.Status.{Status}
 use Rattle.thy_layout.specs.Decoded.{Decoded, Nothing as NothingLeft, Refused as RefusedImage, At}
 use Rattle.thy_text.specs.Event.{Event, Cut, Ended as EndedEvent}
-use Rattle.thy_view.specs.declared.did.Did.{Did}
-use Rattle.thy_view.specs.declared.did.Did.TheVariants.{Loaded, Restarted, Retired, Sealed, Committed}
-use Rattle.thy_view.specs.declared.did.Stepped.{Stepped}
-use Rattle.thy_view.specs.declared.view.View.{View}
-use Rattle.thy_view.specs.Booting.{view_of_image}
-use Rattle.thy_view.specs.Origin.{Begins, Origin, at}
-use Rattle.thy_view.specs.CoreStep.{CoreStep}
-use Rattle.thy_view.specs.WithTurns.{AgreeBelow, reach, IsAtWork, IsThere, HasTurn}
-use Rattle.thy_view.specs.Views.{is_halt, halts, loads}
-use Rattle.thy_view.specs.Safe.{ceiling}
-use Rattle.thy_view.specs.declared.error.CoreError.{CoreError}
-use Rattle.thy_view.specs.declared.error.CoreError.TheVariants.{Nvm as NvmFailed, Memory as NoMemory}
-use Rattle.thy_view.specs.Kind.{HasFailedToRead, KindOf, IsLawful, IsStep, CanStep}
-use Rattle.thy_view.proofs.AgainLaws.{goes_on_after_cut}
+use Rattle.thy_computer.specs.declared.did.Did.{Did}
+use Rattle.thy_computer.specs.declared.did.Did.TheVariants.{Loaded, Restarted, Retired, Sealed, Committed}
+use Rattle.thy_computer.specs.declared.did.Stepped.{Stepped}
+use Rattle.thy_computer.specs.declared.view.View.{View}
+use Rattle.thy_computer.specs.Booting.{view_of_image}
+use Rattle.thy_computer.specs.Origin.{Begins, Origin, at}
+use Rattle.thy_computer.specs.CoreStep.{CoreStep}
+use Rattle.thy_computer.specs.WithTurns.{AgreeBelow, reach, IsAtWork, IsThere, HasTurn}
+use Rattle.thy_computer.specs.Views.{is_halt, halts, loads}
+use Rattle.thy_computer.specs.Safe.{ceiling}
+use Rattle.thy_computer.specs.declared.error.CoreError.{CoreError}
+use Rattle.thy_computer.specs.declared.error.CoreError.TheVariants.{Nvm as NvmFailed, Memory as NoMemory}
+use Rattle.thy_computer.specs.Kind.{HasFailedToRead, KindOf, IsLawful, IsStep, CanStep}
+use Rattle.thy_computer.proofs.AgainLaws.{goes_on_after_cut}
 use Rattle.thy_run.specs.Laws.{marks_of, released_of}
 use Rattle.thy_run.specs.Cuts.{is_end}
 use Rattle.thy_run.specs.Due.{due_of, is_reported, shows_console, IsQuiet, IsReported}

@@ -7,13 +7,13 @@ use Rattle.thy_block.proofs.BasicLemmas.{some_same}
 use Rattle.thy_isa.specs.Step.{State, is_running}
 use Rattle.thy_layout.specs.Decoded.{Decoded, Nothing as NothingLeft, Refused as RefusedImage, At}
 use Rattle.thy_text.specs.Marks.{Marks}
-use Rattle.thy_view.specs.declared.view.Phase.{Phase}
-use Rattle.thy_view.specs.declared.view.Phase.TheVariants.{Boot as BootPhase, Run, Halt}
-use Rattle.thy_view.specs.declared.view.View.{View}
-use Rattle.thy_view.specs.Origin.{Origin, runs_at}
-use Rattle.thy_view.specs.WithTurns.{with_turns, AgreeBelow, count_of, reach}
-use Rattle.thy_view.proofs.ReachLaws.{reach-count, reach-boot}
-use Rattle.thy_view.proofs.TurnLaws.{AgreeBelow-less, at-agrees}
+use Rattle.thy_computer.specs.declared.view.Phase.{Phase}
+use Rattle.thy_computer.specs.declared.view.Phase.TheVariants.{Boot as BootPhase, Run, Halt}
+use Rattle.thy_computer.specs.declared.view.View.{View}
+use Rattle.thy_computer.specs.Origin.{Origin, runs_at}
+use Rattle.thy_computer.specs.WithTurns.{with_turns, AgreeBelow, count_of, reach}
+use Rattle.thy_computer.proofs.ReachLaws.{reach-count, reach-boot}
+use Rattle.thy_computer.proofs.TurnLaws.{AgreeBelow-less, at-agrees}
 use Rattle.thy_run.specs.Images.{Found}
 use Rattle.thy_run.proofs.Fitting.{OverFits, Loading, Recovering, Follows, RunFits, FitsIn, Fits}
 use Rattle.thy_run.proofs.ImageLaws.{IsFound, ImagesFit}

@@ -13,21 +13,21 @@ use Rattle.thy_block.specs.Mix.{mix_pick}
 use Rattle.thy_block.proofs.RangeLemmas.{epoch_least}
 use Rattle.thy_text.specs.Event.{Event}
 use Rattle.thy_text.specs.Marks.{Marks}
-use Rattle.thy_view.specs.declared.did.Did.{Did}
-use Rattle.thy_view.specs.declared.did.Stall.{Stall}
-use Rattle.thy_view.specs.declared.did.Stall.TheVariants.{Sealing, Waiting}
-use Rattle.thy_view.specs.declared.did.Stepped.{Stepped}
-use Rattle.thy_view.specs.declared.view.Phase.{Phase}
-use Rattle.thy_view.specs.declared.view.Phase.TheVariants.{Boot, Run, Halt}
-use Rattle.thy_view.specs.declared.view.View.{View}
-use Rattle.thy_view.specs.Kind.{KindOf, IsLawful}
-use Rattle.thy_view.specs.Origin.{Origin, IsOrigin}
-use Rattle.thy_view.specs.Safe.{ceiling}
-use Rattle.thy_view.specs.WithTurns.{with_turns, AgreeBelow, reach, reach_in}
-use Rattle.thy_view.specs.NextActor.{Actor, Checkpoint, Nvm, Dram, Pressure, has_stopped, stall_in, advancing, hart_at, hart_actor, engine_actor, actor_of, stall_at}
-use Rattle.thy_view.specs.Views.{halts}
-use Rattle.thy_view.proofs.ActionLemmas.{says-after, says-cut}
-use Rattle.thy_view.proofs.TurnLaws.{AgreeBelow-less}
+use Rattle.thy_computer.specs.declared.did.Did.{Did}
+use Rattle.thy_computer.specs.declared.did.Stall.{Stall}
+use Rattle.thy_computer.specs.declared.did.Stall.TheVariants.{Sealing, Waiting}
+use Rattle.thy_computer.specs.declared.did.Stepped.{Stepped}
+use Rattle.thy_computer.specs.declared.view.Phase.{Phase}
+use Rattle.thy_computer.specs.declared.view.Phase.TheVariants.{Boot, Run, Halt}
+use Rattle.thy_computer.specs.declared.view.View.{View}
+use Rattle.thy_computer.specs.Kind.{KindOf, IsLawful}
+use Rattle.thy_computer.specs.Origin.{Origin, IsOrigin}
+use Rattle.thy_computer.specs.Safe.{ceiling}
+use Rattle.thy_computer.specs.WithTurns.{with_turns, AgreeBelow, reach, reach_in}
+use Rattle.thy_computer.specs.NextActor.{Actor, Checkpoint, Nvm, Dram, Pressure, has_stopped, stall_in, advancing, hart_at, hart_actor, engine_actor, actor_of, stall_at}
+use Rattle.thy_computer.specs.Views.{halts}
+use Rattle.thy_computer.proofs.ActionLemmas.{says-after, says-cut}
+use Rattle.thy_computer.proofs.TurnLaws.{AgreeBelow-less}
 use Rattle.thy_run.specs.Alike.{AreLeftAlike, TwoRunsAreOne, TwoRunsShowOne}
 use Rattle.thy_run.specs.Laws.{marks_of}
 use Rattle.thy_run.specs.Watching.{Taken, taken, taken_in, IsListed}

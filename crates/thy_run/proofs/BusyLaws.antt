@@ -4,16 +4,16 @@ use Rattle.std.specs.Prelude.{slice_index, MatchBool}
 use Rattle.std.proofs.lemmas.Bool.{and_parts, eqb-true, ltb-true}
 use Rattle.thy_block.specs.Device.{Device}
 use Rattle.thy_layout.specs.Decoded.{Decoded, Nothing as NothingLeft, Refused as RefusedImage, At}
-use Rattle.thy_view.specs.declared.did.Did.TheVariants.{Nothing}
-use Rattle.thy_view.specs.declared.view.Phase.{Phase}
-use Rattle.thy_view.specs.declared.view.Phase.TheVariants.{Boot as BootPhase, Run, Halt}
-use Rattle.thy_view.specs.declared.view.View.{View}
-use Rattle.thy_view.specs.Booting.{view_of_image}
-use Rattle.thy_view.specs.CoreStep.{CoreStep}
-use Rattle.thy_view.specs.Kind.{KindOf, IsLawful, IsPoweredOn}
-use Rattle.thy_view.specs.Origin.{Origin}
-use Rattle.thy_view.specs.Pace.{is_drained}
-use Rattle.thy_view.specs.Views.{is_boot, is_halt}
+use Rattle.thy_computer.specs.declared.did.Did.TheVariants.{Nothing}
+use Rattle.thy_computer.specs.declared.view.Phase.{Phase}
+use Rattle.thy_computer.specs.declared.view.Phase.TheVariants.{Boot as BootPhase, Run, Halt}
+use Rattle.thy_computer.specs.declared.view.View.{View}
+use Rattle.thy_computer.specs.Booting.{view_of_image}
+use Rattle.thy_computer.specs.CoreStep.{CoreStep}
+use Rattle.thy_computer.specs.Kind.{KindOf, IsLawful, IsPoweredOn}
+use Rattle.thy_computer.specs.Origin.{Origin}
+use Rattle.thy_computer.specs.Pace.{is_drained}
+use Rattle.thy_computer.specs.Views.{is_boot, is_halt}
 use Rattle.thy_run.specs.Progress.{last_of, cycles_for, Tally, nothing_done, one_if, counted, tally_of, RunIsBusy, RunNeverRests}
 use Rattle.thy_run.specs.World.{World, Given, line, seen, TakesStep, is_due, IsCutOff, tear, Ran}
 use Rattle.thy_run.proofs.StepAlong.{core_of}

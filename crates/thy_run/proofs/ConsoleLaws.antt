@@ -6,21 +6,21 @@ use Rattle.std.proofs.Math.Seq.{drop-append_seam}
 use Rattle.thy_block.specs.declared.mark.Mark.{Mark}
 use Rattle.thy_isa.specs.Step.{State}
 use Rattle.thy_isa.proofs.StorableLaws.{step-console, step-room}
-use Rattle.thy_view.specs.WithTurns.{with_turns}
-use Rattle.thy_view.proofs.TurnLaws.{at-keeps, at-holds, IsOrigin-with_turns}
-use Rattle.thy_view.specs.Kind.{KindOf}
+use Rattle.thy_computer.specs.WithTurns.{with_turns}
+use Rattle.thy_computer.proofs.TurnLaws.{at-keeps, at-holds, IsOrigin-with_turns}
+use Rattle.thy_computer.specs.Kind.{KindOf}
 use Rattle.thy_text.specs.Event.{Event, Cut, Reload, Ended}
 use Rattle.thy_text.specs.Marks.{Marks, marks_from}
 use Rattle.thy_text.specs.Released.{shows, console_of, console_kept}
 use Rattle.thy_text.proofs.Histories.{marks_from-append}
-use Rattle.thy_view.specs.declared.did.Did.{Did}
-use Rattle.thy_view.specs.declared.did.Did.TheVariants.{Boot, Loaded, Restarted, Refused, Moved, Retired, Flushed, Merged, Sealed, Promoted, Engine, Committed, NvmDrained, DramDrained, Nothing}
-use Rattle.thy_view.specs.declared.view.Phase.TheVariants.{Boot as BootPhase}
-use Rattle.thy_view.specs.declared.view.View.{View}
+use Rattle.thy_computer.specs.declared.did.Did.{Did}
+use Rattle.thy_computer.specs.declared.did.Did.TheVariants.{Boot, Loaded, Restarted, Refused, Moved, Retired, Flushed, Merged, Sealed, Promoted, Engine, Committed, NvmDrained, DramDrained, Nothing}
+use Rattle.thy_computer.specs.declared.view.Phase.TheVariants.{Boot as BootPhase}
+use Rattle.thy_computer.specs.declared.view.View.{View}
 use Rattle.thy_block.specs.Marks.{mark}
-use Rattle.thy_view.specs.Views.{loads, halts}
-use Rattle.thy_view.specs.CoreStep.{CoreStep}
-use Rattle.thy_view.specs.Origin.{Origin, at, setting_of, IsOrigin}
+use Rattle.thy_computer.specs.Views.{loads, halts}
+use Rattle.thy_computer.specs.CoreStep.{CoreStep}
+use Rattle.thy_computer.specs.Origin.{Origin, at, setting_of, IsOrigin}
 use Rattle.thy_run.specs.Due.{console_at, console_shown, shows_console, due_of}
 use Rattle.thy_run.specs.Laws.{first_marks, marks_of, released_of}
 use Rattle.thy_run.specs.World.{World, line, seen, did_events, reload_events, end_events, events_of, TakesStep}

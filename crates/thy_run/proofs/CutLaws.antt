@@ -6,16 +6,16 @@ use Rattle.thy_block.specs.Marks.{mark}
 use Rattle.thy_block.proofs.BasicLemmas.{some_same}
 use Rattle.thy_layout.specs.Decoded.{Decoded, Reading, Nothing as NothingLeft, Refused as RefusedImage, At}
 use Rattle.thy_text.specs.Marks.{Marks, loading_marks, turns_of}
-use Rattle.thy_view.specs.declared.view.Phase.{Phase}
-use Rattle.thy_view.specs.declared.view.Phase.TheVariants.{Boot as BootPhase, Run, Halt}
-use Rattle.thy_view.specs.declared.view.View.{View}
-use Rattle.thy_view.specs.Booting.{view_of_image}
-use Rattle.thy_view.specs.Origin.{Origin}
-use Rattle.thy_view.specs.Safe.{ceiling, Safe, IsOneOf}
-use Rattle.thy_view.specs.WithTurns.{with_turns, AgreeBelow, count_of, reach}
-use Rattle.thy_view.specs.Views.{doubt_of}
-use Rattle.thy_view.proofs.ReachLaws.{reach-count, reach-boot}
-use Rattle.thy_view.proofs.TurnLaws.{AgreeBelow-less, at-agrees}
+use Rattle.thy_computer.specs.declared.view.Phase.{Phase}
+use Rattle.thy_computer.specs.declared.view.Phase.TheVariants.{Boot as BootPhase, Run, Halt}
+use Rattle.thy_computer.specs.declared.view.View.{View}
+use Rattle.thy_computer.specs.Booting.{view_of_image}
+use Rattle.thy_computer.specs.Origin.{Origin}
+use Rattle.thy_computer.specs.Safe.{ceiling, Safe, IsOneOf}
+use Rattle.thy_computer.specs.WithTurns.{with_turns, AgreeBelow, count_of, reach}
+use Rattle.thy_computer.specs.Views.{doubt_of}
+use Rattle.thy_computer.proofs.ReachLaws.{reach-count, reach-boot}
+use Rattle.thy_computer.proofs.TurnLaws.{AgreeBelow-less, at-agrees}
 use Rattle.thy_run.specs.Laws.{MayStand, IsSafe, course_of}
 use Rattle.thy_run.proofs.CoverLaws.{doubt_sealed, Covers-sealed, Covers-fits}
 use Rattle.thy_run.proofs.Fitting.{IsEither, Rises, Follows, RunFits, FitsIn, Fits}

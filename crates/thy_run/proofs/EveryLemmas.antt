@@ -1,8 +1,8 @@
 -- What a device makes of its number of writes between two moves.
 use Rattle.std.proofs.Common.{Bool, true, false, if◌then◌else◌, Option, ℕ, ◌≡◌, ◌∙◌, ap, refl, inl, inr}
 use Rattle.thy_block.specs.Device.{Device, Wear, Plain, Levels, Unsaid, CutsWear, moved_on, moves_next, unworn, worn}
-use Rattle.thy_view.specs.Action.{Action, Rest, ReadAt, WriteAt, Barrier, Drain, IsAfter, FailsTo, after}
-use Rattle.thy_view.proofs.ActionLemmas.{after-is}
+use Rattle.thy_computer.specs.Action.{Action, Rest, ReadAt, WriteAt, Barrier, Drain, IsAfter, FailsTo, after}
+use Rattle.thy_computer.proofs.ActionLemmas.{after-is}
 use Rattle.thy_run.specs.Every.{every_of}
 
 every-worn : (w : Wear) → every_of (worn w) ≡ every_of w

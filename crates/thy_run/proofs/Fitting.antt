@@ -4,12 +4,12 @@ use Rattle.thy_block.specs.declared.cause.EndCause.{EndCause}
 use Rattle.thy_block.specs.declared.cause.EndCause.TheVariants.{Length, Exhausted, Ended as EndedCause}
 use Rattle.thy_block.specs.declared.mark.Mark.{Mark}
 use Rattle.thy_text.specs.Marks.{Marks, loading_marks}
-use Rattle.thy_view.specs.declared.view.Phase.{Phase}
-use Rattle.thy_view.specs.declared.view.Phase.TheVariants.{Boot as BootPhase, Run, Halt}
-use Rattle.thy_view.specs.declared.view.View.{View}
+use Rattle.thy_computer.specs.declared.view.Phase.{Phase}
+use Rattle.thy_computer.specs.declared.view.Phase.TheVariants.{Boot as BootPhase, Run, Halt}
+use Rattle.thy_computer.specs.declared.view.View.{View}
 use Rattle.thy_block.specs.Marks.{mark}
-use Rattle.thy_view.specs.CoreStep.{IsShort}
-use Rattle.thy_view.specs.Origin.{Origin, runs_at}
+use Rattle.thy_computer.specs.CoreStep.{IsShort}
+use Rattle.thy_computer.specs.Origin.{Origin, runs_at}
 
 -- why the epoch is over fits the instructions that were retired in it
 abbrev pub OverFits : Origin → ℕ → ℕ → Option EndCause → Type 0

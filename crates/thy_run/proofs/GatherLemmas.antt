@@ -4,15 +4,15 @@ use Rattle.std.proofs.lemmas.Bool.{and_parts}
 use Rattle.thy_block.specs.declared.mark.Mark.{Mark}
 use Rattle.thy_isa.specs.declared.state.MachState.{MachState}
 use Rattle.thy_text.specs.Event.{Event}
-use Rattle.thy_view.specs.declared.did.Did.{Did}
-use Rattle.thy_view.specs.declared.did.Did.TheVariants.{Boot, Loaded, Restarted, Refused, Moved, Retired, Flushed, Merged, Sealed, Promoted, Engine, Committed, NvmDrained, DramDrained, Nothing}
-use Rattle.thy_view.specs.declared.view.Phase.TheVariants.{Run, Halt}
-use Rattle.thy_view.specs.declared.view.View.{View}
+use Rattle.thy_computer.specs.declared.did.Did.{Did}
+use Rattle.thy_computer.specs.declared.did.Did.TheVariants.{Boot, Loaded, Restarted, Refused, Moved, Retired, Flushed, Merged, Sealed, Promoted, Engine, Committed, NvmDrained, DramDrained, Nothing}
+use Rattle.thy_computer.specs.declared.view.Phase.TheVariants.{Run, Halt}
+use Rattle.thy_computer.specs.declared.view.View.{View}
 use Rattle.thy_block.specs.Marks.{mark}
-use Rattle.thy_view.specs.Views.{is_boot, is_halt, is_between, halts}
-use Rattle.thy_view.specs.CoreStep.{CoreStep}
-use Rattle.thy_view.specs.Origin.{Origin, at, runs_at}
-use Rattle.thy_view.specs.Kind.{IsSnapshot}
+use Rattle.thy_computer.specs.Views.{is_boot, is_halt, is_between, halts}
+use Rattle.thy_computer.specs.CoreStep.{CoreStep}
+use Rattle.thy_computer.specs.Origin.{Origin, at, runs_at}
+use Rattle.thy_computer.specs.Kind.{IsSnapshot}
 use Rattle.thy_run.specs.Due.{console_at, console_shown, shows_console, due_of}
 use Rattle.thy_run.specs.Laws.{released_of}
 use Rattle.thy_run.specs.Going.{Restores}

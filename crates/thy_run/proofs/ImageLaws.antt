@@ -6,17 +6,17 @@ use Rattle.thy_block.specs.declared.block.Block.{Block}
 use Rattle.thy_block.specs.declared.mark.Mark.{Mark}
 use Rattle.thy_layout.specs.Decoded.{Decoded, Nothing as NothingLeft, Refused as RefusedImage, At}
 use Rattle.thy_text.specs.Event.{Event, Reload, Ended}
-use Rattle.thy_view.specs.declared.did.Did.{Did}
-use Rattle.thy_view.specs.declared.did.Did.TheVariants.{Boot, Loaded, Restarted, Refused, Moved, Retired, Flushed, Merged, Sealed, Promoted, Engine, Committed, NvmDrained, DramDrained, Nothing}
+use Rattle.thy_computer.specs.declared.did.Did.{Did}
+use Rattle.thy_computer.specs.declared.did.Did.TheVariants.{Boot, Loaded, Restarted, Refused, Moved, Retired, Flushed, Merged, Sealed, Promoted, Engine, Committed, NvmDrained, DramDrained, Nothing}
 use Rattle.thy_layout.specs.declared.engine_step.EngineStep.{EngineStep}
 use Rattle.thy_layout.specs.declared.engine_step.EngineStep.TheVariants.{Idle, Copied, PageBlock, StateBlock, TableBlock, Barrier, CommitWritten, Committed as EngineCommitted}
-use Rattle.thy_view.specs.declared.view.Phase.TheVariants.{Boot as BootPhase}
-use Rattle.thy_view.specs.declared.view.View.{View}
+use Rattle.thy_computer.specs.declared.view.Phase.TheVariants.{Boot as BootPhase}
+use Rattle.thy_computer.specs.declared.view.View.{View}
 use Rattle.thy_block.specs.Marks.{mark}
 use Rattle.thy_block.proofs.BasicLemmas.{some_same}
-use Rattle.thy_view.specs.Views.{is_boot, is_halt, loads, halts}
-use Rattle.thy_view.specs.CoreStep.{busier, BootsTo, MovesTo, EngineTo, CoreStep}
-use Rattle.thy_view.specs.Origin.{Origin, at}
+use Rattle.thy_computer.specs.Views.{is_boot, is_halt, loads, halts}
+use Rattle.thy_computer.specs.CoreStep.{busier, BootsTo, MovesTo, EngineTo, CoreStep}
+use Rattle.thy_computer.specs.Origin.{Origin, at}
 use Rattle.thy_run.specs.Images.{Found, found, HasLeft, AllFit}
 use Rattle.thy_run.specs.World.{did_events, reload_events, end_events, events_of}
 use Rattle.thy_run.proofs.EventLaws.{reported-booting, loads-view}

@@ -5,12 +5,12 @@ use Rattle.std.proofs.lemmas.List.{length-append, length-drop, drop_all, nil_fro
 use Rattle.thy_block.specs.declared.mark.Mark.{Mark}
 use Rattle.thy_block.specs.Marks.{mark}
 use Rattle.thy_text.specs.Marks.{Marks, is_mark, turns_of, turns_listed}
-use Rattle.thy_view.specs.declared.view.Phase.{Phase}
-use Rattle.thy_view.specs.declared.view.Phase.TheVariants.{Boot as BootPhase, Run, Halt}
-use Rattle.thy_view.specs.declared.view.View.{View}
-use Rattle.thy_view.specs.Origin.{Origin, at}
-use Rattle.thy_view.specs.WithTurns.{with_turns, AgreeBelow}
-use Rattle.thy_view.proofs.TurnLaws.{AgreeBelow-same, turn_early, joined-agrees, at-agrees}
+use Rattle.thy_computer.specs.declared.view.Phase.{Phase}
+use Rattle.thy_computer.specs.declared.view.Phase.TheVariants.{Boot as BootPhase, Run, Halt}
+use Rattle.thy_computer.specs.declared.view.View.{View}
+use Rattle.thy_computer.specs.Origin.{Origin, at}
+use Rattle.thy_computer.specs.WithTurns.{with_turns, AgreeBelow}
+use Rattle.thy_computer.proofs.TurnLaws.{AgreeBelow-same, turn_early, joined-agrees, at-agrees}
 use Rattle.thy_run.proofs.Fitting.{IsEither}
 
 -- turns reach a count: their number is the one that is reported up to it, and they agree with the run's

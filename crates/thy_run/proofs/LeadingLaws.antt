@@ -9,17 +9,17 @@ use Rattle.thy_isa.specs.Step.{State, is_running}
 use Rattle.thy_text.specs.Event.{Event, Ended}
 use Rattle.thy_text.specs.Marks.{Marks, loading_marks, marks_from, turns_of, turns_listed, FitsCause, EndsEpoch, AllLawful}
 use Rattle.thy_text.proofs.Histories.{marks_from-append, AllLawful-append}
-use Rattle.thy_view.specs.declared.did.Did.{Did}
-use Rattle.thy_view.specs.declared.did.Did.TheVariants.{Boot, Loaded, Restarted, Refused, Moved, Retired, Flushed, Merged, Sealed, Promoted, Engine, Committed, NvmDrained, DramDrained, Nothing}
-use Rattle.thy_view.specs.declared.view.Phase.{Phase}
-use Rattle.thy_view.specs.declared.view.Phase.TheVariants.{Boot as BootPhase, Run, Halt}
-use Rattle.thy_view.specs.declared.view.View.{View}
-use Rattle.thy_view.specs.CoreStep.{CoreStep}
-use Rattle.thy_view.specs.Origin.{Origin, at, runs_at}
-use Rattle.thy_view.specs.Pace.{retires}
-use Rattle.thy_view.specs.WithTurns.{with_turns, count_of}
-use Rattle.thy_view.specs.Views.{halts}
-use Rattle.thy_view.proofs.ReachLaws.{reach-count, runs_behind, runs_or_halts}
+use Rattle.thy_computer.specs.declared.did.Did.{Did}
+use Rattle.thy_computer.specs.declared.did.Did.TheVariants.{Boot, Loaded, Restarted, Refused, Moved, Retired, Flushed, Merged, Sealed, Promoted, Engine, Committed, NvmDrained, DramDrained, Nothing}
+use Rattle.thy_computer.specs.declared.view.Phase.{Phase}
+use Rattle.thy_computer.specs.declared.view.Phase.TheVariants.{Boot as BootPhase, Run, Halt}
+use Rattle.thy_computer.specs.declared.view.View.{View}
+use Rattle.thy_computer.specs.CoreStep.{CoreStep}
+use Rattle.thy_computer.specs.Origin.{Origin, at, runs_at}
+use Rattle.thy_computer.specs.Pace.{retires}
+use Rattle.thy_computer.specs.WithTurns.{with_turns, count_of}
+use Rattle.thy_computer.specs.Views.{halts}
+use Rattle.thy_computer.proofs.ReachLaws.{reach-count, runs_behind, runs_or_halts}
 use Rattle.thy_run.specs.Going.{HasItsTurns}
 use Rattle.thy_run.specs.Laws.{course_of}
 use Rattle.thy_run.specs.World.{turns_behind, did_events, reload_events, end_events, events_of}

@@ -5,12 +5,12 @@ use Rattle.std.proofs.lemmas.Bool.{or_from}
 use Rattle.std.proofs.lemmas.List.Folds.{list_any-append}
 use Rattle.thy_text.specs.Event.{Event, Reload}
 use Rattle.thy_isa.specs.declared.state.MachState.{MachState}
-use Rattle.thy_view.specs.declared.did.Did.{Did}
-use Rattle.thy_view.specs.declared.did.Did.TheVariants.{Loaded, Restarted, Committed}
-use Rattle.thy_view.specs.declared.did.Stepped.{Stepped}
-use Rattle.thy_view.specs.declared.view.View.{View}
-use Rattle.thy_view.specs.Views.{loads, halts}
-use Rattle.thy_view.specs.Origin.{Origin}
+use Rattle.thy_computer.specs.declared.did.Did.{Did}
+use Rattle.thy_computer.specs.declared.did.Did.TheVariants.{Loaded, Restarted, Committed}
+use Rattle.thy_computer.specs.declared.did.Stepped.{Stepped}
+use Rattle.thy_computer.specs.declared.view.View.{View}
+use Rattle.thy_computer.specs.Views.{loads, halts}
+use Rattle.thy_computer.specs.Origin.{Origin}
 use Rattle.thy_run.specs.Cuts.{is_end, has_ended}
 use Rattle.thy_run.specs.World.{did_events, reload_events, end_events, events_of}
 use Rattle.thy_run.proofs.WorldLaws.{report_is_uncut, reload_uncut}

@@ -4,14 +4,14 @@ use Rattle.thy_block.specs.Counts.{Rose}
 use Rattle.thy_block.specs.Device.{Device}
 use Rattle.thy_block.specs.Outside.{Stream, Took}
 use Rattle.thy_block.proofs.Streams.{Took-append}
-use Rattle.thy_view.specs.Kind.{KindOf, IsLawful}
+use Rattle.thy_computer.specs.Kind.{KindOf, IsLawful}
 use Rattle.thy_text.specs.declared.reporting.Reporting.{Reporting}
 use Rattle.thy_text.specs.Event.{Event}
 use Rattle.thy_text.specs.Lines.{report_of}
 use Rattle.thy_run.specs.Laws.{released_of}
 use Rattle.thy_isa.specs.declared.state.Status.{Status}
-use Rattle.thy_view.specs.declared.did.Stepped.{Stepped}
-use Rattle.thy_view.specs.Views.{is_halt}
+use Rattle.thy_computer.specs.declared.did.Stepped.{Stepped}
+use Rattle.thy_computer.specs.Views.{is_halt}
 use Rattle.thy_run.specs.World.{Ran, seen}
 use Rattle.thy_run.specs.declared.advance.Outcome.TheVariants.{Breaks as BreaksOff}
 use Rattle.thy_run.specs.declared.ending.Ending.{Ending}

@@ -6,15 +6,15 @@ use Rattle.thy_block.specs.Device.{Device}
 use Rattle.thy_layout.specs.Decoded.{Reading}
 use Rattle.thy_text.specs.Event.{Event}
 use Rattle.thy_text.specs.Marks.{Marks, marks_from}
-use Rattle.thy_view.specs.declared.did.Did.{Did}
-use Rattle.thy_view.specs.declared.did.Did.TheVariants.{Sealed}
-use Rattle.thy_view.specs.declared.view.View.{View}
-use Rattle.thy_view.specs.Action.{Action, is_commit_write, doubt_after_fault}
-use Rattle.thy_view.specs.CoreStep.{CoreStep}
-use Rattle.thy_view.specs.Origin.{Origin}
-use Rattle.thy_view.specs.Pace.{retires}
-use Rattle.thy_view.specs.Safe.{Safe}
-use Rattle.thy_view.specs.Views.{doubt_of}
+use Rattle.thy_computer.specs.declared.did.Did.{Did}
+use Rattle.thy_computer.specs.declared.did.Did.TheVariants.{Sealed}
+use Rattle.thy_computer.specs.declared.view.View.{View}
+use Rattle.thy_computer.specs.Action.{Action, is_commit_write, doubt_after_fault}
+use Rattle.thy_computer.specs.CoreStep.{CoreStep}
+use Rattle.thy_computer.specs.Origin.{Origin}
+use Rattle.thy_computer.specs.Pace.{retires}
+use Rattle.thy_computer.specs.Safe.{Safe}
+use Rattle.thy_computer.specs.Views.{doubt_of}
 use Rattle.thy_run.specs.Laws.{IsSafe}
 use Rattle.thy_run.specs.World.{did_events, events_of}
 use Rattle.thy_run.proofs.CoverLaws.{Covers-fault, Covers-before, doubt_sealed, marks-part}

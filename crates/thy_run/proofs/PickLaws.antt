@@ -2,8 +2,8 @@
 use Rattle.std.proofs.Common.{◌≡◌, ℕ, zero, suc, ◌+◌, Bool, true, false, MatchBool, List, [], ◌∷◌, ◌++◌, length, sym, ◌∙◌, ap, subst, arith}
 use Rattle.thy_block.specs.Device.{Device, IsFramed, cut_to}
 use Rattle.thy_run.proofs.EveryLemmas.{every-cut}
-use Rattle.thy_view.specs.Kind.{KindOf}
-use Rattle.thy_view.specs.Origin.{Origin}
+use Rattle.thy_computer.specs.Kind.{KindOf}
+use Rattle.thy_computer.specs.Origin.{Origin}
 use Rattle.thy_run.specs.Every.{every_of}
 use Rattle.thy_run.specs.Laws.{torn}
 use Rattle.thy_run.specs.World.{World, Given, TakesStep, is_due, IsCutOff, tear, Ran}

@@ -5,18 +5,18 @@ use Rattle.std.proofs.lemmas.List.Folds.{list_any-append}
 use Rattle.thy_block.specs.declared.block.Block.{Block}
 use Rattle.thy_block.specs.declared.mark.Mark.{Mark}
 use Rattle.thy_block.specs.Device.{Device}
-use Rattle.thy_view.specs.Kind.{KindOf, IsLawful}
+use Rattle.thy_computer.specs.Kind.{KindOf, IsLawful}
 use Rattle.thy_text.specs.Event.{Event}
 use Rattle.thy_text.specs.Marks.{Marks, Course, marks_from, marks_after, AllLawful}
 use Rattle.thy_text.specs.OneHart.{HasNoTurns}
 use Rattle.thy_text.proofs.Histories.{marks_from-append}
-use Rattle.thy_view.specs.CoreStep.{CoreStep}
-use Rattle.thy_view.specs.Origin.{Origin}
+use Rattle.thy_computer.specs.CoreStep.{CoreStep}
+use Rattle.thy_computer.specs.Origin.{Origin}
 use Rattle.thy_layout.specs.Decoded.{Decoded}
-use Rattle.thy_view.specs.Safe.{ceiling, Safe}
-use Rattle.thy_view.specs.Views.{doubt_of}
+use Rattle.thy_computer.specs.Safe.{ceiling, Safe}
+use Rattle.thy_computer.specs.Views.{doubt_of}
 use Rattle.thy_run.proofs.EveryLemmas.{every-failed}
-use Rattle.thy_view.proofs.SafeLemmas.{Safe-failed}
+use Rattle.thy_computer.proofs.SafeLemmas.{Safe-failed}
 use Rattle.thy_run.specs.Every.{every_of}
 use Rattle.thy_run.specs.Cuts.{is_end, has_ended, cuts_among, numbered, last_cuttable, cuts_up_to}
 use Rattle.thy_run.specs.Images.{Found, HasLeft, AllFit}

@@ -13,11 +13,11 @@ use Rattle.thy_block.specs.Mix.{mix_pick, mix_next}
 use Rattle.thy_block.specs.Outside.{Stream, Took}
 use Rattle.thy_text.specs.Lines.{report_of}
 use Rattle.thy_text.specs.Event.{Event}
-use Rattle.thy_view.specs.declared.did.Advance.{Advance}
-use Rattle.thy_view.specs.declared.did.Stepped.{Stepped}
-use Rattle.thy_view.specs.declared.did.Advance.TheVariants.{Moved}
-use Rattle.thy_view.specs.Advances.{did_of, stepped_of, row_by, SimulatesRow}
-use Rattle.thy_view.specs.Kind.{KindOf, IsLawful, Simulates}
+use Rattle.thy_computer.specs.declared.did.Advance.{Advance}
+use Rattle.thy_computer.specs.declared.did.Stepped.{Stepped}
+use Rattle.thy_computer.specs.declared.did.Advance.TheVariants.{Moved}
+use Rattle.thy_computer.specs.Advances.{did_of, stepped_of, row_by, SimulatesRow}
+use Rattle.thy_computer.specs.Kind.{KindOf, IsLawful, Simulates}
 use Rattle.thy_run.specs.declared.plan.Plan.{Plan}
 use Rattle.thy_run.specs.declared.progress.Progress.{Progress}
 use Rattle.thy_run.specs.Due.{IsQuiet, AreQuietBelow}

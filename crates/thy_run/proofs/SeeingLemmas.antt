@@ -2,9 +2,9 @@
 use Rattle.std.proofs.Common.{◌≡◌, ℕ, suc, zero, ◌+◌, ◌-◌, Bool, true, None, List, [], ◌∷◌, ◌++◌, length, refl, sym, ◌∙◌, ap, subst, length-append, arith}
 use Rattle.thy_block.specs.Device.{Device}
 use Rattle.thy_block.specs.Outside.{Stream}
-use Rattle.thy_view.specs.declared.did.Stepped.{Stepped}
-use Rattle.thy_view.specs.Kind.{KindOf, IsLawful}
-use Rattle.thy_view.specs.Origin.{Origin}
+use Rattle.thy_computer.specs.declared.did.Stepped.{Stepped}
+use Rattle.thy_computer.specs.Kind.{KindOf, IsLawful}
+use Rattle.thy_computer.specs.Origin.{Origin}
 use Rattle.thy_run.specs.declared.ending.Ending.{Ending}
 use Rattle.thy_run.specs.declared.plan.Plan.{Plan}
 use Rattle.thy_run.specs.declared.progress.Progress.{Progress}

@@ -6,9 +6,9 @@ use Rattle.thy_block.specs.Device.{Device}
 use Rattle.thy_block.specs.Outside.{Stream, Took}
 use Rattle.thy_text.specs.Event.{Event}
 use Rattle.thy_text.specs.Lines.{report_of}
-use Rattle.thy_view.specs.Kind.{KindOf, IsLawful}
-use Rattle.thy_view.specs.Origin.{Origin}
-use Rattle.thy_view.specs.declared.did.Stepped.{Stepped}
+use Rattle.thy_computer.specs.Kind.{KindOf, IsLawful}
+use Rattle.thy_computer.specs.Origin.{Origin}
+use Rattle.thy_computer.specs.declared.did.Stepped.{Stepped}
 use Rattle.thy_run.specs.declared.ending.Stop.TheVariants.{Nvm}
 use Rattle.thy_run.specs.declared.plan.Plan.{Plan}
 use Rattle.thy_run.specs.declared.progress.Progress.{Progress}

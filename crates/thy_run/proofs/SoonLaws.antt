@@ -4,18 +4,18 @@ use Rattle.std.specs.Prelude.{◌≢◌, MatchBool}
 use Rattle.std.proofs.Math.Nat.{mul-le-mul_left}
 use Rattle.thy_block.specs.declared.mark.Mark.{Mark}
 use Rattle.thy_layout.specs.Decoded.{Decoded, Nothing as NothingLeft, Refused as RefusedImage, At}
-use Rattle.thy_view.specs.declared.did.Did.{Did}
-use Rattle.thy_view.specs.declared.view.View.{View}
-use Rattle.thy_view.specs.Booting.{found_first, loading_view, view_of_image}
-use Rattle.thy_view.specs.CoreStep.{CoreStep}
-use Rattle.thy_view.specs.Kind.{KindOf, IsLawful}
-use Rattle.thy_view.specs.Origin.{Origin, runs_at}
-use Rattle.thy_view.specs.Pace.{retires}
-use Rattle.thy_view.specs.Safe.{IsOneOf}
-use Rattle.thy_view.specs.WithTurns.{with_turns}
+use Rattle.thy_computer.specs.declared.did.Did.{Did}
+use Rattle.thy_computer.specs.declared.view.View.{View}
+use Rattle.thy_computer.specs.Booting.{found_first, loading_view, view_of_image}
+use Rattle.thy_computer.specs.CoreStep.{CoreStep}
+use Rattle.thy_computer.specs.Kind.{KindOf, IsLawful}
+use Rattle.thy_computer.specs.Origin.{Origin, runs_at}
+use Rattle.thy_computer.specs.Pace.{retires}
+use Rattle.thy_computer.specs.Safe.{IsOneOf}
+use Rattle.thy_computer.specs.WithTurns.{with_turns}
 use Rattle.thy_block.specs.Marks.{mark}
 use Rattle.thy_block.proofs.BasicLemmas.{not_both}
-use Rattle.thy_view.specs.Views.{is_boot, doubt_of}
+use Rattle.thy_computer.specs.Views.{is_boot, doubt_of}
 use Rattle.thy_run.specs.Progress.{RunIsSoonOver, Tally, nothing_done, counted, tally_of}
 use Rattle.thy_run.specs.World.{World, Given, seen, TakesStep, is_due, IsCutOff, tear, Ran}
 use Rattle.thy_run.proofs.StepKinds.{Kind, keeps, loads, restores, advances, seals, commits, kind_of}

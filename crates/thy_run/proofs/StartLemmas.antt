@@ -8,14 +8,14 @@ use Rattle.thy_block.specs.Device.{Device}
 use Rattle.thy_block.specs.Places.{dram_blocks}
 use Rattle.thy_dram.specs.Contents.{fresh}
 use Rattle.thy_block.specs.Outside.{Stream}
-use Rattle.thy_view.specs.Kind.{KindOf, IsLawful}
+use Rattle.thy_computer.specs.Kind.{KindOf, IsLawful}
 use Rattle.thy_text.specs.Event.{Event}
 use Rattle.thy_text.specs.Lines.{report_of}
-use Rattle.thy_view.specs.declared.view.View.{View}
-use Rattle.thy_view.specs.Booting.{found_first, first_view, view_of_image}
-use Rattle.thy_view.specs.Views.{is_halt, doubt_of}
-use Rattle.thy_view.specs.Origin.{Origin}
-use Rattle.thy_view.specs.Safe.{Safe}
+use Rattle.thy_computer.specs.declared.view.View.{View}
+use Rattle.thy_computer.specs.Booting.{found_first, first_view, view_of_image}
+use Rattle.thy_computer.specs.Views.{is_halt, doubt_of}
+use Rattle.thy_computer.specs.Origin.{Origin}
+use Rattle.thy_computer.specs.Safe.{Safe}
 use Rattle.thy_run.specs.Cuts.{has_ended}
 use Rattle.thy_run.specs.Laws.{released_of}
 use Rattle.thy_run.specs.World.{IsFirst, seen}

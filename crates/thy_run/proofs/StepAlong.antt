@@ -1,11 +1,11 @@
 -- A step of a run, as one of what was seen before it.
 use Rattle.std.proofs.Common.{◌≡◌, ℕ, ◌+◌, ◌≤◌, List, ◌++◌, sym, ap, subst}
-use Rattle.thy_view.specs.declared.view.View.{View}
-use Rattle.thy_view.specs.CoreStep.{CoreStep}
-use Rattle.thy_view.specs.Kind.{KindOf}
-use Rattle.thy_view.specs.Origin.{Origin}
-use Rattle.thy_view.specs.declared.view.Phase.TheVariants.{Run}
-use Rattle.thy_view.specs.WithTurns.{with_turns, reach}
+use Rattle.thy_computer.specs.declared.view.View.{View}
+use Rattle.thy_computer.specs.CoreStep.{CoreStep}
+use Rattle.thy_computer.specs.Kind.{KindOf}
+use Rattle.thy_computer.specs.Origin.{Origin}
+use Rattle.thy_computer.specs.declared.view.Phase.TheVariants.{Run}
+use Rattle.thy_computer.specs.WithTurns.{with_turns, reach}
 use Rattle.thy_run.specs.World.{World, line, seen, turns_after, events_of, TakesStep}
 use Rattle.thy_run.specs.Going.{HasItsTurns}
 use Rattle.thy_run.proofs.TurnListLaws.{after_listed}

@@ -2,12 +2,12 @@
 use Rattle.std.proofs.Common.{◌≡◌, Bool, ℕ, refl, sym, subst}
 use Rattle.thy_block.specs.Device.{Device, IsFramed}
 use Rattle.thy_block.proofs.DeviceLemmas.{length-written_to, length-settled, length-drained}
-use Rattle.thy_view.proofs.ActionLemmas.{after-is}
+use Rattle.thy_computer.proofs.ActionLemmas.{after-is}
 use Rattle.thy_run.proofs.EveryLemmas.{every-after}
-use Rattle.thy_view.specs.Action.{Action, Rest, ReadAt, WriteAt, Barrier, Drain, after, ActsBy}
-use Rattle.thy_view.specs.declared.did.Did.{Did}
-use Rattle.thy_view.specs.Kind.{KindOf}
-use Rattle.thy_view.specs.Origin.{Origin}
+use Rattle.thy_computer.specs.Action.{Action, Rest, ReadAt, WriteAt, Barrier, Drain, after, ActsBy}
+use Rattle.thy_computer.specs.declared.did.Did.{Did}
+use Rattle.thy_computer.specs.Kind.{KindOf}
+use Rattle.thy_computer.specs.Origin.{Origin}
 use Rattle.thy_run.specs.Every.{every_of}
 use Rattle.thy_run.specs.World.{World, TakesStep}
 

@@ -3,15 +3,15 @@ use Rattle.std.proofs.Common.{◌≡◌, ℕ, ◌+◌, Bool, true, false, if◌t
 use Rattle.thy_block.specs.declared.cause.EndCause.{EndCause}
 use Rattle.thy_layout.specs.declared.engine_step.EngineStep.{EngineStep}
 use Rattle.thy_layout.specs.declared.engine_step.EngineStep.TheVariants.{Idle, Copied, PageBlock, StateBlock, TableBlock, Barrier, CommitWritten, Committed as EngineCommitted}
-use Rattle.thy_view.specs.declared.did.Did.{Did}
-use Rattle.thy_view.specs.declared.did.Did.TheVariants.{Boot, Loaded, Restarted, Refused, Moved, Retired, Flushed, Merged, Sealed, Promoted, Engine, Committed, NvmDrained, DramDrained, Nothing}
-use Rattle.thy_view.specs.declared.view.Phase.TheVariants.{Boot as BootPhase, Run, Halt}
-use Rattle.thy_view.specs.declared.view.View.{View}
-use Rattle.thy_view.specs.CoreStep.{CoreStep, EngineTo, phase_at}
-use Rattle.thy_view.specs.Origin.{Origin, runs_at}
-use Rattle.thy_view.specs.Pace.{retires, Strides}
+use Rattle.thy_computer.specs.declared.did.Did.{Did}
+use Rattle.thy_computer.specs.declared.did.Did.TheVariants.{Boot, Loaded, Restarted, Refused, Moved, Retired, Flushed, Merged, Sealed, Promoted, Engine, Committed, NvmDrained, DramDrained, Nothing}
+use Rattle.thy_computer.specs.declared.view.Phase.TheVariants.{Boot as BootPhase, Run, Halt}
+use Rattle.thy_computer.specs.declared.view.View.{View}
+use Rattle.thy_computer.specs.CoreStep.{CoreStep, EngineTo, phase_at}
+use Rattle.thy_computer.specs.Origin.{Origin, runs_at}
+use Rattle.thy_computer.specs.Pace.{retires, Strides}
 use Rattle.thy_block.specs.Marks.{mark}
-use Rattle.thy_view.specs.Views.{is_boot}
+use Rattle.thy_computer.specs.Views.{is_boot}
 use Rattle.thy_run.specs.World.{did_events}
 
 -- the step leaves phase, marks and counts, reports nothing, and no epoch ends with it

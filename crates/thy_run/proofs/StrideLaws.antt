@@ -6,13 +6,13 @@ use Rattle.thy_layout.specs.Decoded.{Decoded, Nothing as NothingLeft, Refused as
 use Rattle.thy_block.specs.Device.{Device}
 use Rattle.thy_block.proofs.BasicLemmas.{not_both}
 use Rattle.thy_text.specs.Event.{Event, Cut, Reload, Ended}
-use Rattle.thy_view.specs.declared.did.Did.{Did}
-use Rattle.thy_view.specs.declared.view.View.{View}
-use Rattle.thy_view.specs.Booting.{found_first, view_of_image}
-use Rattle.thy_view.specs.Kind.{KindOf}
-use Rattle.thy_view.specs.Origin.{Origin, at}
-use Rattle.thy_view.specs.Pace.{Strides as KeepsIdle}
-use Rattle.thy_view.specs.Views.{is_boot, loads as is_loading, halts}
+use Rattle.thy_computer.specs.declared.did.Did.{Did}
+use Rattle.thy_computer.specs.declared.view.View.{View}
+use Rattle.thy_computer.specs.Booting.{found_first, view_of_image}
+use Rattle.thy_computer.specs.Kind.{KindOf}
+use Rattle.thy_computer.specs.Origin.{Origin, at}
+use Rattle.thy_computer.specs.Pace.{Strides as KeepsIdle}
+use Rattle.thy_computer.specs.Views.{is_boot, loads as is_loading, halts}
 use Rattle.thy_run.specs.Strides.{Epoch, first_epoch, epoch_after, AllStride, IsStriding, RunStrides}
 use Rattle.thy_run.specs.Unfinished.{ReportingFailed, AtStop}
 use Rattle.thy_run.specs.World.{World, Given, line, seen, did_events, reload_events, end_events, events_of, TakesStep, is_due, IsCutOff, tear, Ran}

@@ -5,19 +5,19 @@ use Rattle.std.proofs.lemmas.Bool.{eq-eqb, eqb-true}
 use Rattle.std.proofs.lemmas.List.{length-append, length-take, length-take-le, nil_from_length}
 use Rattle.thy_layout.specs.Decoded.{Decoded}
 use Rattle.thy_text.specs.Marks.{turns_listed}
-use Rattle.thy_view.specs.declared.did.Did.{Did}
-use Rattle.thy_view.specs.declared.did.Did.TheVariants.{Boot, Loaded, Restarted, Refused, Moved, Retired, Flushed, Merged, Sealed, Promoted, Engine, Committed, NvmDrained, DramDrained, Nothing}
-use Rattle.thy_view.specs.declared.view.Phase.{Phase}
-use Rattle.thy_view.specs.declared.view.Phase.TheVariants.{Run}
-use Rattle.thy_view.specs.declared.view.View.{View}
-use Rattle.thy_view.specs.Booting.{view_of_image}
-use Rattle.thy_view.specs.CoreStep.{CoreStep}
-use Rattle.thy_view.specs.Origin.{Origin, turn_at}
-use Rattle.thy_view.specs.Pace.{retires}
-use Rattle.thy_view.specs.WithTurns.{with_turns, AgreeBelow, reach_in, reach, IsAtWork, IsThere, HasTurn}
-use Rattle.thy_view.proofs.OneHartLaws.{has-turn}
-use Rattle.thy_view.proofs.ReachLaws.{stays-there}
-use Rattle.thy_view.proofs.TurnLaws.{AgreeBelow-same, taken-agrees, last-with_turns}
+use Rattle.thy_computer.specs.declared.did.Did.{Did}
+use Rattle.thy_computer.specs.declared.did.Did.TheVariants.{Boot, Loaded, Restarted, Refused, Moved, Retired, Flushed, Merged, Sealed, Promoted, Engine, Committed, NvmDrained, DramDrained, Nothing}
+use Rattle.thy_computer.specs.declared.view.Phase.{Phase}
+use Rattle.thy_computer.specs.declared.view.Phase.TheVariants.{Run}
+use Rattle.thy_computer.specs.declared.view.View.{View}
+use Rattle.thy_computer.specs.Booting.{view_of_image}
+use Rattle.thy_computer.specs.CoreStep.{CoreStep}
+use Rattle.thy_computer.specs.Origin.{Origin, turn_at}
+use Rattle.thy_computer.specs.Pace.{retires}
+use Rattle.thy_computer.specs.WithTurns.{with_turns, AgreeBelow, reach_in, reach, IsAtWork, IsThere, HasTurn}
+use Rattle.thy_computer.proofs.OneHartLaws.{has-turn}
+use Rattle.thy_computer.proofs.ReachLaws.{stays-there}
+use Rattle.thy_computer.proofs.TurnLaws.{AgreeBelow-same, taken-agrees, last-with_turns}
 use Rattle.thy_run.specs.World.{turns_after, turns_kept}
 use Rattle.thy_run.specs.Going.{HasItsTurns}
 

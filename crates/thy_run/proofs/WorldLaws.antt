@@ -10,23 +10,23 @@ use Rattle.thy_base.specs.Config.{IsRising}
 use Rattle.thy_block.specs.Device.{Device, Crash, IsCut, cut_to}
 use Rattle.thy_block.proofs.CrashLemmas.{Crash-cut_to}
 use Rattle.thy_layout.specs.Decoded.{Decoded, Nothing as NothingLeft, Refused as RefusedImage, At}
-use Rattle.thy_view.specs.Kind.{KindOf}
+use Rattle.thy_computer.specs.Kind.{KindOf}
 use Rattle.thy_text.specs.Event.{Event, Cut, Reload, Ended}
 use Rattle.thy_text.specs.Marks.{Marks, marks_from, AllLawful}
 use Rattle.thy_text.proofs.Histories.{marks_from-append, AllLawful-append}
-use Rattle.thy_view.specs.declared.did.Did.{Did}
-use Rattle.thy_view.specs.declared.did.Did.TheVariants.{Boot, Loaded, Restarted, Refused, Moved, Retired, Flushed, Merged, Sealed, Promoted, Engine, Committed, NvmDrained, DramDrained, Nothing}
-use Rattle.thy_view.specs.declared.view.Phase.TheVariants.{Boot as BootPhase}
-use Rattle.thy_view.specs.declared.view.View.{View}
-use Rattle.thy_view.specs.Booting.{found_first, first_view, view_of_image}
+use Rattle.thy_computer.specs.declared.did.Did.{Did}
+use Rattle.thy_computer.specs.declared.did.Did.TheVariants.{Boot, Loaded, Restarted, Refused, Moved, Retired, Flushed, Merged, Sealed, Promoted, Engine, Committed, NvmDrained, DramDrained, Nothing}
+use Rattle.thy_computer.specs.declared.view.Phase.TheVariants.{Boot as BootPhase}
+use Rattle.thy_computer.specs.declared.view.View.{View}
+use Rattle.thy_computer.specs.Booting.{found_first, first_view, view_of_image}
 use Rattle.thy_block.specs.Marks.{mark}
-use Rattle.thy_view.specs.Views.{is_boot, is_halt, loads, halts, doubt_of}
-use Rattle.thy_view.specs.CoreStep.{CoreStep}
-use Rattle.thy_view.specs.Origin.{Origin, at}
-use Rattle.thy_view.specs.Pace.{retires}
-use Rattle.thy_view.specs.Safe.{ceiling, Safe, IsOneOf}
-use Rattle.thy_view.specs.WithTurns.{with_turns, AgreeBelow, reach}
-use Rattle.thy_view.proofs.TurnLaws.{at-early}
+use Rattle.thy_computer.specs.Views.{is_boot, is_halt, loads, halts, doubt_of}
+use Rattle.thy_computer.specs.CoreStep.{CoreStep}
+use Rattle.thy_computer.specs.Origin.{Origin, at}
+use Rattle.thy_computer.specs.Pace.{retires}
+use Rattle.thy_computer.specs.Safe.{ceiling, Safe, IsOneOf}
+use Rattle.thy_computer.specs.WithTurns.{with_turns, AgreeBelow, reach}
+use Rattle.thy_computer.proofs.TurnLaws.{at-early}
 use Rattle.thy_run.specs.Cuts.{is_end, has_ended, cuts_among, numbered, last_cuttable, cuts_up_to}
 use Rattle.thy_run.specs.Going.{HasItsTurns}
 use Rattle.thy_run.specs.Images.{Found, found, AllFit}

@@ -3,8 +3,8 @@ use Rattle.std.specs.Prelude.{◌≡◌, ℕ, ◌<◌, true, List, [], length, s
 use Rattle.thy_base.specs.Config.{IsRising}
 use Rattle.thy_block.specs.Device.{says}
 use Rattle.thy_block.specs.declared.block.Block.{Block}
-use Rattle.thy_view.specs.Kind.{KindOf}
-use Rattle.thy_view.specs.Origin.{Origin, IsOrigin}
+use Rattle.thy_computer.specs.Kind.{KindOf}
+use Rattle.thy_computer.specs.Origin.{Origin, IsOrigin}
 use Rattle.thy_run.specs.Watching.{Taken, IsListed}
 use Rattle.thy_run.specs.World.{World, Given, Ran}
 

@@ -2,13 +2,13 @@
 use Rattle.std.specs.Prelude.{◌≡◌, ◌<◌, ◌⊎◌, ℕ, Bool, true, false, ◌&&◌, ◌==◌, nat_lt, if◌then◌else◌, List, [], length, drop, slice_index, Option, Some, None}
 use Rattle.thy_text.specs.Event.{Event}
 use Rattle.thy_block.specs.declared.mark.Mark.{Mark}
-use Rattle.thy_view.specs.declared.did.Advance.{Advance}
-use Rattle.thy_view.specs.declared.did.Did.{Did}
-use Rattle.thy_view.specs.declared.did.Did.TheVariants.{Loaded, Restarted, Sealed, Committed}
-use Rattle.thy_view.specs.declared.did.Stepped.{Stepped}
-use Rattle.thy_view.specs.declared.view.View.{View}
-use Rattle.thy_view.specs.Advances.{stepped_of}
-use Rattle.thy_view.specs.Origin.{Origin, at}
+use Rattle.thy_computer.specs.declared.did.Advance.{Advance}
+use Rattle.thy_computer.specs.declared.did.Did.{Did}
+use Rattle.thy_computer.specs.declared.did.Did.TheVariants.{Loaded, Restarted, Sealed, Committed}
+use Rattle.thy_computer.specs.declared.did.Stepped.{Stepped}
+use Rattle.thy_computer.specs.declared.view.View.{View}
+use Rattle.thy_computer.specs.Advances.{stepped_of}
+use Rattle.thy_computer.specs.Origin.{Origin, at}
 use Rattle.thy_run.specs.Laws.{released_of}
 use Rattle.thy_run.specs.declared.progress.Progress.{Progress}
 

@@ -8,8 +8,8 @@ use Rattle.thy_isa.specs.declared.state.Status.{Status}
 use Rattle.thy_isa.specs.Step.{State}
 use Rattle.thy_text.specs.Event.{Event, Ended as EndedEvent}
 use Rattle.thy_text.specs.Lines.{report_of}
-use Rattle.thy_view.specs.Kind.{KindOf}
-use Rattle.thy_view.specs.Origin.{Origin}
+use Rattle.thy_computer.specs.Kind.{KindOf}
+use Rattle.thy_computer.specs.Origin.{Origin}
 use Rattle.thy_run.specs.Cuts.{has_ended}
 use Rattle.thy_run.specs.Laws.{released_of}
 use Rattle.thy_run.specs.Sending.{Delivered}

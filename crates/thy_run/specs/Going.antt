@@ -16,15 +16,15 @@ use Rattle.thy_isa.specs.Step.{state_of}
 use Rattle.thy_text.specs.declared.reporting.Reporting.{Reporting}
 use Rattle.thy_text.specs.Event.{Event, Cut}
 use Rattle.thy_text.specs.Marks.{turns_listed}
-use Rattle.thy_view.specs.declared.did.Did.{Did}
-use Rattle.thy_view.specs.declared.did.Did.TheVariants.{Restarted, Retired, Sealed}
-use Rattle.thy_view.specs.declared.did.Stepped.{Stepped}
-use Rattle.thy_view.specs.declared.view.View.{View}
-use Rattle.thy_view.specs.Views.{loads, halts, is_halt}
-use Rattle.thy_view.specs.CoreStep.{CoreStep}
-use Rattle.thy_view.specs.Origin.{Origin, at, IsOrigin}
-use Rattle.thy_view.specs.Kind.{IsSnapshot, KindOf, IsStep, LeavesSafe}
-use Rattle.thy_view.specs.WithTurns.{with_turns, AgreeBelow, reach}
+use Rattle.thy_computer.specs.declared.did.Did.{Did}
+use Rattle.thy_computer.specs.declared.did.Did.TheVariants.{Restarted, Retired, Sealed}
+use Rattle.thy_computer.specs.declared.did.Stepped.{Stepped}
+use Rattle.thy_computer.specs.declared.view.View.{View}
+use Rattle.thy_computer.specs.Views.{loads, halts, is_halt}
+use Rattle.thy_computer.specs.CoreStep.{CoreStep}
+use Rattle.thy_computer.specs.Origin.{Origin, at, IsOrigin}
+use Rattle.thy_computer.specs.Kind.{IsSnapshot, KindOf, IsStep, LeavesSafe}
+use Rattle.thy_computer.specs.WithTurns.{with_turns, AgreeBelow, reach}
 use Rattle.thy_run.specs.Cuts.{has_ended}
 use Rattle.thy_run.specs.Due.{due_of}
 use Rattle.thy_run.specs.Endings.{EndsWith}

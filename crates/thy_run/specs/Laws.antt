@@ -6,15 +6,15 @@ use Rattle.thy_block.specs.declared.mark.Mark.{Mark}
 use Rattle.thy_block.specs.declared.block.Block.{Block}
 use Rattle.thy_block.specs.Device.{Device, Crash, IsCut}
 use Rattle.thy_layout.specs.Decoded.{Decoded, Nothing, Refused, At, Reading}
-use Rattle.thy_view.specs.Kind.{KindOf}
+use Rattle.thy_computer.specs.Kind.{KindOf}
 use Rattle.thy_text.specs.Event.{Event}
 use Rattle.thy_block.specs.Marks.{mark}
 use Rattle.thy_text.specs.Marks.{Marks, Course, loading_marks, marks_from, Restarts, AllLawful}
 use Rattle.thy_text.specs.Released.{released}
-use Rattle.thy_view.specs.Origin.{Origin, at, IsOrigin}
-use Rattle.thy_view.specs.WithTurns.{with_turns}
-use Rattle.thy_view.specs.Booting.{found_first}
-use Rattle.thy_view.specs.Safe.{ceiling}
+use Rattle.thy_computer.specs.Origin.{Origin, at, IsOrigin}
+use Rattle.thy_computer.specs.WithTurns.{with_turns}
+use Rattle.thy_computer.specs.Booting.{found_first}
+use Rattle.thy_computer.specs.Safe.{ceiling}
 use Rattle.thy_run.specs.Every.{every_of}
 use Rattle.thy_run.specs.Cuts.{cuts_among, numbered, cuts_up_to, last_cuttable}
 use Rattle.thy_run.specs.Images.{Found, found, HasLeft, AllFit}

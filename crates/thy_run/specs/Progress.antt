@@ -5,13 +5,13 @@
 -- and `queues` of `KeepsPace`.
 use Rattle.std.specs.Prelude.{◌≡◌, ◌≢◌, ℕ, zero, suc, ◌+◌, ◌*◌, ◌<◌, ◌≤◌, max, Bool, false, ◌&&◌, not, if◌then◌else◌, List, [], ◌∷◌}
 use Rattle.thy_block.specs.declared.parameters.Parameters.{Parameters}
-use Rattle.thy_view.specs.declared.did.Did.{Did}
-use Rattle.thy_view.specs.declared.did.Did.TheVariants.{Nothing}
-use Rattle.thy_view.specs.Kind.{KindOf}
-use Rattle.thy_view.specs.Origin.{Origin, runs_at}
-use Rattle.thy_view.specs.Pace.{is_drained, retires}
-use Rattle.thy_view.specs.WithTurns.{with_turns}
-use Rattle.thy_view.specs.Views.{is_boot}
+use Rattle.thy_computer.specs.declared.did.Did.{Did}
+use Rattle.thy_computer.specs.declared.did.Did.TheVariants.{Nothing}
+use Rattle.thy_computer.specs.Kind.{KindOf}
+use Rattle.thy_computer.specs.Origin.{Origin, runs_at}
+use Rattle.thy_computer.specs.Pace.{is_drained, retires}
+use Rattle.thy_computer.specs.WithTurns.{with_turns}
+use Rattle.thy_computer.specs.Views.{is_boot}
 use Rattle.thy_run.specs.World.{World, Given, seen, TakesStep, is_due, Ran}
 
 -- the greatest of some cycles, 0 if there is none

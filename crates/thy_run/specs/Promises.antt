@@ -11,15 +11,15 @@ use Rattle.thy_block.specs.Outside.{Stream}
 use Rattle.thy_isa.specs.declared.state.MachState.{MachState}
 use Rattle.thy_isa.specs.declared.state.Status.{Status}
 use Rattle.thy_text.specs.Event.{Event}
-use Rattle.thy_view.specs.declared.did.Did.{Did}
-use Rattle.thy_view.specs.declared.did.Did.TheVariants.{Restarted, Sealed}
-use Rattle.thy_view.specs.declared.did.Stepped.{Stepped}
-use Rattle.thy_view.specs.declared.error.CoreError.{CoreError}
-use Rattle.thy_view.specs.declared.view.View.{View}
-use Rattle.thy_view.specs.Advances.{stepped_of}
-use Rattle.thy_view.specs.Kind.{IsSnapshot, KindOf}
-use Rattle.thy_view.specs.Origin.{Origin}
-use Rattle.thy_view.specs.Views.{is_between, loads}
+use Rattle.thy_computer.specs.declared.did.Did.{Did}
+use Rattle.thy_computer.specs.declared.did.Did.TheVariants.{Restarted, Sealed}
+use Rattle.thy_computer.specs.declared.did.Stepped.{Stepped}
+use Rattle.thy_computer.specs.declared.error.CoreError.{CoreError}
+use Rattle.thy_computer.specs.declared.view.View.{View}
+use Rattle.thy_computer.specs.Advances.{stepped_of}
+use Rattle.thy_computer.specs.Kind.{IsSnapshot, KindOf}
+use Rattle.thy_computer.specs.Origin.{Origin}
+use Rattle.thy_computer.specs.Views.{is_between, loads}
 use Rattle.thy_run.specs.Due.{due_of}
 use Rattle.thy_run.specs.declared.advance.HartCycle.{HartCycle}
 use Rattle.thy_run.specs.declared.advance.HartCycle.TheVariants.{Advanced, Left, Failed}

@@ -7,7 +7,7 @@ use Rattle.thy_block.specs.Outside.{Stream, Took}
 use Rattle.thy_block.specs.Places.{dram_blocks}
 use Rattle.thy_dram.specs.Contents.{fresh}
 use Rattle.thy_block.specs.declared.block.Block.{Block}
-use Rattle.thy_view.specs.Kind.{IsFittedFor, KindOf}
+use Rattle.thy_computer.specs.Kind.{IsFittedFor, KindOf}
 use Rattle.thy_text.specs.Lines.{report_of}
 use Rattle.thy_run.specs.Laws.{released_of}
 use Rattle.thy_run.specs.declared.advance.Outcome.{Outcome}

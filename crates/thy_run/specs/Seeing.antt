@@ -3,8 +3,8 @@ use Rattle.std.specs.Prelude.{◌≡◌, ℕ, ◌+◌, false, List, length, Resu
 use Rattle.thy_block.specs.Bytes.{bytes_of}
 use Rattle.thy_block.specs.Device.{Device}
 use Rattle.thy_block.specs.Outside.{Stream}
-use Rattle.thy_view.specs.declared.did.Stepped.{Stepped}
-use Rattle.thy_view.specs.Kind.{KindOf}
+use Rattle.thy_computer.specs.declared.did.Stepped.{Stepped}
+use Rattle.thy_computer.specs.Kind.{KindOf}
 use Rattle.thy_run.specs.declared.advance.Outcome.{Outcome}
 use Rattle.thy_run.specs.declared.advance.Outcome.TheVariants.{Goes, Cuts, Stops, Breaks}
 use Rattle.thy_run.specs.declared.ending.Ending.{Ending}
@@ -16,7 +16,7 @@ use Rattle.thy_run.specs.Rounds.{Running, ComesTo, RunEnds}
 use Rattle.thy_run.specs.Sending.{Sinks}
 use Rattle.thy_run.specs.Watching.{Taken, IsListed}
 use Rattle.thy_run.specs.World.{Given, Cycle, is_due}
-use Rattle.thy_view.specs.Origin.{Origin}
+use Rattle.thy_computer.specs.Origin.{Origin}
 
 -- an observer has seen the cycles of the run up to here
 abbrev pub Watched : {M O : Type 0} → KindOf M → (O → List Taken → Type 0) → Plan → Device → Progress M → Device → ℕ → List ℕ

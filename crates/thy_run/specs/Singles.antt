@@ -10,8 +10,8 @@ use Rattle.thy_run.specs.Going.{GoesOn, IsStepped, IsStuck}
 use Rattle.thy_run.specs.Rounds.{Running, RunEnds, ending_of}
 use Rattle.thy_run.specs.Seeing.{IsDoneBy}
 use Rattle.thy_run.specs.Sending.{Sinks}
-use Rattle.thy_view.specs.declared.did.Stepped.{Stepped}
-use Rattle.thy_view.specs.Kind.{KindOf}
+use Rattle.thy_computer.specs.declared.did.Stepped.{Stepped}
+use Rattle.thy_computer.specs.Kind.{KindOf}
 
 -- the schedule's next step was taken, or it failed
 abbrev pub NextStep : {M : Type 0} → KindOf M → Plan → Progress M → Progress M → Device → Device → ℕ → List ℕ → Option Stepped → Type 0

@@ -1,6 +1,6 @@
 -- Why a run stops.
-use Rattle.thy_view.specs.declared.error.CoreError.{CoreError}
-use Rattle.thy_view.specs.declared.error.CoreError.TheVariants.{Nvm as ReadFault, Memory as ReadMemory}
+use Rattle.thy_computer.specs.declared.error.CoreError.{CoreError}
+use Rattle.thy_computer.specs.declared.error.CoreError.TheVariants.{Nvm as ReadFault, Memory as ReadMemory}
 use Rattle.thy_run.specs.declared.ending.Stop.{Stop}
 use Rattle.thy_run.specs.declared.ending.Stop.TheVariants.{Nvm, Memory}
 

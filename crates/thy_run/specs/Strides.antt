@@ -3,8 +3,8 @@
 use Rattle.std.specs.Prelude.{◌≡◌, ℕ, ◌<◌, ◌==◌, Bool, true, false, List, [], ◌∷◌}
 use Rattle.thy_block.specs.Device.{Device}
 use Rattle.thy_text.specs.Event.{Event, Scheme, EpochEnd, Commit, Cut, Restart, Reload, Ended}
-use Rattle.thy_view.specs.Kind.{KindOf}
-use Rattle.thy_view.specs.Origin.{Origin}
+use Rattle.thy_computer.specs.Kind.{KindOf}
+use Rattle.thy_computer.specs.Origin.{Origin}
 use Rattle.thy_run.specs.Unfinished.{Stopped}
 use Rattle.thy_run.specs.World.{Given}
 use Rattle.thy_run.specs.declared.ending.Stop.{Stop}

@@ -4,10 +4,10 @@ use Rattle.std.specs.Prelude.{◌≡◌, ◌≢◌, ◌⊎◌, ℕ, true, false,
 use Rattle.thy_block.specs.Counts.{Rose}
 use Rattle.thy_block.specs.Device.{Device, HasFailed, IsFramed}
 use Rattle.thy_block.specs.Mix.{mix_pick}
-use Rattle.thy_view.specs.Kind.{KindOf, LeavesSafe}
+use Rattle.thy_computer.specs.Kind.{KindOf, LeavesSafe}
 use Rattle.thy_text.specs.Event.{Event}
-use Rattle.thy_view.specs.Views.{is_halt}
-use Rattle.thy_view.specs.Origin.{Origin}
+use Rattle.thy_computer.specs.Views.{is_halt}
+use Rattle.thy_computer.specs.Origin.{Origin}
 use Rattle.thy_run.specs.Cuts.{has_ended}
 use Rattle.thy_run.specs.World.{World, Given, line, seen, is_due, TakesStep, Ran}
 use Rattle.thy_run.specs.declared.ending.Stop.{Stop}

@@ -9,18 +9,18 @@ use Rattle.thy_block.specs.Mix.{mix_start, mix_pick, mix_next}
 use Rattle.thy_block.specs.Places.{dram_blocks}
 use Rattle.thy_dram.specs.Contents.{lost, fresh}
 use Rattle.thy_layout.specs.Decoded.{Decoded}
-use Rattle.thy_view.specs.Kind.{KindOf, IsStep}
+use Rattle.thy_computer.specs.Kind.{KindOf, IsStep}
 use Rattle.thy_text.specs.declared.reporting.Reporting.{Reporting}
 use Rattle.thy_text.specs.Event.{Event, EpochEnd, Commit, Cut, Restart, Reload, Ended}
-use Rattle.thy_view.specs.declared.did.Did.{Did}
-use Rattle.thy_view.specs.declared.did.Did.TheVariants.{Loaded, Restarted, Retired, Sealed, Committed}
-use Rattle.thy_view.specs.declared.did.Stepped.{Stepped}
-use Rattle.thy_view.specs.declared.view.View.{View}
-use Rattle.thy_view.specs.Booting.{first_view, view_of_image}
-use Rattle.thy_view.specs.Views.{loads, halts, is_halt}
-use Rattle.thy_view.specs.Origin.{Origin, at}
-use Rattle.thy_view.specs.Safe.{ceiling, Safe}
-use Rattle.thy_view.specs.WithTurns.{with_turns, AgreeBelow, count_of, reach}
+use Rattle.thy_computer.specs.declared.did.Did.{Did}
+use Rattle.thy_computer.specs.declared.did.Did.TheVariants.{Loaded, Restarted, Retired, Sealed, Committed}
+use Rattle.thy_computer.specs.declared.did.Stepped.{Stepped}
+use Rattle.thy_computer.specs.declared.view.View.{View}
+use Rattle.thy_computer.specs.Booting.{first_view, view_of_image}
+use Rattle.thy_computer.specs.Views.{loads, halts, is_halt}
+use Rattle.thy_computer.specs.Origin.{Origin, at}
+use Rattle.thy_computer.specs.Safe.{ceiling, Safe}
+use Rattle.thy_computer.specs.WithTurns.{with_turns, AgreeBelow, count_of, reach}
 
 -- a run between two cycles
 pub record World (M : Type 0) : Type 0 where

@@ -11,9 +11,9 @@ ghost use Rattle.thy_run.specs.Seeing.{Reports};
 ghost use Rattle.thy_run.specs.Sending.{sinks};
 ghost use Rattle.thy_run.specs.Watching.{CanSee};
 ghost use Rattle.thy_run.specs.World.{turns_after};
-ghost use Rattle.thy_view.specs.declared.did.Advance.{Advance as AdvanceValue};
-ghost use Rattle.thy_view.specs.declared.did.Did.TheVariants.{Retired};
-ghost use Rattle.thy_view.specs.Advances.{IsOthersCycle, did_of, stepped_of};
+ghost use Rattle.thy_computer.specs.declared.did.Advance.{Advance as AdvanceValue};
+ghost use Rattle.thy_computer.specs.declared.did.Did.TheVariants.{Retired};
+ghost use Rattle.thy_computer.specs.Advances.{IsOthersCycle, did_of, stepped_of};
 
 use crate::ending::Stop;
 use crate::gather::{Readings, gather};
@@ -24,8 +24,8 @@ use crate::progress::Progress;
 use crate::write_report::{write_lines, write_report};
 use std::alloc::Global;
 use thy_base::{Bytes, Config, Nvm, NvmError, Pick, Sink};
+use thy_computer::{Advance, Computer, Did, Stepped};
 use thy_text::{Event, Events, Reporting};
-use thy_view::{Advance, Computer, Did, Stepped};
 
 /// What a cycle came to.
 #[derive(Drop)]

@@ -3,7 +3,7 @@ ghost use Rattle.std.specs.Prelude.{◌≡◌, ◌<◌, ◌+◌, [], IfOk};
 ghost use Rattle.thy_block.specs.Bytes.{bytes_of, room_of};
 ghost use Rattle.thy_block.specs.Places.{dram_blocks};
 ghost use Rattle.thy_dram.specs.Contents.{fresh};
-ghost use Rattle.thy_view.specs.Kind.{IsDramOf};
+ghost use Rattle.thy_computer.specs.Kind.{IsDramOf};
 ghost use Rattle.thy_run.specs.Going.{IsPlanned, HasTurnsRoom};
 ghost use Rattle.thy_run.specs.Promises.{IsAwaiting, RunsTo};
 ghost use Rattle.thy_run.specs.Seeing.{RunsSeen, SeesCut};
@@ -20,9 +20,9 @@ use crate::quiet::{Pause, run_quiet};
 use crate::write_report::write_report;
 use std::alloc::{AllocError, Global};
 use thy_base::{Bytes, Geometry, Mix, Nvm, Sink};
+use thy_computer::Computer;
 use thy_dram::Dram;
 use thy_text::{Events, Reporting};
-use thy_view::Computer;
 
 /// Cuts the power after a cycle, and then gives the sinks what they have to get for it.
 ///

@@ -1,8 +1,8 @@
 //! Why a run stopped, and how it ended.
 
+use thy_computer::CoreError;
 use thy_isa::Status;
 use thy_text::Events;
-use thy_view::CoreError;
 
 /// Why the cycles of a run stopped.
 #[derive(Clone, Copy, Debug, PartialEq, Eq)]

@@ -1,16 +1,16 @@
 //! What the machine is read for after a step, before any event of it is made.
 ghost use Rattle.std.specs.Prelude.{◌≡◌, ◌&&◌, true, IfErr, OnOk, OnErr};
 ghost use Rattle.thy_block.specs.Device.{IsFramed};
-ghost use Rattle.thy_view.specs.Kind.{CanRead, HasFailedToRead};
-ghost use Rattle.thy_view.specs.Views.{loads};
+ghost use Rattle.thy_computer.specs.Kind.{CanRead, HasFailedToRead};
+ghost use Rattle.thy_computer.specs.Views.{loads};
 ghost use Rattle.thy_run.specs.Due.{shows_console, IsReported};
 ghost use Rattle.thy_run.specs.Promises.{BoxesSnapshot, ReadsRestart, ReadsDue, ReadsEnd, ReportsReload, GathersAll};
 
 use crate::progress::Progress;
 use std::alloc::{AllocError, Global};
 use thy_base::{Bytes, Nvm};
+use thy_computer::{Computer, CoreError, Did, Stepped};
 use thy_isa::MachState;
-use thy_view::{Computer, CoreError, Did, Stepped};
 
 /// What was read of the machine and the NVM for the events and the terminal.
 #[derive(Drop)]

@@ -4,7 +4,7 @@ ghost use Rattle.thy_run.specs.Laws.{OneMoreCutIsSafe, RunKeepsPromise};
 ghost use Rattle.thy_run.specs.Progress.{RunIsBusy, RunIsSoonOver, RunNeverRests};
 ghost use Rattle.thy_run.specs.Strides.{RunStrides};
 
-use thy_view::Computer;
+use thy_computer::Computer;
 
 /// Whatever the cuts of a run left, its events are lawful, each restart is what the cut before it left, and the cuts are
 /// the listed ones. The device is safe for the checkpoints that the events report, was not fitted again, and has room for

@@ -1,8 +1,8 @@
 //! What a run is: cycles, power cuts between them, and events; what follows from that for every run, whatever its cuts
 //! left of the queued writes (`every_run_keeps_its_promise`); and the loop that makes a run, `run`.
 //!
-//! Open specs/World.antt first, then specs/Promises.antt, and src/cycles.rt. It depends on thy_text, thy_view and their
-//! dependencies, and is proved for every machine of the trait `Computer`; thy_answer and
+//! Open specs/World.antt first, then specs/Promises.antt, and src/cycles.rt. It depends on thy_text, thy_computer and their
+//! dependencies, and is proved for every machine of the trait `Computer`; thy_outcome and
 //! thy_execute depend on it.
 #![tactic(auto)]
 

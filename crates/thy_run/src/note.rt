@@ -1,8 +1,8 @@
 //! The events of a step. Each is made in a function of its own, so that a cycle without one makes none.
 ghost use Rattle.std.specs.Prelude.{◌≡◌, ◌≢◌, ◌++◌, ◌∷◌, [], true, is_some, if◌then◌else◌, OnOk, OnErr, IfOk};
 ghost use Rattle.thy_block.specs.Bytes.{bytes_of};
-ghost use Rattle.thy_view.specs.Origin.{Origin};
-ghost use Rattle.thy_view.specs.declared.view.View.{View};
+ghost use Rattle.thy_computer.specs.Origin.{Origin};
+ghost use Rattle.thy_computer.specs.declared.view.View.{View};
 ghost use Rattle.thy_run.specs.World.{did_events};
 ghost use Rattle.thy_isa.specs.Step.{state_of};
 ghost use Rattle.thy_text.specs.Event.{Reload, Commit, Ended};
@@ -10,9 +10,9 @@ ghost use Rattle.thy_run.specs.Promises.{NotesRestart, NotesSeal, NotesDid, Note
 
 use std::alloc::{AllocError, Global};
 use thy_base::{Bytes, EndCause};
+use thy_computer::Did;
 use thy_isa::{MachState, Status};
 use thy_text::{Event, Events};
-use thy_view::Did;
 
 /// Adds the event that the program is loaded again. Fails if memory runs out.
 fn note_load(events: &mut Events) -> Result<(), AllocError>

@@ -1,11 +1,11 @@
 //! What may look on while a program runs.
 ghost use Rattle.std.specs.Prelude.{ℕ, List, [], false};
 ghost use Rattle.thy_isa.specs.Step.{State, state_of};
-ghost use Rattle.thy_view.specs.declared.did.Stepped.{Stepped as Step};
+ghost use Rattle.thy_computer.specs.declared.did.Stepped.{Stepped as Step};
 ghost use Rattle.thy_run.specs.Watching.{Taken, CanSee, CanSeeCut, Forgets, Keeps, Sees, SeesCutAfter, taken};
 
+use thy_computer::Stepped;
 use thy_isa::MachState;
-use thy_view::Stepped;
 
 /// What sees the cycles of a run, and changes nothing of it.
 pub trait Observer {

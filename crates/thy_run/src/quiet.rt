@@ -3,7 +3,7 @@
 //! them so.
 ghost use Rattle.std.specs.Prelude.{◌≡◌, ◌≤◌, ◌<◌, ◌+◌, ℕ, List};
 ghost use Rattle.thy_block.specs.Device.{Device as DeviceValue};
-ghost use Rattle.thy_view.specs.Advances.{IsOthersCycle};
+ghost use Rattle.thy_computer.specs.Advances.{IsOthersCycle};
 ghost use Rattle.thy_run.specs.Going.{IsPlanned, HasDrawn};
 ghost use Rattle.thy_run.specs.Quiet.{IsRowEnd, IsWatched, LeadsQuietly, PassesTo, RunsQuietly};
 ghost use Rattle.thy_run.specs.Watching.{CanSee};
@@ -16,7 +16,7 @@ use crate::picks::pass_picks;
 use crate::plan::Plan;
 use crate::progress::Progress;
 use thy_base::{Nvm, Pick};
-use thy_view::{Advance, Computer, Stepped};
+use thy_computer::{Advance, Computer, Stepped};
 
 /// Why a row of quiet cycles ended.
 #[derive(Drop)]

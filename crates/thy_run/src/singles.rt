@@ -14,7 +14,7 @@ use crate::plan::Plan;
 use crate::progress::Progress;
 use std::alloc::{AllocError, Global};
 use thy_base::{Nvm, Sink};
-use thy_view::{Computer, Stepped};
+use thy_computer::{Computer, Stepped};
 
 /// What one cycle of a run came to.
 #[derive(Drop)]

@@ -2,7 +2,7 @@
 //! comparisons and two harts. They promise nothing that is proved; they show what no contract says: reports as printed, and
 //! ends and digests compared with the plain machine's.
 //!
-//! Open src/runs.rt first. It depends on thy_cli and thy_arguments, with what their calls need; nothing depends on it.
+//! Open src/runs.rt first. It depends on thy_cli and thy_base, with what their calls need; nothing depends on it.
 #![tactic(auto)]
 
 #[cfg(test)]

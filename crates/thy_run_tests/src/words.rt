@@ -3,8 +3,7 @@
 use crate::support::expect::{expect, expect_at};
 use std::alloc::Global;
 use std::process::Abort;
-use thy_arguments::{Command, Job, WordsError, settings};
-use thy_base::{Config, SchemeName};
+use thy_base::{Command, Config, Job, SchemeName, WordsError, settings};
 
 /// Arguments of invalid usage.
 static USAGE: [&str; 56] = [

@@ -9,9 +9,9 @@ use Rattle.thy_isa.specs.Step.{State, state_with, crossed, fronted, step, step_o
 use Rattle.thy_isa.proofs.StepLaws.{step-count}
 use Rattle.thy_hart.specs.HartState.{HartState}
 use Rattle.thy_hart.specs.OneStep.{current}
-use Rattle.thy_view.specs.Kind.{without_memory}
-use Rattle.thy_view.specs.Origin.{Origin, setting_of, turn_at, at, runs_at}
-use Rattle.thy_view.proofs.TurnLaws.{at-next, at-early}
+use Rattle.thy_computer.specs.Kind.{without_memory}
+use Rattle.thy_computer.specs.Origin.{Origin, setting_of, turn_at, at, runs_at}
+use Rattle.thy_computer.proofs.TurnLaws.{at-next, at-early}
 use Rattle.thy_scheme.specs.Machine.{cpu_fronted}
 use Rattle.thy_scheme.proofs.BegunLaws.{cpu-fronted-suc, fronted-twice, count-fronted, status-fronted}
 

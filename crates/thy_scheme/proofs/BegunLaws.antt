@@ -20,9 +20,9 @@ use Rattle.thy_hart.specs.OneStep.{IsStep}
 use Rattle.thy_hart.specs.Outcomes.{Given}
 use Rattle.thy_hart.proofs.FollowLaws.{crosses-on}
 use Rattle.thy_block.specs.declared.span.Span.{Span}
-use Rattle.thy_view.specs.Origin.{Origin, at}
-use Rattle.thy_view.specs.Stores.{stored_by}
-use Rattle.thy_view.specs.NextActor.{front_of}
+use Rattle.thy_computer.specs.Origin.{Origin, at}
+use Rattle.thy_computer.specs.Stores.{stored_by}
+use Rattle.thy_computer.specs.NextActor.{front_of}
 use Rattle.thy_scheme.specs.Scheme.{SchemeOf}
 use Rattle.thy_scheme.specs.Machine.{Machine, cpu_fronted, processor_of, moment_of, memory_of, moves_begun}
 use Rattle.thy_scheme.specs.Sound.{OpenFor, OpenNow, IsToWrite, SoundRun}

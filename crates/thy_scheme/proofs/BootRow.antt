@@ -18,21 +18,21 @@ use Rattle.thy_isa.specs.declared.state.Status.TheVariants.{Running}
 use Rattle.thy_isa.specs.OnBlocks.{setting_for, state_from}
 use Rattle.thy_isa.specs.Step.{State, cpu_of, is_running, step}
 use Rattle.thy_isa.proofs.BlockLaws.{count-state_from}
-use Rattle.thy_view.specs.declared.boot_step.BootStep.{BootStep}
-use Rattle.thy_view.specs.declared.boot_step.BootStep.TheVariants.{GoesOn, Loaded, Restarted, Refused}
-use Rattle.thy_view.specs.declared.did.Did.{Did}
-use Rattle.thy_view.specs.declared.did.Did.TheVariants.{Boot as DidBoot, Loaded as DidLoad, Restarted as DidRestart, Moved}
-use Rattle.thy_view.specs.declared.view.Phase.{Phase}
-use Rattle.thy_view.specs.declared.view.Phase.TheVariants.{Boot, Run, Halt}
-use Rattle.thy_view.specs.declared.view.View.{View}
-use Rattle.thy_view.specs.Action.{ActsBy}
-use Rattle.thy_view.specs.Booting.{loading_view, boot_did}
-use Rattle.thy_view.specs.CoreStep.{phase_at, CoreStep}
-use Rattle.thy_view.specs.Dram.{LeavesDram}
-use Rattle.thy_view.specs.Pace.{Queues, Boots as Ends, Strides as StridesOn}
-use Rattle.thy_view.specs.Origin.{Origin, StartsFrom, IsOrigin, at, runs_at}
-use Rattle.thy_view.specs.Views.{is_boot}
-use Rattle.thy_view.specs.Work.{Works}
+use Rattle.thy_computer.specs.declared.boot_step.BootStep.{BootStep}
+use Rattle.thy_computer.specs.declared.boot_step.BootStep.TheVariants.{GoesOn, Loaded, Restarted, Refused}
+use Rattle.thy_computer.specs.declared.did.Did.{Did}
+use Rattle.thy_computer.specs.declared.did.Did.TheVariants.{Boot as DidBoot, Loaded as DidLoad, Restarted as DidRestart, Moved}
+use Rattle.thy_computer.specs.declared.view.Phase.{Phase}
+use Rattle.thy_computer.specs.declared.view.Phase.TheVariants.{Boot, Run, Halt}
+use Rattle.thy_computer.specs.declared.view.View.{View}
+use Rattle.thy_computer.specs.Action.{ActsBy}
+use Rattle.thy_computer.specs.Booting.{loading_view, boot_did}
+use Rattle.thy_computer.specs.CoreStep.{phase_at, CoreStep}
+use Rattle.thy_computer.specs.Dram.{LeavesDram}
+use Rattle.thy_computer.specs.Pace.{Queues, Boots as Ends, Strides as StridesOn}
+use Rattle.thy_computer.specs.Origin.{Origin, StartsFrom, IsOrigin, at, runs_at}
+use Rattle.thy_computer.specs.Views.{is_boot}
+use Rattle.thy_computer.specs.Work.{Works}
 use Rattle.thy_scheme.specs.SchemeStore.{held_by_scheme}
 use Rattle.thy_scheme.specs.Boots.{IsBootView, IsBooted, BootsOn}
 use Rattle.thy_scheme.specs.CheckpointMarks.{only}

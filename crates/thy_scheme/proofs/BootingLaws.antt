@@ -4,19 +4,19 @@ use Rattle.thy_block.specs.declared.mark.Mark.{Mark}
 use Rattle.thy_block.specs.Device.{Device}
 use Rattle.thy_cache.specs.Contents.{dirty_count}
 use Rattle.thy_hart.specs.HartState.{secured}
-use Rattle.thy_view.specs.declared.did.Did.{Did}
-use Rattle.thy_view.specs.declared.did.Did.TheVariants.{Moved}
-use Rattle.thy_view.specs.declared.view.Phase.TheVariants.{Boot}
-use Rattle.thy_view.specs.declared.view.View.{View}
-use Rattle.thy_view.specs.Action.{Acts}
-use Rattle.thy_view.specs.Booting.{boot_view, loading_view}
-use Rattle.thy_view.specs.CoreStep.{CoreStep}
-use Rattle.thy_view.specs.Dram.{LeavesDram, WritesBlock}
-use Rattle.thy_view.specs.Origin.{Origin}
-use Rattle.thy_view.specs.Pace.{Queues, Boots, Strides}
-use Rattle.thy_view.specs.Views.{is_boot}
-use Rattle.thy_view.specs.Work.{GetsDone, Works}
-use Rattle.thy_view.proofs.ActionLemmas.{acts_by}
+use Rattle.thy_computer.specs.declared.did.Did.{Did}
+use Rattle.thy_computer.specs.declared.did.Did.TheVariants.{Moved}
+use Rattle.thy_computer.specs.declared.view.Phase.TheVariants.{Boot}
+use Rattle.thy_computer.specs.declared.view.View.{View}
+use Rattle.thy_computer.specs.Action.{Acts}
+use Rattle.thy_computer.specs.Booting.{boot_view, loading_view}
+use Rattle.thy_computer.specs.CoreStep.{CoreStep}
+use Rattle.thy_computer.specs.Dram.{LeavesDram, WritesBlock}
+use Rattle.thy_computer.specs.Origin.{Origin}
+use Rattle.thy_computer.specs.Pace.{Queues, Boots, Strides}
+use Rattle.thy_computer.specs.Views.{is_boot}
+use Rattle.thy_computer.specs.Work.{GetsDone, Works}
+use Rattle.thy_computer.proofs.ActionLemmas.{acts_by}
 use Rattle.thy_scheme.specs.Scheme.{SchemeOf}
 use Rattle.thy_scheme.specs.Boots.{IsBootView}
 use Rattle.thy_scheme.specs.Laws.{IsLawful, BootHolds}

@@ -1,9 +1,9 @@
 -- A merge, and a promotion, simulate the run.
 use Rattle.std.proofs.Common.{◌≡◌, ◌≢◌, ℕ, ◌+◌, ◌<◌, ◌≤◌, refl, sym, subst, inr, arith}
 use Rattle.thy_cache.specs.Contents.{dirty_count}
-use Rattle.thy_view.specs.declared.did.Did.TheVariants.{Merged, Promoted}
-use Rattle.thy_view.specs.declared.view.Phase.TheVariants.{Boot}
-use Rattle.thy_view.specs.Action.{Rest}
+use Rattle.thy_computer.specs.declared.did.Did.TheVariants.{Merged, Promoted}
+use Rattle.thy_computer.specs.declared.view.Phase.TheVariants.{Boot}
+use Rattle.thy_computer.specs.Action.{Rest}
 use Rattle.thy_scheme.specs.Scheme.{SchemeOf}
 use Rattle.thy_scheme.specs.MachineCalls.{after_call}
 use Rattle.thy_scheme.specs.Machine.{Machine}

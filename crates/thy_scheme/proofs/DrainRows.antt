@@ -2,11 +2,11 @@
 use Rattle.std.proofs.Common.{◌≡◌, ◌≢◌, ℕ, ◌+◌, ◌<◌, Bool, true, false, List, [], ◌∷◌, drop, length, refl, ap, arith}
 use Rattle.thy_block.specs.declared.nvm.Write.{Write}
 use Rattle.thy_block.specs.Device.{Device, drained}
-use Rattle.thy_view.specs.declared.did.Did.TheVariants.{NvmDrained, DramDrained, Nothing}
-use Rattle.thy_view.specs.declared.view.Phase.{Phase}
-use Rattle.thy_view.specs.declared.view.Phase.TheVariants.{Boot, Run, Halt}
-use Rattle.thy_view.specs.Action.{Rest, Drain}
-use Rattle.thy_view.specs.Origin.{Origin}
+use Rattle.thy_computer.specs.declared.did.Did.TheVariants.{NvmDrained, DramDrained, Nothing}
+use Rattle.thy_computer.specs.declared.view.Phase.{Phase}
+use Rattle.thy_computer.specs.declared.view.Phase.TheVariants.{Boot, Run, Halt}
+use Rattle.thy_computer.specs.Action.{Rest, Drain}
+use Rattle.thy_computer.specs.Origin.{Origin}
 use Rattle.thy_scheme.specs.Scheme.{SchemeOf}
 use Rattle.thy_scheme.specs.Calls.{Keeps}
 use Rattle.thy_scheme.specs.Laws.{RunHolds}

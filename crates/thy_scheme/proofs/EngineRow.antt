@@ -9,15 +9,15 @@ use Rattle.thy_hart.specs.HartState.{HartState}
 use Rattle.thy_hart.specs.Moments.{moment, moves_left}
 use Rattle.thy_layout.specs.declared.engine_step.EngineStep.{EngineStep}
 use Rattle.thy_layout.specs.declared.engine_step.EngineStep.TheVariants.{Idle, Copied, PageBlock, StateBlock, TableBlock, Barrier, CommitWritten, Committed}
-use Rattle.thy_view.specs.declared.did.Did.{Did}
-use Rattle.thy_view.specs.declared.did.Did.TheVariants.{Engine, Committed as DidCommit}
-use Rattle.thy_view.specs.declared.view.Phase.TheVariants.{Boot, Run, Halt}
-use Rattle.thy_view.specs.Action.{Acts}
-use Rattle.thy_view.specs.CoreStep.{phase_at, busier, CoreStep}
-use Rattle.thy_view.specs.Dram.{ActsOnDram, WritesBlock}
-use Rattle.thy_view.specs.Origin.{Origin, at, runs_at}
-use Rattle.thy_view.specs.NextActor.{has_stopped}
-use Rattle.thy_view.specs.Work.{adds_copies, GetsDone}
+use Rattle.thy_computer.specs.declared.did.Did.{Did}
+use Rattle.thy_computer.specs.declared.did.Did.TheVariants.{Engine, Committed as DidCommit}
+use Rattle.thy_computer.specs.declared.view.Phase.TheVariants.{Boot, Run, Halt}
+use Rattle.thy_computer.specs.Action.{Acts}
+use Rattle.thy_computer.specs.CoreStep.{phase_at, busier, CoreStep}
+use Rattle.thy_computer.specs.Dram.{ActsOnDram, WritesBlock}
+use Rattle.thy_computer.specs.Origin.{Origin, at, runs_at}
+use Rattle.thy_computer.specs.NextActor.{has_stopped}
+use Rattle.thy_computer.specs.Work.{adds_copies, GetsDone}
 use Rattle.thy_scheme.specs.SchemeStore.{held_by_scheme}
 use Rattle.thy_scheme.specs.Scheme.{SchemeOf}
 use Rattle.thy_scheme.specs.Calls.{queued_in, Keeps, OwesNoMore, Engines, engine_did}

@@ -6,9 +6,9 @@ use Rattle.thy_block.specs.Store.{Holding}
 use Rattle.thy_cache.specs.declared.line.Flushed.{Flushed}
 use Rattle.thy_cache.specs.declared.line.Flushed.TheVariants.{Clean, Line as StoredLine, CopyFirst}
 use Rattle.thy_cache.specs.Contents.{Contents, dirty_count, HasFlushed, CountsFlushed, IsOpenForFlush}
-use Rattle.thy_view.specs.declared.did.Did.TheVariants.{Flushed as DidFlush}
+use Rattle.thy_computer.specs.declared.did.Did.TheVariants.{Flushed as DidFlush}
 use Rattle.thy_hart.specs.Laws.{Follows}
-use Rattle.thy_view.specs.Origin.{Origin}
+use Rattle.thy_computer.specs.Origin.{Origin}
 use Rattle.thy_scheme.specs.SchemeStore.{held_by_scheme}
 use Rattle.thy_scheme.specs.Scheme.{SchemeOf, Stands}
 use Rattle.thy_scheme.specs.Calls.{Succeeds}

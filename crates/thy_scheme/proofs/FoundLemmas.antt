@@ -1,8 +1,8 @@
 -- In the boot of a checkpoint that was found no mark is sealed.
 use Rattle.std.proofs.Common.{◌≡◌, Some, None, sym, ◌∙◌, ap, inl, inr}
 use Rattle.thy_block.specs.declared.mark.Mark.{Mark}
-use Rattle.thy_view.specs.declared.view.View.{View}
-use Rattle.thy_view.specs.Origin.{Origin}
+use Rattle.thy_computer.specs.declared.view.View.{View}
+use Rattle.thy_computer.specs.Origin.{Origin}
 use Rattle.thy_scheme.specs.Boots.{IsBootView}
 
 pub found_unsealed : (o : Origin) (v : View) (m : Mark) → IsBootView o v → v.done ≡ Some m → v.sealed ≡ None

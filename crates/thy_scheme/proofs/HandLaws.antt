@@ -22,8 +22,8 @@ use Rattle.thy_hart.specs.Outcomes.{Given, begun, written_on, fetched, is_short,
 use Rattle.thy_hart.specs.Moments.{Moment, memory_of, brings_line}
 use Rattle.thy_hart.specs.OneStep.{current, hart_after}
 use Rattle.thy_hart.specs.Laws.{IsSized, Follows}
-use Rattle.thy_view.specs.Origin.{Origin}
-use Rattle.thy_view.specs.Stores.{stored_by}
+use Rattle.thy_computer.specs.Origin.{Origin}
+use Rattle.thy_computer.specs.Stores.{stored_by}
 use Rattle.thy_scheme.specs.Sound.{IsToWrite}
 
 -- ---- the plain machine's

@@ -21,18 +21,18 @@ use Rattle.thy_hart.specs.Moments.{Moment, moment, brings_line, left_behind, mov
 use Rattle.thy_hart.specs.OneStep.{current, ComesNearer, HasCome, answer_to}
 use Rattle.thy_hart.specs.Laws.{Follows, state_after}
 use Rattle.thy_hart.proofs.FollowLaws.{follows-on}
-use Rattle.thy_view.specs.declared.did.Did.TheVariants.{Moved as DidMove, Retired as DidRetire}
-use Rattle.thy_view.specs.declared.view.Phase.TheVariants.{Run}
-use Rattle.thy_view.specs.declared.view.View.{View}
-use Rattle.thy_view.specs.Action.{Rest, Acts}
-use Rattle.thy_view.specs.CoreStep.{busier, over_at}
-use Rattle.thy_view.specs.Dram.{WritesBlock}
-use Rattle.thy_view.specs.Kind.{without_memory}
-use Rattle.thy_view.specs.Origin.{Origin, turn_at, at, runs_at}
-use Rattle.thy_view.specs.Pace.{Gauge}
-use Rattle.thy_view.specs.Stores.{blocks_in, stored_by, UsesEntries, SecuresEntries, Dirties}
-use Rattle.thy_view.specs.NextActor.{Advances, Shortage, HandsOn, begun_by, over_by}
-use Rattle.thy_view.specs.Work.{MovesOn}
+use Rattle.thy_computer.specs.declared.did.Did.TheVariants.{Moved as DidMove, Retired as DidRetire}
+use Rattle.thy_computer.specs.declared.view.Phase.TheVariants.{Run}
+use Rattle.thy_computer.specs.declared.view.View.{View}
+use Rattle.thy_computer.specs.Action.{Rest, Acts}
+use Rattle.thy_computer.specs.CoreStep.{busier, over_at}
+use Rattle.thy_computer.specs.Dram.{WritesBlock}
+use Rattle.thy_computer.specs.Kind.{without_memory}
+use Rattle.thy_computer.specs.Origin.{Origin, turn_at, at, runs_at}
+use Rattle.thy_computer.specs.Pace.{Gauge}
+use Rattle.thy_computer.specs.Stores.{blocks_in, stored_by, UsesEntries, SecuresEntries, Dirties}
+use Rattle.thy_computer.specs.NextActor.{Advances, Shortage, HandsOn, begun_by, over_by}
+use Rattle.thy_computer.specs.Work.{MovesOn}
 use Rattle.thy_scheme.specs.Scheme.{SchemeOf}
 use Rattle.thy_scheme.specs.Calls.{owed_in}
 use Rattle.thy_scheme.specs.SchemeStore.{held_by_scheme}

@@ -10,19 +10,19 @@ use Rattle.thy_hart.specs.declared.hand.HartStep.{HartStep}
 use Rattle.thy_hart.specs.HartState.{HartState, secured}
 use Rattle.thy_hart.specs.Outcomes.{given}
 use Rattle.thy_hart.specs.Laws.{Follows}
-use Rattle.thy_view.specs.declared.did.Did.{Did}
-use Rattle.thy_view.specs.declared.did.Did.TheVariants.{Moved as DidMove, Retired as DidRetire}
-use Rattle.thy_view.specs.declared.view.Phase.TheVariants.{Boot, Run}
-use Rattle.thy_view.specs.declared.view.View.{View}
-use Rattle.thy_view.specs.Action.{Acts}
-use Rattle.thy_view.specs.CoreStep.{CoreStep}
-use Rattle.thy_view.specs.Dram.{ActsOnDram, LeavesDram, WritesBlock}
-use Rattle.thy_view.specs.Origin.{Origin, at, runs_at}
-use Rattle.thy_view.specs.Pace.{KeepsPace}
-use Rattle.thy_view.specs.Stores.{stored_by, Dirties}
-use Rattle.thy_view.specs.NextActor.{has_stopped, over_by}
-use Rattle.thy_view.specs.Work.{begins_instruction, GetsDone, Works}
-use Rattle.thy_view.proofs.ActionLemmas.{acts_by}
+use Rattle.thy_computer.specs.declared.did.Did.{Did}
+use Rattle.thy_computer.specs.declared.did.Did.TheVariants.{Moved as DidMove, Retired as DidRetire}
+use Rattle.thy_computer.specs.declared.view.Phase.TheVariants.{Boot, Run}
+use Rattle.thy_computer.specs.declared.view.View.{View}
+use Rattle.thy_computer.specs.Action.{Acts}
+use Rattle.thy_computer.specs.CoreStep.{CoreStep}
+use Rattle.thy_computer.specs.Dram.{ActsOnDram, LeavesDram, WritesBlock}
+use Rattle.thy_computer.specs.Origin.{Origin, at, runs_at}
+use Rattle.thy_computer.specs.Pace.{KeepsPace}
+use Rattle.thy_computer.specs.Stores.{stored_by, Dirties}
+use Rattle.thy_computer.specs.NextActor.{has_stopped, over_by}
+use Rattle.thy_computer.specs.Work.{begins_instruction, GetsDone, Works}
+use Rattle.thy_computer.proofs.ActionLemmas.{acts_by}
 use Rattle.thy_scheme.specs.Scheme.{SchemeOf}
 use Rattle.thy_scheme.specs.Calls.{queued_in, OwesNoMore}
 use Rattle.thy_scheme.specs.Laws.{RunHolds}

@@ -11,20 +11,20 @@ use Rattle.thy_hart.specs.HartState.{HartState, next_block, secured}
 use Rattle.thy_hart.specs.Laws.{Follows}
 use Rattle.thy_hart.specs.Moments.{IsOpenFor, moment}
 use Rattle.thy_isa.specs.Step.{fronted, state_with, is_running}
-use Rattle.thy_view.specs.declared.did.Did.{Did}
-use Rattle.thy_view.specs.declared.did.Did.TheVariants.{Moved}
-use Rattle.thy_view.specs.declared.view.Phase.{Phase}
-use Rattle.thy_view.specs.declared.view.Phase.TheVariants.{Boot, Run, Halt}
-use Rattle.thy_view.specs.declared.view.View.{View}
-use Rattle.thy_view.specs.Action.{ActsBy, Acts}
-use Rattle.thy_view.specs.CoreStep.{CoreStep}
-use Rattle.thy_view.specs.Dram.{LeavesDram, WritesBlock}
-use Rattle.thy_view.specs.Kind.{without_memory}
-use Rattle.thy_view.specs.Origin.{Origin, at, runs_at}
-use Rattle.thy_view.specs.Pace.{Queues, Strides as StridesOn}
-use Rattle.thy_view.specs.NextActor.{front_of, over_by}
-use Rattle.thy_view.specs.Work.{adds_copies, GetsDone}
-use Rattle.thy_view.proofs.ActionLemmas.{acts_by, down-after}
+use Rattle.thy_computer.specs.declared.did.Did.{Did}
+use Rattle.thy_computer.specs.declared.did.Did.TheVariants.{Moved}
+use Rattle.thy_computer.specs.declared.view.Phase.{Phase}
+use Rattle.thy_computer.specs.declared.view.Phase.TheVariants.{Boot, Run, Halt}
+use Rattle.thy_computer.specs.declared.view.View.{View}
+use Rattle.thy_computer.specs.Action.{ActsBy, Acts}
+use Rattle.thy_computer.specs.CoreStep.{CoreStep}
+use Rattle.thy_computer.specs.Dram.{LeavesDram, WritesBlock}
+use Rattle.thy_computer.specs.Kind.{without_memory}
+use Rattle.thy_computer.specs.Origin.{Origin, at, runs_at}
+use Rattle.thy_computer.specs.Pace.{Queues, Strides as StridesOn}
+use Rattle.thy_computer.specs.NextActor.{front_of, over_by}
+use Rattle.thy_computer.specs.Work.{adds_copies, GetsDone}
+use Rattle.thy_computer.proofs.ActionLemmas.{acts_by, down-after}
 use Rattle.thy_scheme.specs.SchemeStore.{held_by_scheme}
 use Rattle.thy_scheme.specs.Scheme.{SchemeOf, Stands}
 use Rattle.thy_scheme.specs.Calls.{queued_in, OpensNone, HoldsSame, KeepsLeft, Keeps, OwesNoMore}

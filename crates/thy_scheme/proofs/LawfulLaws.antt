@@ -14,15 +14,15 @@ use Rattle.thy_hart.specs.declared.hand.Hand.{Hand}
 use Rattle.thy_hart.specs.declared.hand.Hand.TheVariants.{Nothing, Reading, Securing, Writing, Retiring}
 use Rattle.thy_hart.specs.HartState.{blocks_of, secured, has_secured}
 use Rattle.thy_hart.specs.Moments.{Moment}
-use Rattle.thy_view.specs.declared.view.Phase.{Phase}
-use Rattle.thy_view.specs.declared.view.Phase.TheVariants.{Boot, Run, Halt}
-use Rattle.thy_view.specs.declared.view.View.{View}
-use Rattle.thy_view.specs.Kind.{IsPoweredOn, IsUnderWay, IsShortage, IsPressed}
-use Rattle.thy_view.specs.Origin.{Origin}
-use Rattle.thy_view.specs.Stores.{blocks_in, stored_by, needs_at, CountsLines}
-use Rattle.thy_view.specs.NextActor.{Shortage, front_of}
-use Rattle.thy_view.specs.Views.{is_boot}
-use Rattle.thy_view.specs.Work.{IsWithin}
+use Rattle.thy_computer.specs.declared.view.Phase.{Phase}
+use Rattle.thy_computer.specs.declared.view.Phase.TheVariants.{Boot, Run, Halt}
+use Rattle.thy_computer.specs.declared.view.View.{View}
+use Rattle.thy_computer.specs.Kind.{IsPoweredOn, IsUnderWay, IsShortage, IsPressed}
+use Rattle.thy_computer.specs.Origin.{Origin}
+use Rattle.thy_computer.specs.Stores.{blocks_in, stored_by, needs_at, CountsLines}
+use Rattle.thy_computer.specs.NextActor.{Shortage, front_of}
+use Rattle.thy_computer.specs.Views.{is_boot}
+use Rattle.thy_computer.specs.Work.{IsWithin}
 use Rattle.thy_scheme.specs.Boots.{IsBootView}
 use Rattle.thy_scheme.specs.Scheme.{SchemeOf}
 use Rattle.thy_scheme.specs.Laws.{RunHolds, IsLawful as IsLawfulScheme}

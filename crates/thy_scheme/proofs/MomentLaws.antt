@@ -1,14 +1,14 @@
 -- A moment, whatever turns are to come.
 use Rattle.std.proofs.Common.{◌≡◌, ℕ, List, refl, sym, ap, subst}
 use Rattle.thy_block.specs.Device.{Device}
-use Rattle.thy_view.specs.declared.view.Phase.{Phase}
-use Rattle.thy_view.specs.declared.view.Phase.TheVariants.{Boot, Run, Halt}
-use Rattle.thy_view.specs.declared.view.View.{View}
-use Rattle.thy_view.specs.Kind.{IsSeenAlike}
-use Rattle.thy_view.specs.Origin.{Origin}
-use Rattle.thy_view.specs.WithTurns.{with_turns, AgreeBelow, reach, HasTurn}
-use Rattle.thy_view.proofs.TurnLaws.{AgreeBelow-same, AgreeBelow-on, AgreeBelow-less}
-use Rattle.thy_view.proofs.ReachLaws.{steps-reach, HasTurn-agrees}
+use Rattle.thy_computer.specs.declared.view.Phase.{Phase}
+use Rattle.thy_computer.specs.declared.view.Phase.TheVariants.{Boot, Run, Halt}
+use Rattle.thy_computer.specs.declared.view.View.{View}
+use Rattle.thy_computer.specs.Kind.{IsSeenAlike}
+use Rattle.thy_computer.specs.Origin.{Origin}
+use Rattle.thy_computer.specs.WithTurns.{with_turns, AgreeBelow, reach, HasTurn}
+use Rattle.thy_computer.proofs.TurnLaws.{AgreeBelow-same, AgreeBelow-on, AgreeBelow-less}
+use Rattle.thy_computer.proofs.ReachLaws.{steps-reach, HasTurn-agrees}
 use Rattle.thy_scheme.specs.Scheme.{SchemeOf}
 use Rattle.thy_scheme.specs.Laws.{IsLawful}
 use Rattle.thy_scheme.specs.Kind.{kind_over, left_ahead}

@@ -3,15 +3,15 @@ use Rattle.std.proofs.Common.{◌≡◌, ◌==◌, Bool, true, false, List, ℕ,
 use Rattle.thy_block.specs.declared.parameters.Parameters.{Parameters}
 use Rattle.thy_block.specs.Device.{Device, CountAlike}
 use Rattle.thy_cache.specs.Contents.{dirty_count}
-use Rattle.thy_view.specs.declared.boot_step.BootStep.{BootStep}
-use Rattle.thy_view.specs.declared.did.Did.{Did}
-use Rattle.thy_view.specs.declared.did.Stall.{Stall}
-use Rattle.thy_view.specs.declared.did.Stall.TheVariants.{Booting, Sealing, Waiting, Halted}
-use Rattle.thy_view.proofs.ActionLemmas.{after-once}
-use Rattle.thy_view.specs.Booting.{boot_did}
-use Rattle.thy_view.specs.Origin.{Origin}
-use Rattle.thy_view.specs.WithTurns.{with_turns}
-use Rattle.thy_view.specs.NextActor.{Actor, Nvm, Dram, Checkpoint, Advances, Stalled}
+use Rattle.thy_computer.specs.declared.boot_step.BootStep.{BootStep}
+use Rattle.thy_computer.specs.declared.did.Did.{Did}
+use Rattle.thy_computer.specs.declared.did.Stall.{Stall}
+use Rattle.thy_computer.specs.declared.did.Stall.TheVariants.{Booting, Sealing, Waiting, Halted}
+use Rattle.thy_computer.proofs.ActionLemmas.{after-once}
+use Rattle.thy_computer.specs.Booting.{boot_did}
+use Rattle.thy_computer.specs.Origin.{Origin}
+use Rattle.thy_computer.specs.WithTurns.{with_turns}
+use Rattle.thy_computer.specs.NextActor.{Actor, Nvm, Dram, Checkpoint, Advances, Stalled}
 use Rattle.thy_scheme.specs.Laws.{IsLawful as IsLawfulScheme}
 use Rattle.thy_scheme.specs.Scheme.{SchemeOf}
 use Rattle.thy_scheme.specs.MachineCalls.{after_boot}

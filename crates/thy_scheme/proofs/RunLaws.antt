@@ -7,21 +7,21 @@ use Rattle.thy_block.specs.declared.nvm.Shape.{Shape}
 use Rattle.thy_block.specs.Device.{Device, zero_block, fitted}
 use Rattle.thy_block.specs.Marks.{mark}
 use Rattle.thy_layout.specs.Decoded.{Decoded, Nothing, Refused, At}
-use Rattle.thy_view.specs.declared.view.Phase.{Phase}
-use Rattle.thy_view.specs.declared.view.Phase.TheVariants.{Boot, Run, Halt}
-use Rattle.thy_view.specs.declared.view.View.{View}
-use Rattle.thy_view.specs.Booting.{view_of_image, found_first, first_view}
-use Rattle.thy_view.specs.Origin.{Origin, StartsFrom, IsOrigin}
-use Rattle.thy_view.specs.WithTurns.{with_turns, AgreeBelow, reach}
-use Rattle.thy_view.specs.Safe.{ceiling, IsOneOf, Safe}
-use Rattle.thy_view.specs.Views.{doubt_of}
+use Rattle.thy_computer.specs.declared.view.Phase.{Phase}
+use Rattle.thy_computer.specs.declared.view.Phase.TheVariants.{Boot, Run, Halt}
+use Rattle.thy_computer.specs.declared.view.View.{View}
+use Rattle.thy_computer.specs.Booting.{view_of_image, found_first, first_view}
+use Rattle.thy_computer.specs.Origin.{Origin, StartsFrom, IsOrigin}
+use Rattle.thy_computer.specs.WithTurns.{with_turns, AgreeBelow, reach}
+use Rattle.thy_computer.specs.Safe.{ceiling, IsOneOf, Safe}
+use Rattle.thy_computer.specs.Views.{doubt_of}
 use Rattle.thy_scheme.specs.Boots.{IsBootView}
 use Rattle.thy_scheme.specs.Scheme.{SchemeOf}
 use Rattle.thy_scheme.specs.Laws.{IsOwn, IsFound, IsLawful as IsLawfulScheme}
 use Rattle.thy_scheme.specs.Machine.{Machine, view_in, view_of}
 use Rattle.thy_scheme.specs.Sound.{IsSmallMark, IsSmall, SoundIn, Sound, IsAt, IsPowered}
 use Rattle.thy_scheme.specs.Runs.{MomentIsSafe, FreshSimulates, LeftSimulates}
-use Rattle.thy_view.proofs.TurnLaws.{at-agrees, at-early, IsOrigin-with_turns}
+use Rattle.thy_computer.proofs.TurnLaws.{at-agrees, at-early, IsOrigin-with_turns}
 
 -- ---- a moment is safe
 

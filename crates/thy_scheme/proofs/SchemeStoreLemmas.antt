@@ -6,7 +6,7 @@ use Rattle.thy_block.specs.declared.nvm.NvmError.{NvmError}
 use Rattle.thy_block.specs.Counts.{Rose}
 use Rattle.thy_block.specs.Device.{Device, HasFailed, IsFramed, failed_calls, CountsFault, CountsOneFault}
 use Rattle.thy_block.proofs.DeviceLemmas.{counts_once}
-use Rattle.thy_view.specs.Action.{ReadAt}
+use Rattle.thy_computer.specs.Action.{ReadAt}
 use Rattle.thy_scheme.specs.Scheme.{SchemeOf}
 use Rattle.thy_scheme.specs.Calls.{IsOneAccess}
 use Rattle.thy_scheme.specs.Laws.{IsLawful}

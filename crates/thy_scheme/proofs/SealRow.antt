@@ -20,11 +20,11 @@ use Rattle.thy_hart.specs.Laws.{Follows}
 use Rattle.thy_hart.specs.OneStep.{current, coming, coming_by}
 use Rattle.thy_isa.specs.OnBlocks.{state_from}
 use Rattle.thy_isa.specs.Step.{State, fronted}
-use Rattle.thy_view.specs.declared.did.Did.TheVariants.{Sealed}
-use Rattle.thy_view.specs.Action.{Rest}
-use Rattle.thy_view.specs.Origin.{Origin, at as at_count, runs_at}
-use Rattle.thy_view.specs.NextActor.{front_of}
-use Rattle.thy_view.specs.Safe.{ceiling}
+use Rattle.thy_computer.specs.declared.did.Did.TheVariants.{Sealed}
+use Rattle.thy_computer.specs.Action.{Rest}
+use Rattle.thy_computer.specs.Origin.{Origin, at as at_count, runs_at}
+use Rattle.thy_computer.specs.NextActor.{front_of}
+use Rattle.thy_computer.specs.Safe.{ceiling}
 use Rattle.thy_scheme.specs.Scheme.{SchemeOf}
 use Rattle.thy_scheme.specs.Calls.{OpensNone, IsTaken}
 use Rattle.thy_scheme.specs.Laws.{RunHolds}
@@ -36,7 +36,7 @@ use Rattle.thy_scheme.proofs.CacheLemmas.{none_for_flush}
 use Rattle.thy_scheme.proofs.EpochLemmas.{few-begun}
 use Rattle.thy_scheme.proofs.KeepsLaws.{run_of, view_run, stands, runs_behind, takes_none, none_begun, simulates_by}
 use Rattle.thy_scheme.proofs.RecordLemmas.{state-console}
-use Rattle.thy_view.proofs.StorableAt.{IsRecordable-at}
+use Rattle.thy_computer.proofs.StorableAt.{IsRecordable-at}
 use Rattle.thy_scheme.proofs.SealingLaws.{IsOver, over_at, unsealed_at}
 use Rattle.thy_scheme.proofs.HandLaws.{current-is}
 

@@ -3,10 +3,10 @@ use Rattle.std.proofs.Common.{◌≡◌, ◌≢◌, ◌&&◌, ◌||◌, not, Boo
 use Rattle.thy_block.specs.declared.cause.EndCause.{EndCause}
 use Rattle.thy_block.specs.declared.mark.Mark.{Mark}
 use Rattle.thy_block.specs.Device.{Device}
-use Rattle.thy_view.specs.declared.did.Stall.TheVariants.{Sealing, Waiting}
-use Rattle.thy_view.specs.declared.view.Phase.TheVariants.{Run}
-use Rattle.thy_view.specs.Origin.{Origin}
-use Rattle.thy_view.specs.NextActor.{has_stopped, stall_in}
+use Rattle.thy_computer.specs.declared.did.Stall.TheVariants.{Sealing, Waiting}
+use Rattle.thy_computer.specs.declared.view.Phase.TheVariants.{Run}
+use Rattle.thy_computer.specs.Origin.{Origin}
+use Rattle.thy_computer.specs.NextActor.{has_stopped, stall_in}
 use Rattle.thy_scheme.specs.Scheme.{SchemeOf}
 use Rattle.thy_scheme.specs.Laws.{RunHolds}
 use Rattle.thy_scheme.specs.Machine.{Machine, is_barred, shortage_of, pressure_of}

@@ -1,7 +1,7 @@
 -- What a hart's pick finds.
 use Rattle.std.proofs.Common.{◌≡◌, Bool, true, false, ◌&&◌, ◌||◌, not, if◌then◌else◌, Option, Some, None, refl}
-use Rattle.thy_view.specs.declared.did.Stall.{Stall}
-use Rattle.thy_view.specs.declared.did.Stall.TheVariants.{Waiting, Sealing}
+use Rattle.thy_computer.specs.declared.did.Stall.{Stall}
+use Rattle.thy_computer.specs.declared.did.Stall.TheVariants.{Waiting, Sealing}
 
 -- the stall, by what decides it
 abbrev pub stalled : Bool → Bool → Bool → Bool → Bool → Bool → Option Stall

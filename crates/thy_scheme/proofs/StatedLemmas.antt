@@ -21,8 +21,8 @@ use Rattle.thy_hart.specs.Moments.{Moment, memory_of, is_missing, brings_line}
 use Rattle.thy_hart.specs.OneStep.{hart_after, answer_to}
 use Rattle.thy_hart.proofs.HandLemmas.{written_by, blocks_of-two, blocks_of-most}
 use Rattle.thy_cache.specs.Contents.{dirty_count}
-use Rattle.thy_view.specs.CoreStep.{IsShort}
-use Rattle.thy_view.specs.NextActor.{Shortage}
+use Rattle.thy_computer.specs.CoreStep.{IsShort}
+use Rattle.thy_computer.specs.NextActor.{Shortage}
 use Rattle.thy_scheme.specs.Machine.{short_of}
 use Rattle.thy_scheme.specs.Sound.{IsFresh}
 use Rattle.thy_scheme.proofs.EpochLemmas.{two_blocks}

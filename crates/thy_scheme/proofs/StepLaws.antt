@@ -4,15 +4,15 @@ use Rattle.thy_block.specs.declared.mark.Mark.{Mark}
 use Rattle.thy_block.specs.Device.{Device}
 use Rattle.thy_isa.specs.Step.{state_with}
 use Rattle.thy_isa.specs.declared.state.CpuState.{CpuState}
-use Rattle.thy_view.specs.declared.view.Phase.{Phase}
-use Rattle.thy_view.specs.declared.view.Phase.TheVariants.{Boot, Run, Halt}
-use Rattle.thy_view.specs.declared.view.View.{View}
-use Rattle.thy_view.specs.Action.{doubt_after_fault}
-use Rattle.thy_view.specs.Kind.{without_memory}
-use Rattle.thy_view.specs.Origin.{Origin, at}
-use Rattle.thy_view.specs.Safe.{Safe}
-use Rattle.thy_view.specs.Views.{IsRestarting, is_boot, doubt_of}
-use Rattle.thy_view.proofs.RestartLemmas.{undoubted, undoubted_after, Spares, spares}
+use Rattle.thy_computer.specs.declared.view.Phase.{Phase}
+use Rattle.thy_computer.specs.declared.view.Phase.TheVariants.{Boot, Run, Halt}
+use Rattle.thy_computer.specs.declared.view.View.{View}
+use Rattle.thy_computer.specs.Action.{doubt_after_fault}
+use Rattle.thy_computer.specs.Kind.{without_memory}
+use Rattle.thy_computer.specs.Origin.{Origin, at}
+use Rattle.thy_computer.specs.Safe.{Safe}
+use Rattle.thy_computer.specs.Views.{IsRestarting, is_boot, doubt_of}
+use Rattle.thy_computer.proofs.RestartLemmas.{undoubted, undoubted_after, Spares, spares}
 use Rattle.thy_scheme.specs.Boots.{IsBootView}
 use Rattle.thy_scheme.specs.Laws.{IsLawful}
 use Rattle.thy_scheme.specs.Scheme.{SchemeOf}

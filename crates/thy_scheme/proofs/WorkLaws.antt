@@ -6,13 +6,13 @@ use Rattle.thy_block.specs.Device.{Device}
 use Rattle.thy_cache.specs.Contents.{dirty_count}
 use Rattle.thy_hart.specs.HartState.{secured, has_secured}
 use Rattle.thy_hart.specs.Moments.{Moment, moves_left}
-use Rattle.thy_view.specs.declared.did.Did.{Did}
-use Rattle.thy_view.specs.declared.view.Phase.{Phase}
-use Rattle.thy_view.specs.declared.view.Phase.TheVariants.{Boot, Run, Halt}
-use Rattle.thy_view.specs.Origin.{Origin}
-use Rattle.thy_view.specs.Stores.{UsesEntries}
-use Rattle.thy_view.specs.Views.{is_boot}
-use Rattle.thy_view.specs.Work.{begins_instruction, begins_epoch, adds_copies, LeavesNoMore}
+use Rattle.thy_computer.specs.declared.did.Did.{Did}
+use Rattle.thy_computer.specs.declared.view.Phase.{Phase}
+use Rattle.thy_computer.specs.declared.view.Phase.TheVariants.{Boot, Run, Halt}
+use Rattle.thy_computer.specs.Origin.{Origin}
+use Rattle.thy_computer.specs.Stores.{UsesEntries}
+use Rattle.thy_computer.specs.Views.{is_boot}
+use Rattle.thy_computer.specs.Work.{begins_instruction, begins_epoch, adds_copies, LeavesNoMore}
 use Rattle.thy_scheme.specs.Scheme.{SchemeOf}
 use Rattle.thy_scheme.specs.Calls.{owed_in, OwesNoMore}
 use Rattle.thy_scheme.specs.Machine.{Machine, moment_of, moves_begun, moves_while, moves_in, after_boot_only, view_of, pressure_of, gauge_in, gauge_of}

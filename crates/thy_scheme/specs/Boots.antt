@@ -8,15 +8,15 @@ use Rattle.thy_isa.specs.declared.state.CpuState.{CpuState}
 use Rattle.thy_isa.specs.OnBlocks.{state_from}
 use Rattle.thy_isa.specs.Step.{cpu_of}
 use Rattle.thy_layout.specs.Cpu.{IsRecordable}
-use Rattle.thy_view.specs.declared.boot_step.BootStep.{BootStep}
-use Rattle.thy_view.specs.declared.boot_step.BootStep.TheVariants.{GoesOn, Loaded, Restarted, Refused}
-use Rattle.thy_view.specs.declared.view.View.{View}
-use Rattle.thy_view.specs.Action.{ActsBy, ActionFailedBy, doubt_after_fault}
-use Rattle.thy_view.specs.Booting.{boot_view, loading_view, boot_did}
-use Rattle.thy_view.specs.CoreStep.{BootsTo}
-use Rattle.thy_view.specs.Dram.{ActsOnDram}
-use Rattle.thy_view.specs.Origin.{Origin, at}
-use Rattle.thy_view.specs.Safe.{ceiling, Safe}
+use Rattle.thy_computer.specs.declared.boot_step.BootStep.{BootStep}
+use Rattle.thy_computer.specs.declared.boot_step.BootStep.TheVariants.{GoesOn, Loaded, Restarted, Refused}
+use Rattle.thy_computer.specs.declared.view.View.{View}
+use Rattle.thy_computer.specs.Action.{ActsBy, ActionFailedBy, doubt_after_fault}
+use Rattle.thy_computer.specs.Booting.{boot_view, loading_view, boot_did}
+use Rattle.thy_computer.specs.CoreStep.{BootsTo}
+use Rattle.thy_computer.specs.Dram.{ActsOnDram}
+use Rattle.thy_computer.specs.Origin.{Origin, at}
+use Rattle.thy_computer.specs.Safe.{ceiling, Safe}
 use Rattle.thy_scheme.specs.CheckpointMarks.{only}
 use Rattle.thy_scheme.specs.Scheme.{SchemeOf}
 use Rattle.thy_scheme.specs.Calls.{queued_in}

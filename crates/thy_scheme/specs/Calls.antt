@@ -13,12 +13,12 @@ use Rattle.thy_isa.specs.OnBlocks.{state_from}
 use Rattle.thy_layout.specs.Cpu.{IsRecordable}
 use Rattle.thy_layout.specs.declared.engine_step.EngineStep.{EngineStep}
 use Rattle.thy_layout.specs.declared.engine_step.EngineStep.TheVariants.{Idle, Copied, PageBlock, StateBlock, TableBlock, CommitWritten, Committed}
-use Rattle.thy_view.specs.declared.did.Did.{Did}
-use Rattle.thy_view.specs.declared.did.Did.TheVariants.{Engine, Promoted, Committed as DidCommit}
-use Rattle.thy_view.specs.Action.{Action, IsAccess, IsAfter, FailsTo, Acts, ActionFailed}
-use Rattle.thy_view.specs.Dram.{ActsOnDram, WritesDram, WritesBlock}
-use Rattle.thy_view.specs.Origin.{Origin, at}
-use Rattle.thy_view.specs.Safe.{ceiling, Safe}
+use Rattle.thy_computer.specs.declared.did.Did.{Did}
+use Rattle.thy_computer.specs.declared.did.Did.TheVariants.{Engine, Promoted, Committed as DidCommit}
+use Rattle.thy_computer.specs.Action.{Action, IsAccess, IsAfter, FailsTo, Acts, ActionFailed}
+use Rattle.thy_computer.specs.Dram.{ActsOnDram, WritesDram, WritesBlock}
+use Rattle.thy_computer.specs.Origin.{Origin, at}
+use Rattle.thy_computer.specs.Safe.{ceiling, Safe}
 use Rattle.thy_scheme.specs.CheckpointMarks.{CheckpointMarks, doubt_in, marks_after, marks_after_fault}
 use Rattle.thy_scheme.specs.Scheme.{SchemeOf}
 

@@ -9,8 +9,8 @@ use Rattle.thy_dram.specs.Contents.{Contents}
 use Rattle.thy_isa.specs.declared.state.CpuState.{CpuState}
 use Rattle.thy_isa.specs.Step.{State}
 use Rattle.thy_layout.specs.declared.engine_step.EngineStep.{EngineStep}
-use Rattle.thy_view.specs.declared.boot_step.BootStep.{BootStep}
-use Rattle.thy_view.specs.Action.{Action, IsAfter}
+use Rattle.thy_computer.specs.declared.boot_step.BootStep.{BootStep}
+use Rattle.thy_computer.specs.Action.{Action, IsAfter}
 
 -- what a call returns, the scheme after it, and its action on the NVM
 pub record Made (S A : Type 0) : Type 0 where

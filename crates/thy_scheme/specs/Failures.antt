@@ -2,14 +2,14 @@
 use Rattle.std.specs.Prelude.{◌≡◌, ℕ, true, false}
 use Rattle.thy_block.specs.declared.mark.Mark.{Mark}
 use Rattle.thy_block.specs.Device.{Device, HasFailed, IsFramed}
-use Rattle.thy_view.specs.declared.did.Did.{Did}
-use Rattle.thy_view.specs.declared.did.Did.TheVariants.{Moved, Flushed, Promoted, NvmDrained}
-use Rattle.thy_view.specs.declared.view.Phase.TheVariants.{Boot, Run}
-use Rattle.thy_view.specs.Action.{ActionFailedBy, doubt_after_fault}
-use Rattle.thy_view.specs.Booting.{boot_did}
-use Rattle.thy_view.specs.Origin.{Origin}
-use Rattle.thy_view.specs.Safe.{Safe}
-use Rattle.thy_view.specs.Views.{IsRestarting}
+use Rattle.thy_computer.specs.declared.did.Did.{Did}
+use Rattle.thy_computer.specs.declared.did.Did.TheVariants.{Moved, Flushed, Promoted, NvmDrained}
+use Rattle.thy_computer.specs.declared.view.Phase.TheVariants.{Boot, Run}
+use Rattle.thy_computer.specs.Action.{ActionFailedBy, doubt_after_fault}
+use Rattle.thy_computer.specs.Booting.{boot_did}
+use Rattle.thy_computer.specs.Origin.{Origin}
+use Rattle.thy_computer.specs.Safe.{Safe}
+use Rattle.thy_computer.specs.Views.{IsRestarting}
 use Rattle.thy_scheme.specs.Scheme.{SchemeOf, StaysOf}
 use Rattle.thy_scheme.specs.Calls.{IsOneAccess, PromotionFails, EngineFails, engine_did}
 use Rattle.thy_scheme.specs.Boots.{BootFails}

@@ -11,12 +11,12 @@ use Rattle.thy_isa.specs.declared.state.CpuState.{CpuState}
 use Rattle.thy_isa.specs.OnBlocks.{state_from}
 use Rattle.thy_isa.specs.Step.{State}
 use Rattle.thy_layout.specs.Decoded.{Decoded, Nothing, Refused, At}
-use Rattle.thy_view.specs.declared.boot_step.BootStep.{BootStep}
-use Rattle.thy_view.specs.Booting.{view_of_image}
-use Rattle.thy_view.specs.Origin.{Origin, IsOrigin, at}
-use Rattle.thy_view.specs.Safe.{ceiling, Safe}
-use Rattle.thy_view.specs.WithTurns.{with_turns}
-use Rattle.thy_view.specs.Views.{doubt_of}
+use Rattle.thy_computer.specs.declared.boot_step.BootStep.{BootStep}
+use Rattle.thy_computer.specs.Booting.{view_of_image}
+use Rattle.thy_computer.specs.Origin.{Origin, IsOrigin, at}
+use Rattle.thy_computer.specs.Safe.{ceiling, Safe}
+use Rattle.thy_computer.specs.WithTurns.{with_turns}
+use Rattle.thy_computer.specs.Views.{doubt_of}
 use Rattle.thy_scheme.specs.CheckpointMarks.{CheckpointMarks, doubt_in}
 use Rattle.thy_scheme.specs.Scheme.{SchemeOf, Stands, IsBooting, StaysOf}
 use Rattle.thy_scheme.specs.Calls.{owed_in, Keeps, OwesNoMore}

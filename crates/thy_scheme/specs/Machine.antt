@@ -15,12 +15,12 @@ use Rattle.thy_hart.specs.HartState.{HartState, new_hart, blocks_of, secured, ha
 use Rattle.thy_isa.specs.declared.state.CpuState.{CpuState}
 use Rattle.thy_isa.specs.Step.{cpu_crossed, zero_cpu}
 use Rattle.thy_hart.specs.Moments.{Moment, moment, moves_left}
-use Rattle.thy_view.specs.declared.view.Phase.{Phase}
-use Rattle.thy_view.specs.declared.view.Phase.TheVariants.{Boot, Run, Halt}
-use Rattle.thy_view.specs.declared.view.View.{View}
-use Rattle.thy_view.specs.Origin.{Origin}
-use Rattle.thy_view.specs.Pace.{Gauge}
-use Rattle.thy_view.specs.NextActor.{Pressure, Shortage, front_of}
+use Rattle.thy_computer.specs.declared.view.Phase.{Phase}
+use Rattle.thy_computer.specs.declared.view.Phase.TheVariants.{Boot, Run, Halt}
+use Rattle.thy_computer.specs.declared.view.View.{View}
+use Rattle.thy_computer.specs.Origin.{Origin}
+use Rattle.thy_computer.specs.Pace.{Gauge}
+use Rattle.thy_computer.specs.NextActor.{Pressure, Shortage, front_of}
 use Rattle.thy_scheme.specs.CheckpointMarks.{CheckpointMarks, only}
 use Rattle.thy_scheme.specs.Scheme.{SchemeOf}
 use Rattle.thy_scheme.specs.SchemeStore.{held_by_scheme}

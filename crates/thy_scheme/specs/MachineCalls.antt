@@ -25,14 +25,14 @@ use Rattle.thy_isa.specs.declared.state.CpuState.{CpuState}
 use Rattle.thy_isa.specs.Step.{cpu_of, is_running}
 use Rattle.thy_layout.specs.declared.engine_step.EngineStep.{EngineStep}
 use Rattle.thy_layout.specs.declared.engine_step.EngineStep.TheVariants.{Committed}
-use Rattle.thy_view.specs.declared.boot_step.BootStep.{BootStep}
-use Rattle.thy_view.specs.declared.boot_step.BootStep.TheVariants.{GoesOn, Loaded, Restarted, Refused}
-use Rattle.thy_view.specs.declared.did.Did.{Did}
-use Rattle.thy_view.specs.declared.did.Did.TheVariants.{Moved as DidMove, Retired as DidRetire}
-use Rattle.thy_view.specs.declared.view.Phase.{Phase}
-use Rattle.thy_view.specs.declared.view.Phase.TheVariants.{Run, Halt}
-use Rattle.thy_view.specs.Action.{Action, Rest, IsAfter}
-use Rattle.thy_view.specs.Origin.{Origin}
+use Rattle.thy_computer.specs.declared.boot_step.BootStep.{BootStep}
+use Rattle.thy_computer.specs.declared.boot_step.BootStep.TheVariants.{GoesOn, Loaded, Restarted, Refused}
+use Rattle.thy_computer.specs.declared.did.Did.{Did}
+use Rattle.thy_computer.specs.declared.did.Did.TheVariants.{Moved as DidMove, Retired as DidRetire}
+use Rattle.thy_computer.specs.declared.view.Phase.{Phase}
+use Rattle.thy_computer.specs.declared.view.Phase.TheVariants.{Run, Halt}
+use Rattle.thy_computer.specs.Action.{Action, Rest, IsAfter}
+use Rattle.thy_computer.specs.Origin.{Origin}
 use Rattle.thy_scheme.specs.CheckpointMarks.{only, marks_after}
 use Rattle.thy_scheme.specs.Exact.{Made}
 use Rattle.thy_scheme.specs.Scheme.{SchemeOf}

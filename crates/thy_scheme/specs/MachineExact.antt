@@ -8,15 +8,15 @@ use Rattle.thy_hart.specs.Moments.{Moment}
 use Rattle.thy_hart.specs.OneStep.{hart_after, answer_to}
 use Rattle.thy_hart.specs.Outcomes.{Given, given}
 use Rattle.thy_layout.specs.declared.engine_step.EngineStep.{EngineStep}
-use Rattle.thy_view.specs.declared.boot_step.BootStep.{BootStep}
-use Rattle.thy_view.specs.declared.did.Did.{Did}
-use Rattle.thy_view.specs.declared.did.Did.TheVariants.{Flushed as DidFlush, Merged, Sealed, Promoted, NvmDrained, DramDrained, Nothing}
-use Rattle.thy_view.specs.declared.did.Stall.{Stall}
-use Rattle.thy_view.specs.declared.did.Stall.TheVariants.{Booting, Sealing, Waiting, Halted}
-use Rattle.thy_view.specs.Action.{Action, Rest, Drain, IsAfter}
-use Rattle.thy_view.specs.Booting.{boot_did}
-use Rattle.thy_view.specs.Origin.{Origin}
-use Rattle.thy_view.specs.NextActor.{Actor, Nvm, Dram, Checkpoint, Advances, Stalled}
+use Rattle.thy_computer.specs.declared.boot_step.BootStep.{BootStep}
+use Rattle.thy_computer.specs.declared.did.Did.{Did}
+use Rattle.thy_computer.specs.declared.did.Did.TheVariants.{Flushed as DidFlush, Merged, Sealed, Promoted, NvmDrained, DramDrained, Nothing}
+use Rattle.thy_computer.specs.declared.did.Stall.{Stall}
+use Rattle.thy_computer.specs.declared.did.Stall.TheVariants.{Booting, Sealing, Waiting, Halted}
+use Rattle.thy_computer.specs.Action.{Action, Rest, Drain, IsAfter}
+use Rattle.thy_computer.specs.Booting.{boot_did}
+use Rattle.thy_computer.specs.Origin.{Origin}
+use Rattle.thy_computer.specs.NextActor.{Actor, Nvm, Dram, Checkpoint, Advances, Stalled}
 use Rattle.thy_scheme.specs.Calls.{engine_did}
 use Rattle.thy_scheme.specs.Exact.{Made}
 use Rattle.thy_scheme.specs.Scheme.{SchemeOf}

@@ -9,22 +9,22 @@ use Rattle.thy_hart.specs.declared.hand.HartStep.{HartStep}
 use Rattle.thy_hart.specs.Outcomes.{given}
 use Rattle.thy_hart.specs.HartState.{HartState}
 use Rattle.thy_layout.specs.declared.engine_step.EngineStep.{EngineStep}
-use Rattle.thy_view.specs.declared.boot_step.BootStep.{BootStep}
-use Rattle.thy_view.specs.declared.did.Did.{Did}
-use Rattle.thy_view.specs.declared.did.Did.TheVariants.{Moved, Flushed as DidFlush, Merged, Promoted, Sealed, NvmDrained, DramDrained, Nothing}
-use Rattle.thy_view.specs.declared.did.Stall.TheVariants.{Sealing}
-use Rattle.thy_view.specs.declared.view.Phase.TheVariants.{Boot, Run, Halt}
-use Rattle.thy_view.specs.Action.{ActsBy}
-use Rattle.thy_view.specs.Booting.{boot_did}
-use Rattle.thy_view.specs.CoreStep.{CoreStep}
-use Rattle.thy_view.specs.Dram.{LeavesDram}
-use Rattle.thy_view.specs.Origin.{Origin}
-use Rattle.thy_view.specs.Pace.{KeepsPace}
-use Rattle.thy_view.specs.Stores.{Dirties}
-use Rattle.thy_view.specs.WithTurns.{HasTurn}
-use Rattle.thy_view.specs.NextActor.{Advances, HandsOn, stall_in, over_by}
-use Rattle.thy_view.specs.Views.{IsRestarting}
-use Rattle.thy_view.specs.Work.{Works}
+use Rattle.thy_computer.specs.declared.boot_step.BootStep.{BootStep}
+use Rattle.thy_computer.specs.declared.did.Did.{Did}
+use Rattle.thy_computer.specs.declared.did.Did.TheVariants.{Moved, Flushed as DidFlush, Merged, Promoted, Sealed, NvmDrained, DramDrained, Nothing}
+use Rattle.thy_computer.specs.declared.did.Stall.TheVariants.{Sealing}
+use Rattle.thy_computer.specs.declared.view.Phase.TheVariants.{Boot, Run, Halt}
+use Rattle.thy_computer.specs.Action.{ActsBy}
+use Rattle.thy_computer.specs.Booting.{boot_did}
+use Rattle.thy_computer.specs.CoreStep.{CoreStep}
+use Rattle.thy_computer.specs.Dram.{LeavesDram}
+use Rattle.thy_computer.specs.Origin.{Origin}
+use Rattle.thy_computer.specs.Pace.{KeepsPace}
+use Rattle.thy_computer.specs.Stores.{Dirties}
+use Rattle.thy_computer.specs.WithTurns.{HasTurn}
+use Rattle.thy_computer.specs.NextActor.{Advances, HandsOn, stall_in, over_by}
+use Rattle.thy_computer.specs.Views.{IsRestarting}
+use Rattle.thy_computer.specs.Work.{Works}
 use Rattle.thy_scheme.specs.Scheme.{SchemeOf}
 use Rattle.thy_scheme.specs.Calls.{Merges, Promotes, Drains, Seals, Engines, engine_did}
 use Rattle.thy_scheme.specs.Boots.{BootsOn, BootDrains}

@@ -5,20 +5,20 @@ use Rattle.thy_block.specs.declared.block.Block.{Block}
 use Rattle.thy_block.specs.declared.nvm.Shape.{Shape}
 use Rattle.thy_block.specs.Device.{Device, fitted}
 use Rattle.thy_block.specs.declared.mix.Pick.{Pick}
-use Rattle.thy_view.specs.declared.did.Did.{Did}
-use Rattle.thy_view.specs.declared.did.Stall.{Stall}
-use Rattle.thy_view.specs.declared.did.Stepped.{Stepped}
-use Rattle.thy_view.specs.declared.view.Phase.TheVariants.{Boot}
-use Rattle.thy_view.specs.declared.view.View.{View}
-use Rattle.thy_view.specs.Booting.{first_view, view_of_image}
-use Rattle.thy_view.specs.CoreStep.{CoreStep}
-use Rattle.thy_view.specs.Kind.{IsLawful, IsFittedFor, IsCrashOfView, IsStep, LeavesSafe}
-use Rattle.thy_view.specs.Origin.{Origin, IsOrigin}
-use Rattle.thy_view.specs.Pace.{Gauge, KeepsPace, retires}
-use Rattle.thy_view.specs.Safe.{ceiling, Safe}
-use Rattle.thy_view.specs.WithTurns.{with_turns, AgreeBelow, reach, HasTurn}
-use Rattle.thy_view.specs.NextActor.{NextActor, HandsOn, actor_of}
-use Rattle.thy_view.specs.Views.{is_halt, halts, doubt_of}
+use Rattle.thy_computer.specs.declared.did.Did.{Did}
+use Rattle.thy_computer.specs.declared.did.Stall.{Stall}
+use Rattle.thy_computer.specs.declared.did.Stepped.{Stepped}
+use Rattle.thy_computer.specs.declared.view.Phase.TheVariants.{Boot}
+use Rattle.thy_computer.specs.declared.view.View.{View}
+use Rattle.thy_computer.specs.Booting.{first_view, view_of_image}
+use Rattle.thy_computer.specs.CoreStep.{CoreStep}
+use Rattle.thy_computer.specs.Kind.{IsLawful, IsFittedFor, IsCrashOfView, IsStep, LeavesSafe}
+use Rattle.thy_computer.specs.Origin.{Origin, IsOrigin}
+use Rattle.thy_computer.specs.Pace.{Gauge, KeepsPace, retires}
+use Rattle.thy_computer.specs.Safe.{ceiling, Safe}
+use Rattle.thy_computer.specs.WithTurns.{with_turns, AgreeBelow, reach, HasTurn}
+use Rattle.thy_computer.specs.NextActor.{NextActor, HandsOn, actor_of}
+use Rattle.thy_computer.specs.Views.{is_halt, halts, doubt_of}
 use Rattle.thy_scheme.specs.Scheme.{SchemeOf}
 use Rattle.thy_scheme.specs.Laws.{IsLawful as IsLawfulScheme}
 use Rattle.thy_scheme.specs.MachineExact.{MakesCycle}

@@ -8,8 +8,8 @@ use Rattle.thy_block.specs.Store.{Holding}
 use Rattle.thy_dram.specs.Contents.{Contents}
 use Rattle.thy_layout.specs.Decoded.{Reading}
 use Rattle.thy_layout.specs.declared.start.Start.{Start}
-use Rattle.thy_view.specs.declared.view.View.{View}
-use Rattle.thy_view.specs.Origin.{Origin, Begins}
+use Rattle.thy_computer.specs.declared.view.View.{View}
+use Rattle.thy_computer.specs.Origin.{Origin, Begins}
 use Rattle.thy_scheme.specs.CheckpointMarks.{CheckpointMarks}
 use Rattle.thy_scheme.specs.Exact.{CallsOf}
 

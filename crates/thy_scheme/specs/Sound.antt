@@ -15,15 +15,15 @@ use Rattle.thy_hart.specs.HartState.{HartState, next_block, secured}
 use Rattle.thy_hart.specs.Moments.{IsOpenFor}
 use Rattle.thy_hart.specs.Laws.{Follows}
 use Rattle.thy_isa.specs.Step.{State, state_with, fronted, is_running}
-use Rattle.thy_view.specs.declared.view.Phase.{Phase}
-use Rattle.thy_view.specs.declared.view.Phase.TheVariants.{Boot, Run, Halt}
-use Rattle.thy_view.specs.declared.view.View.{View}
-use Rattle.thy_view.specs.Kind.{without_memory}
-use Rattle.thy_view.specs.Origin.{Origin, IsOrigin, at, runs_at}
-use Rattle.thy_view.specs.Stores.{stored_by}
-use Rattle.thy_view.specs.WithTurns.{with_turns, AgreeBelow, reach}
-use Rattle.thy_view.specs.NextActor.{front_of, has_stopped}
-use Rattle.thy_view.specs.Views.{is_boot}
+use Rattle.thy_computer.specs.declared.view.Phase.{Phase}
+use Rattle.thy_computer.specs.declared.view.Phase.TheVariants.{Boot, Run, Halt}
+use Rattle.thy_computer.specs.declared.view.View.{View}
+use Rattle.thy_computer.specs.Kind.{without_memory}
+use Rattle.thy_computer.specs.Origin.{Origin, IsOrigin, at, runs_at}
+use Rattle.thy_computer.specs.Stores.{stored_by}
+use Rattle.thy_computer.specs.WithTurns.{with_turns, AgreeBelow, reach}
+use Rattle.thy_computer.specs.NextActor.{front_of, has_stopped}
+use Rattle.thy_computer.specs.Views.{is_boot}
 use Rattle.thy_scheme.specs.Scheme.{SchemeOf}
 use Rattle.thy_scheme.specs.Machine.{Machine, machine_on, processor_of, memory_of, view_of}
 use Rattle.thy_scheme.specs.Pace.{cycles_left, most_spent}

@@ -6,7 +6,7 @@
 //! the laws by which it is one of the machines that the layers above run. The last of them is `the_machine_is_lawful`.
 //!
 //! Open specs/Scheme.antt first, then specs/Calls.antt, and src/scheme.rt; of the machine specs/Sound.antt,
-//! specs/Rows.antt and src/laws.rt. It depends on thy_hart, thy_cache, thy_view and their dependencies; thy_core and
+//! specs/Rows.antt and src/laws.rt. It depends on thy_hart, thy_cache, thy_computer and their dependencies; thy_core and
 //! the crates that make a scheme of its parts depend on it.
 #![tactic(auto)]
 

@@ -5,9 +5,9 @@ ghost use Rattle.thy_block.specs.Device.{Device, HasFailed, IsFramed, CountsFaul
 ghost use Rattle.thy_block.specs.Store.{IsKeptByLoad};
 ghost use Rattle.thy_dram.specs.Contents.{lost};
 ghost use Rattle.thy_isa.specs.Step.{state_of};
-ghost use Rattle.thy_view.specs.Kind.{IsDramOf};
-ghost use Rattle.thy_view.specs.Origin.{Origin, Begins};
-ghost use Rattle.thy_view.specs.Views.{loads};
+ghost use Rattle.thy_computer.specs.Kind.{IsDramOf};
+ghost use Rattle.thy_computer.specs.Origin.{Origin, Begins};
+ghost use Rattle.thy_computer.specs.Views.{loads};
 ghost use Rattle.thy_scheme.specs.CheckpointMarks.{CheckpointMarks};
 ghost use Rattle.thy_scheme.specs.Exact.{Makes};
 ghost use Rattle.thy_scheme.specs.Scheme.{SchemeOf, StaysOf, Stands, CanRun, IsBooting, CanBoot};
@@ -17,10 +17,10 @@ ghost use Rattle.thy_scheme.specs.Laws.{IsLawful};
 
 use std::alloc::{AllocError, Global};
 use thy_block::{Block, Geometry, Nvm, NvmError, Stored};
+use thy_computer::BootStep;
 use thy_dram::Dram;
 use thy_isa::CpuState;
 use thy_layout::{EngineStep, Start};
-use thy_view::BootStep;
 
 /// A scheme of checkpoints: memory over a DRAM and an NVM, of which it keeps a committed version while the next one is
 /// made. It has the boot, which finds the committed version, and the engine, which makes the next.

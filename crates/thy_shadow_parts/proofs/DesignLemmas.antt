@@ -15,25 +15,25 @@ use Rattle.thy_layout.specs.Entries.{Lists}
 use Rattle.thy_layout.proofs.AskingLemmas.{half}
 use Rattle.thy_layout.specs.Layout.{slot_in, looked_by}
 use Rattle.thy_layout.proofs.ReadBackLemmas.{epoch_of-commit_of}
-use Rattle.thy_view.specs.Action.{WriteAt}
-use Rattle.thy_view.specs.Safe.{ceiling}
-use Rattle.thy_view.specs.declared.round.Round.{Round}
-use Rattle.thy_view.specs.declared.round.Round.TheVariants.{Write, Commit}
-use Rattle.thy_view.specs.Round.{IsInRound}
+use Rattle.thy_computer.specs.Action.{WriteAt}
+use Rattle.thy_computer.specs.Safe.{ceiling}
+use Rattle.thy_computer.specs.declared.round.Round.{Round}
+use Rattle.thy_computer.specs.declared.round.Round.TheVariants.{Write, Commit}
+use Rattle.thy_computer.specs.Round.{IsInRound}
 use Rattle.thy_checkpoint.specs.declared.engine_stage.EngineStage.{EngineStage}
 use Rattle.thy_checkpoint.specs.declared.engine_stage.EngineStage.TheVariants.{Idle, Body, InRound, Tail}
 use Rattle.thy_checkpoint.specs.Progress.{Progress, BodyItem, RoundItem, phase_of, item, body_or_slot, action_of}
 use Rattle.thy_checkpoint.specs.Items.{AreItems, Phase, Resting, Making, Made, Applying}
-use Rattle.thy_parts.specs.IsDesign.{IsDesign, CanRecord, IsSpared}
-use Rattle.thy_parts.specs.Moments.{IsMoment, Carries, Commits, SealsTo, ReadsSame, IsOwn, slot_list, parts_at}
-use Rattle.thy_parts.proofs.SameLemmas.{moment_of, carried, makes_alike}
-use Rattle.thy_shadow_image.specs.Places.{slot_blocks, slot_place, first_pool, pool_place, pool_page, image_blocks}
-use Rattle.thy_shadow_image.proofs.LayoutLemmas.{slot_behind, free_not_looked}
-use Rattle.thy_shadow_image.specs.CheckpointParts.{ReadsBack, HoldsCheckpoint, memory_places}
-use Rattle.thy_shadow_image.specs.Free.{Target, SlotBlock, PoolBlock, target_place as place_of_target, IsTarget, IsFree}
-use Rattle.thy_shadow_image.specs.Layout.{shadow_layouts}
-use Rattle.thy_shadow_image.specs.Slots.{IsMap, table_in, slot_fault}
-use Rattle.thy_shadow_image.proofs.SlotLemmas.{slot_reads_back}
+use Rattle.thy_scheme_parts.specs.IsDesign.{IsDesign, CanRecord, IsSpared}
+use Rattle.thy_scheme_parts.specs.Moments.{IsMoment, Carries, Commits, SealsTo, ReadsSame, IsOwn, slot_list, parts_at}
+use Rattle.thy_scheme_parts.proofs.SameLemmas.{moment_of, carried, makes_alike}
+use Rattle.thy_images.specs.ShadowPlaces.{slot_blocks, slot_place, first_pool, pool_place, pool_page, image_blocks}
+use Rattle.thy_images.proofs.ShadowLayoutLemmas.{slot_behind, free_not_looked}
+use Rattle.thy_images.specs.ShadowCheckpointParts.{ReadsBack, HoldsCheckpoint, memory_places}
+use Rattle.thy_images.specs.ShadowFree.{Target, SlotBlock, PoolBlock, target_place as place_of_target, IsTarget, IsFree}
+use Rattle.thy_images.specs.ShadowLayout.{shadow_layouts}
+use Rattle.thy_images.specs.ShadowSlots.{IsMap, table_in, slot_fault}
+use Rattle.thy_images.proofs.ShadowSlotLemmas.{slot_reads_back}
 use Rattle.thy_shadow_parts.specs.Items.{next_block}
 use Rattle.thy_shadow_parts.specs.State.{State, IsSoundState, target_place, committed_table, target, frame_block, next_table, committed_of, work_of}
 use Rattle.thy_shadow_parts.proofs.TableLemmas.{target_free, IsMap-next, committed_table-committed}

@@ -11,13 +11,13 @@ use Rattle.thy_layout.specs.Commit.{epoch_of, commit_of}
 use Rattle.thy_layout.specs.Cpu.{cpu_of_record}
 use Rattle.thy_layout.proofs.ReadBackLemmas.{epoch_of-commit_of}
 use Rattle.thy_layout.proofs.TableSlotLemmas.{table_back}
-use Rattle.thy_view.specs.Safe.{ceiling}
+use Rattle.thy_computer.specs.Safe.{ceiling}
 use Rattle.thy_checkpoint.specs.Filling.{first_slot_of, first_by}
 use Rattle.thy_checkpoint.specs.Start.{CanStart}
-use Rattle.thy_shadow_image.specs.Places.{map_blocks, pool_place, pool_page, place_of}
-use Rattle.thy_shadow_image.specs.Slots.{IsMap, table_in, slot_fault}
-use Rattle.thy_shadow_image.specs.CheckpointParts.{memory_places, ReadsBack}
-use Rattle.thy_shadow_image.proofs.SlotLemmas.{HaveWords-map, slot_reads_back}
+use Rattle.thy_images.specs.ShadowPlaces.{map_blocks, pool_place, pool_page, place_of}
+use Rattle.thy_images.specs.ShadowSlots.{IsMap, table_in, slot_fault}
+use Rattle.thy_images.specs.ShadowCheckpointParts.{memory_places, ReadsBack}
+use Rattle.thy_images.proofs.ShadowSlotLemmas.{HaveWords-map, slot_reads_back}
 use Rattle.thy_shadow_parts.specs.Holding.{works}
 use Rattle.thy_shadow_parts.specs.State.{State}
 use Rattle.thy_shadow_parts.proofs.TableLemmas.{IsMap-table_by, listed_at-table_by, entry_page}

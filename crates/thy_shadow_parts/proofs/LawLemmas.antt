@@ -2,8 +2,8 @@
 use Rattle.std.proofs.Common.{refl, inl, arith}
 use Rattle.thy_checkpoint.specs.Filling.{IsFilling}
 use Rattle.thy_checkpoint.proofs.OlderLemmas.{never_older}
-use Rattle.thy_shadow_image.specs.Places.{scheme_number}
-use Rattle.thy_shadow_image.proofs.LayoutLemmas.{shadow_are_layouts}
+use Rattle.thy_images.specs.ShadowPlaces.{scheme_number}
+use Rattle.thy_images.proofs.ShadowLayoutLemmas.{shadow_are_layouts}
 use Rattle.thy_shadow_parts.specs.State.{State}
 use Rattle.thy_shadow_parts.specs.Stores.{after_drain}
 use Rattle.thy_shadow_parts.proofs.DrainLemmas.{works_drained, IsSoundState-drained}

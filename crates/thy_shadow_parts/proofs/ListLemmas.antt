@@ -12,10 +12,10 @@ use Rattle.thy_block.proofs.BasicLemmas.{Contains-range}
 use Rattle.thy_table.specs.Listing.{lists}
 use Rattle.thy_table.proofs.ListingLaws.{index_of-none}
 use Rattle.thy_block.proofs.DeviceLemmas.{newest-empty}
-use Rattle.thy_shadow_image.specs.Places.{pool_place, pool_page, place_of}
-use Rattle.thy_shadow_image.specs.Slots.{table_in}
-use Rattle.thy_shadow_image.specs.Layout.{shadow_layouts}
-use Rattle.thy_shadow_image.specs.CheckpointParts.{memory_places}
+use Rattle.thy_images.specs.ShadowPlaces.{pool_place, pool_page, place_of}
+use Rattle.thy_images.specs.ShadowSlots.{table_in}
+use Rattle.thy_images.specs.ShadowLayout.{shadow_layouts}
+use Rattle.thy_images.specs.ShadowCheckpointParts.{memory_places}
 use Rattle.thy_shadow_parts.specs.Holding.{works}
 use Rattle.thy_shadow_parts.specs.Keys.{page_key}
 use Rattle.thy_shadow_parts.specs.State.{State, frame_of, pool_of, committed_place, committed_table, work_by, work_of}

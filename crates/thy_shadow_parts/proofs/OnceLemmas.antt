@@ -15,8 +15,8 @@ use Rattle.thy_shadow_parts.proofs.CommitLemmas.{held_is}
 use Rattle.thy_shadow_parts.proofs.CommittingLemmas.{listing_same}
 use Rattle.thy_shadow_parts.proofs.TableLemmas.{listed_at-table_by, entry_page}
 use Rattle.thy_shadow_parts.specs.Filling.{IsUnframed, filling_shadow}
-use Rattle.thy_shadow_image.specs.Places.{pool_pages}
-use Rattle.thy_shadow_image.specs.Slots.{table_in}
+use Rattle.thy_images.specs.ShadowPlaces.{pool_pages}
+use Rattle.thy_images.specs.ShadowSlots.{table_in}
 use Rattle.thy_table.specs.Listing.{Listing, listing, entry_at}
 use Rattle.thy_table.proofs.IndexLemmas.{lists-key}
 use Rattle.thy_table.proofs.ListingLaws.{index_of-lists}

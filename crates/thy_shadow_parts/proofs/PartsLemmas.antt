@@ -12,15 +12,15 @@ use Rattle.thy_layout.specs.Layout.{slot_in}
 use Rattle.thy_layout.proofs.ReadBackLemmas.{epoch_of-commit_of}
 use Rattle.thy_table.specs.Listing.{IsListing, entry_at, lists, listing, empty_table}
 use Rattle.thy_table.proofs.ListingLaws.{entry_at-empty, free_count-all, IsListing-free, IsListing-once}
-use Rattle.thy_view.specs.Kind.{IsDramOf}
+use Rattle.thy_computer.specs.Kind.{IsDramOf}
 use Rattle.thy_checkpoint.specs.Boot.{Booting}
 use Rattle.thy_checkpoint.specs.Filling.{first_slot_of}
 use Rattle.thy_checkpoint.specs.Recovers.{IsRestored}
 use Rattle.thy_checkpoint.specs.Start.{CanStart}
-use Rattle.thy_shadow_image.specs.CheckpointParts.{HoldsCheckpoint}
-use Rattle.thy_shadow_image.specs.Layout.{shadow_layouts}
-use Rattle.thy_shadow_image.specs.Places.{image_blocks, pool_pages}
-use Rattle.thy_shadow_image.specs.Slots.{IsMap, table_in}
+use Rattle.thy_images.specs.ShadowCheckpointParts.{HoldsCheckpoint}
+use Rattle.thy_images.specs.ShadowLayout.{shadow_layouts}
+use Rattle.thy_images.specs.ShadowPlaces.{image_blocks, pool_pages}
+use Rattle.thy_images.specs.ShadowSlots.{IsMap, table_in}
 use Rattle.thy_checkpoint.specs.Items.{Resting}
 use Rattle.thy_shadow_parts.specs.declared.entry.Framed.{Framed}
 use Rattle.thy_shadow_parts.specs.Holding.{works, commits, agree_by, opened_by}
@@ -34,10 +34,10 @@ use Rattle.thy_shadow_parts.proofs.TableLemmas.{IsMap-committed, table_by-same}
 use Rattle.thy_shadow_parts.specs.Filling.{filling_shadow, first_table, IsFresh, IsUnframed}
 use Rattle.thy_shadow_parts.proofs.FirstLemmas.{IsMap-first, table_first}
 use Rattle.thy_shadow_parts.proofs.ListLemmas.{unframed_none}
-use Rattle.thy_parts.specs.AreParts.{AreParts}
-use Rattle.thy_parts.specs.Paging.{IsPaging}
-use Rattle.thy_parts.specs.Powering.{EndsBoot, IsPowering}
-use Rattle.thy_parts.proofs.MemoryLemmas.{map_below}
+use Rattle.thy_scheme_parts.specs.AreParts.{AreParts}
+use Rattle.thy_scheme_parts.specs.Paging.{IsPaging}
+use Rattle.thy_scheme_parts.specs.Powering.{EndsBoot, IsPowering}
+use Rattle.thy_scheme_parts.proofs.MemoryLemmas.{map_below}
 use Rattle.thy_shadow_parts.specs.Design.{shadow_design}
 use Rattle.thy_shadow_parts.proofs.DesignLemmas.{is_design}
 use Rattle.thy_shadow_parts.proofs.StoreLemmas.{is_storing}

@@ -15,10 +15,10 @@ use Rattle.thy_table.specs.Listing.{entry_at, lists, mapped}
 use Rattle.thy_table.proofs.IndexLemmas.{lists-inside, one_if}
 use Rattle.thy_table.proofs.ListingLaws.{entry_at-cleared, index_of-none, index_of-lists}
 use Rattle.thy_layout.specs.Entries.{Lists}
-use Rattle.thy_parts.proofs.MemoryLemmas.{map_below, map_places}
-use Rattle.thy_shadow_image.specs.Places.{map_blocks, pool_pages, first_pool, image_blocks, pool_place, pool_page, place_of}
-use Rattle.thy_shadow_image.specs.CheckpointParts.{memory_places}
-use Rattle.thy_shadow_image.proofs.LayoutLemmas.{place_behind, same_page}
+use Rattle.thy_scheme_parts.proofs.MemoryLemmas.{map_below, map_places}
+use Rattle.thy_images.specs.ShadowPlaces.{map_blocks, pool_pages, first_pool, image_blocks, pool_place, pool_page, place_of}
+use Rattle.thy_images.specs.ShadowCheckpointParts.{memory_places}
+use Rattle.thy_images.proofs.ShadowLayoutLemmas.{place_behind, same_page}
 use Rattle.thy_shadow_parts.specs.Commit.{committed_state}
 use Rattle.thy_shadow_parts.specs.Holding.{works, commits, agrees, agree_by, copies_agree}
 use Rattle.thy_shadow_parts.specs.Keys.{number_key, page_key, freed_frame}

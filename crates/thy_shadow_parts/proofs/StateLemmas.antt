@@ -13,8 +13,8 @@ use Rattle.thy_table.specs.Listing.{Listing, IsListing, listing, entry_at, lists
 use Rattle.thy_table.proofs.IndexLemmas.{lists-some, lists-key, some-counted}
 use Rattle.thy_table.proofs.ListingLaws.{entry_at-with_same, entry_at-with_other, entry_at-empty, free_first, IsListing-put, index_of-put, index_of-put_other, entry_at-cleared, IsListing-free}
 use Rattle.thy_layout.specs.Entries.{Lists, entry_at as listed_at}
-use Rattle.thy_shadow_image.specs.Places.{pool_pages, map_blocks}
-use Rattle.thy_shadow_image.specs.Slots.{IsMap}
+use Rattle.thy_images.specs.ShadowPlaces.{pool_pages, map_blocks}
+use Rattle.thy_images.specs.ShadowSlots.{IsMap}
 use Rattle.thy_shadow_parts.specs.declared.entry.Begun.{Begun}
 use Rattle.thy_shadow_parts.specs.declared.entry.Framed.{Framed}
 use Rattle.thy_shadow_parts.specs.declared.entry.Held.{Held}

@@ -22,11 +22,11 @@ use Rattle.thy_layout.proofs.AskingLemmas.{map-alike}
 use Rattle.thy_table.specs.Listing.{Listing, entry_at, free_index, free_count, with_entry}
 use Rattle.thy_table.proofs.IndexLemmas.{free_one}
 use Rattle.thy_table.proofs.ListingLaws.{free_first, index_of-put, index_of-put_other}
-use Rattle.thy_view.specs.Action.{IsAccess, after, FailsTo}
-use Rattle.thy_view.specs.Dram.{ActsOnDram, WritesBlock}
-use Rattle.thy_shadow_image.specs.CheckpointParts.{HoldsCheckpoint}
-use Rattle.thy_shadow_image.specs.Layout.{shadow_layouts}
-use Rattle.thy_shadow_image.specs.Places.{image_blocks, pool_place, pool_page}
+use Rattle.thy_computer.specs.Action.{IsAccess, after, FailsTo}
+use Rattle.thy_computer.specs.Dram.{ActsOnDram, WritesBlock}
+use Rattle.thy_images.specs.ShadowCheckpointParts.{HoldsCheckpoint}
+use Rattle.thy_images.specs.ShadowLayout.{shadow_layouts}
+use Rattle.thy_images.specs.ShadowPlaces.{image_blocks, pool_place, pool_page}
 use Rattle.thy_checkpoint.specs.Items.{Phase, Resting}
 use Rattle.thy_shadow_parts.specs.declared.entry.Begun.{Begun}
 use Rattle.thy_shadow_parts.specs.declared.entry.Framed.{Framed}
@@ -38,13 +38,13 @@ use Rattle.thy_shadow_parts.specs.Stores.{StoreCase, Into, Fill, Copy, copies_by
 use Rattle.thy_shadow_parts.proofs.DrainLemmas.{IsSoundState-dram}
 use Rattle.thy_shadow_parts.proofs.StateLemmas.{free_frame_is, free_page, filled_state, full_sound as pool_full_sound, IsSoundState-begun}
 use Rattle.thy_shadow_parts.proofs.TableLemmas.{table_by-same}
-use Rattle.thy_parts.specs.Holding.{holding_of}
-use Rattle.thy_parts.specs.Moments.{IsMoment}
-use Rattle.thy_parts.specs.Storing.{CanStore, MakesStore, StaysAt, StaysOver, IsStoring}
-use Rattle.thy_parts.proofs.HeldLemmas.{IsHeldBlock, blocks_held, held_block}
-use Rattle.thy_parts.proofs.LeavesLemmas.{leaves-same, leaves-failed, leaves-both, was_up}
-use Rattle.thy_parts.proofs.MemoryLemmas.{map_set}
-use Rattle.thy_parts.proofs.WaitLemmas.{stays_waiting}
+use Rattle.thy_scheme_parts.specs.Holding.{holding_of}
+use Rattle.thy_scheme_parts.specs.Moments.{IsMoment}
+use Rattle.thy_scheme_parts.specs.Storing.{CanStore, MakesStore, StaysAt, StaysOver, IsStoring}
+use Rattle.thy_scheme_parts.proofs.HeldLemmas.{IsHeldBlock, blocks_held, held_block}
+use Rattle.thy_scheme_parts.proofs.LeavesLemmas.{leaves-same, leaves-failed, leaves-both, was_up}
+use Rattle.thy_scheme_parts.proofs.MemoryLemmas.{map_set}
+use Rattle.thy_scheme_parts.proofs.WaitLemmas.{stays_waiting}
 use Rattle.thy_shadow_parts.specs.Design.{rests_at, storeless_by, IsStill, owed_now, StaysPool, shadow_design}
 use Rattle.thy_shadow_parts.proofs.CopyLemmas.{AreCopied, begun_copied, are_copied, all_pass, block_same, apart_frame, apart_block, put_here, put_there, frame_inside, frame_has, one_page}
 use Rattle.thy_shadow_parts.proofs.PhaseLemmas.{commits_alike}

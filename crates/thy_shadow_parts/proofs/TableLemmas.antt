@@ -9,8 +9,8 @@ use Rattle.thy_table.proofs.IndexLemmas.{lists-inside, lists-key}
 use Rattle.thy_table.proofs.ListingLaws.{index_of-lists}
 use Rattle.thy_layout.specs.Entries.{Lists, entry_at as listed_at}
 use Rattle.thy_layout.proofs.EntryLemmas.{Lists-inside}
-use Rattle.thy_shadow_image.specs.Places.{map_blocks, pool_pages}
-use Rattle.thy_shadow_image.specs.Slots.{IsMap}
+use Rattle.thy_images.specs.ShadowPlaces.{map_blocks, pool_pages}
+use Rattle.thy_images.specs.ShadowSlots.{IsMap}
 use Rattle.thy_shadow_parts.specs.Keys.{number_key, page_key, held, framed}
 use Rattle.thy_shadow_parts.specs.Commit.{committed_state}
 use Rattle.thy_shadow_parts.specs.State.{State, IsSoundState, frame_of, pool_of, target, next_page_by, next_page, table_by, committed_table, next_table}

@@ -11,7 +11,7 @@ use Rattle.thy_layout.specs.declared.engine_step.EngineStep.TheVariants.{PageBlo
 use Rattle.thy_layout.specs.Commit.{slot_of_epoch}
 use Rattle.thy_layout.specs.TableSlots.{table_block_of}
 use Rattle.thy_table.specs.Listing.{Listing, entry_at, free_count}
-use Rattle.thy_shadow_image.specs.CheckpointParts.{HoldsCheckpoint}
+use Rattle.thy_images.specs.ShadowCheckpointParts.{HoldsCheckpoint}
 use Rattle.thy_checkpoint.specs.Items.{ItemsOf, Phase, Resting, Making, Made, Applying}
 use Rattle.thy_shadow_parts.specs.declared.entry.Framed.{Framed}
 use Rattle.thy_shadow_parts.specs.Commit.{sealed_state, committed_state}
@@ -20,7 +20,7 @@ use Rattle.thy_shadow_parts.specs.Items.{next_block}
 use Rattle.thy_shadow_parts.specs.State.{State, IsSoundState, committed_table, next_table, frame_of, frame_block, target_place}
 use Rattle.thy_shadow_parts.specs.Stores.{after_store, new_state, store_action, store_case, stored_by}
 use Rattle.thy_shadow_parts.specs.Filling.{filling_shadow}
-use Rattle.thy_parts.specs.Design.{LeavesNvm, PartsOf, DesignOf, design_of, no_pages}
+use Rattle.thy_scheme_parts.specs.Design.{LeavesNvm, PartsOf, DesignOf, design_of, no_pages}
 
 -- ---- what the engine writes
 

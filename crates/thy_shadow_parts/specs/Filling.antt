@@ -8,8 +8,8 @@ use Rattle.thy_isa.specs.Step.{cpu_of}
 use Rattle.thy_table.specs.Listing.{entry_at}
 use Rattle.thy_checkpoint.specs.Filling.{FillingOf}
 use Rattle.thy_layout.specs.TableSlots.{slot_block_of}
-use Rattle.thy_shadow_image.specs.Slots.{table_in}
-use Rattle.thy_shadow_image.specs.Layout.{shadow_layouts}
+use Rattle.thy_images.specs.ShadowSlots.{table_in}
+use Rattle.thy_images.specs.ShadowLayout.{shadow_layouts}
 use Rattle.thy_shadow_parts.specs.Holding.{works}
 use Rattle.thy_shadow_parts.specs.State.{State, IsSoundState, table_by, committed_table}
 use Rattle.thy_shadow_parts.specs.Stores.{after_drain}

@@ -5,16 +5,16 @@ use Rattle.thy_block.specs.declared.parameters.Parameters.{Parameters}
 use Rattle.thy_block.specs.Device.{Device}
 use Rattle.thy_block.specs.Geometry.{memory_blocks}
 use Rattle.thy_layout.specs.Entries.{Lists}
-use Rattle.thy_view.specs.Action.{WriteAt}
-use Rattle.thy_view.specs.Origin.{Origin}
+use Rattle.thy_computer.specs.Action.{WriteAt}
+use Rattle.thy_computer.specs.Origin.{Origin}
 use Rattle.thy_scheme.specs.CheckpointMarks.{CheckpointMarks}
 use Rattle.thy_scheme.specs.Scheme.{Stands}
 use Rattle.thy_scheme.specs.Pace.{most_spent}
-use Rattle.thy_shadow_image.specs.Places.{slot_blocks, pool_place}
+use Rattle.thy_images.specs.ShadowPlaces.{slot_blocks, pool_place}
 use Rattle.thy_checkpoint.specs.Progress.{Progress, Fits, is_under_way, action_next}
 use Rattle.thy_shadow_parts.specs.State.{State, committed_table}
 use Rattle.thy_shadow_parts.specs.Filling.{filling_shadow}
-use Rattle.thy_parts.specs.Design.{Composed}
+use Rattle.thy_scheme_parts.specs.Design.{Composed}
 use Rattle.thy_shadow_parts.specs.Design.{items_shadow}
 use Rattle.thy_shadow_parts.specs.Scheme.{shadow_scheme}
 

@@ -11,7 +11,7 @@ use Rattle.thy_block.specs.Places.{dram_blocks, frame_place}
 use Rattle.thy_block.specs.Store.{page_of}
 use Rattle.thy_dram.specs.Contents.{Contents}
 use Rattle.thy_table.specs.Listing.{Listing, IsListing, entry_at, index_of, free_count}
-use Rattle.thy_shadow_image.specs.Places.{map_blocks, pool_pages, image_blocks, pool_place, pool_page}
+use Rattle.thy_images.specs.ShadowPlaces.{map_blocks, pool_pages, image_blocks, pool_place, pool_page}
 use Rattle.thy_shadow_parts.specs.declared.entry.Held.{Held}
 use Rattle.thy_shadow_parts.specs.declared.entry.Framed.{Framed}
 use Rattle.thy_shadow_parts.specs.declared.entry.Begun.{Begun}

@@ -11,8 +11,8 @@ use Rattle.thy_block.specs.Places.{frame_place}
 use Rattle.thy_block.specs.Store.{page_of}
 use Rattle.thy_dram.specs.Contents.{Contents, written, drained}
 use Rattle.thy_table.specs.Listing.{listing, free_index, added, empty_table}
-use Rattle.thy_view.specs.Action.{Action, Rest, ReadAt}
-use Rattle.thy_shadow_image.specs.Places.{pool_pages}
+use Rattle.thy_computer.specs.Action.{Action, Rest, ReadAt}
+use Rattle.thy_images.specs.ShadowPlaces.{pool_pages}
 use Rattle.thy_shadow_parts.specs.declared.entry.Held.{Held}
 use Rattle.thy_shadow_parts.specs.declared.entry.Begun.{Begun}
 use Rattle.thy_shadow_parts.specs.Keys.{held, framed, begun_for}

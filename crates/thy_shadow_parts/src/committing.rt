@@ -1,6 +1,6 @@
 //! What a commit makes of the pool's table: the pages of the frames take the place of those that were committed before.
 ghost use Rattle.std.specs.Prelude.{◌≡◌, ℕ, ◌+◌, ◌<◌, length, None, is_some};
-ghost use Rattle.thy_shadow_image.specs.Places.{pool_pages};
+ghost use Rattle.thy_images.specs.ShadowPlaces.{pool_pages};
 ghost use Rattle.thy_table.specs.Listing.{entry_at, index_of};
 ghost use Rattle.thy_shadow_parts.specs.Commit.{committed_pool, freed, renamed, moved_by};
 ghost use Rattle.thy_shadow_parts.specs.Keys.{number_key};

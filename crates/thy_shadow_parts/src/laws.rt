@@ -1,6 +1,6 @@
 //! Laws of shadow paging, each the contract of a function that does nothing.
-ghost use Rattle.thy_parts.specs.Schemes.{FirstHasRoom, HartIsBarred, NeverMigrates};
-ghost use Rattle.thy_parts.specs.AreParts.{AreParts};
+ghost use Rattle.thy_scheme_parts.specs.Schemes.{FirstHasRoom, HartIsBarred, NeverMigrates};
+ghost use Rattle.thy_scheme_parts.specs.AreParts.{AreParts};
 ghost use Rattle.thy_scheme.specs.Laws.{IsLawful};
 ghost use Rattle.thy_shadow_parts.specs.Design.{shadow_design};
 ghost use Rattle.thy_shadow_parts.specs.Laws.{BootsAreShort, CommittedIsSpared, EpochsAreShort, FramesAreFree};

@@ -3,11 +3,11 @@
 //! writes each frame into a page of the pool that the committed map does not list, and with its commit these pages take
 //! the place of the old ones. `Pool` equals its specification in tables and devices, which speaks of no run. After a
 //! restart it lists the map of the checkpoint (`the_pool_is_listed`). That these parts are lawful is a law below
-//! thy_shadow, because an `impl` can cite proofs of lower crates only.
+//! thy_schemes, because an `impl` can cite proofs of lower crates only.
 //!
 //! Open specs/State.antt first, then specs/Stores.antt, specs/Commit.antt and src/pool.rt; of the boot
 //! specs/Filling.antt; of the laws specs/Design.antt and src/laws.rt. It depends on thy_dram, thy_table,
-//! thy_shadow_image, thy_parts and their dependencies; thy_shadow depends on it.
+//! thy_images, thy_scheme_parts and their dependencies; thy_schemes depends on it.
 #![tactic(auto)]
 
 mod committing;

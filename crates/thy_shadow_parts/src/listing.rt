@@ -1,13 +1,13 @@
 //! What the map of a slot lists, given to the pool's table.
 ghost use Rattle.std.specs.Prelude.{◌≡◌, ◌+◌, ◌*◌, ◌<◌, length};
 ghost use Rattle.thy_layout.specs.Files.{blocks_of};
-ghost use Rattle.thy_shadow_image.specs.Places.{slot_blocks, pool_pages};
-ghost use Rattle.thy_shadow_image.specs.Slots.{IsMap, table_in};
+ghost use Rattle.thy_images.specs.ShadowPlaces.{slot_blocks, pool_pages};
+ghost use Rattle.thy_images.specs.ShadowSlots.{IsMap, table_in};
 ghost use Rattle.thy_shadow_parts.specs.Listed.{HoldsMap};
 
 use crate::entry::{FreeAll, Held};
 use thy_block::Geometry;
-use thy_shadow_image::listed_page;
+use thy_images::shadow::listed_page;
 use thy_table::Table;
 
 /// Lists in a pool the map of a slot, and nothing else.

@@ -7,9 +7,9 @@ ghost use Rattle.thy_block.specs.Store.{page_of};
 ghost use Rattle.thy_layout.specs.Files.{blocks_of};
 ghost use Rattle.thy_layout.specs.Entries.{entry_at as listed_at};
 ghost use Rattle.thy_table.specs.Listing.{Listing, listing, free_count, entry_at, index_of};
-ghost use Rattle.thy_view.specs.Action.{after, FailsTo};
-ghost use Rattle.thy_shadow_image.specs.Places.{map_blocks, slot_blocks, image_blocks, pool_pages as pages_of_pool, pool_page};
-ghost use Rattle.thy_shadow_image.specs.Slots.{IsMap, table_in};
+ghost use Rattle.thy_computer.specs.Action.{after, FailsTo};
+ghost use Rattle.thy_images.specs.ShadowPlaces.{map_blocks, slot_blocks, image_blocks, pool_pages as pages_of_pool, pool_page};
+ghost use Rattle.thy_images.specs.ShadowSlots.{IsMap, table_in};
 ghost use Rattle.thy_shadow_parts.specs.Stores.{first_entries};
 
 use crate::committing::commit_all;
@@ -19,8 +19,8 @@ use std::alloc::{AllocError, Global};
 use std::marker::Model;
 use thy_block::{Block, Geometry, Nvm, NvmError, Stored};
 use thy_dram::Dram;
+use thy_images::shadow::{pool as pool_number, pool_pages};
 use thy_layout::table_block;
-use thy_shadow_image::{pool as pool_number, pool_pages};
 use thy_table::Table;
 
 /// Pages of memory: those that were stored to in frames, all others where they were committed. Only `new` allocates.

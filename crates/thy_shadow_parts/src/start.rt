@@ -4,7 +4,7 @@ ghost use Rattle.thy_isa.specs.Step.{state_of, cpu_of};
 ghost use Rattle.thy_layout.specs.Entries.{entry_at as listed_at};
 ghost use Rattle.thy_checkpoint.specs.Start.{CanStart};
 ghost use Rattle.thy_layout.specs.TableSlots.{slot_block_of};
-ghost use Rattle.thy_shadow_image.specs.Places.{map_blocks, slot_blocks};
+ghost use Rattle.thy_images.specs.ShadowPlaces.{map_blocks, slot_blocks};
 ghost use Rattle.thy_shadow_parts.specs.Filling.{first_table};
 
 use thy_block::{Block, Geometry};

@@ -4,3 +4,5 @@ pub mod Leads
 pub mod Lying
 pub mod Repeats
 pub mod Sums
+pub mod Trials
+pub mod Rooms

@@ -7,9 +7,9 @@ use crate::support::expect::{expect, expect_at};
 use std::alloc::Global;
 use std::process::Abort;
 use thy_base::{Bytes, Geometry, Lcg, Parameters};
+use thy_elf::made::file;
 use thy_elf::read;
 use thy_isa::{Status, word};
-use thy_make::file;
 use thy_plain::Plain;
 use thy_test_support::{SMALLEST, geometry_of};
 

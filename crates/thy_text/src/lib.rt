@@ -5,7 +5,7 @@
 //! say this: the sink's calls are counted in a test.
 //!
 //! Open specs/Lines.antt first, then specs/Marks.antt, and src/event.rt. It depends on thy_base, thy_layout and their
-//! dependencies; thy_run and thy_answer depend on it.
+//! dependencies; thy_run and thy_outcome depend on it.
 #![tactic(auto)]
 
 mod closing;

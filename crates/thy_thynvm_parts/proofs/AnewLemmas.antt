@@ -28,7 +28,7 @@ use Rattle.thy_record.specs.Tables.{Tables, place_of}
 use Rattle.thy_record.specs.VersionSlots.{blocks_of_slot, place_of_slot}
 use Rattle.thy_record.proofs.IssuingLemmas.{old_slot_before, slot_behind}
 use Rattle.thy_record.proofs.MigratedLemmas.{anew_means_the_same}
-use Rattle.thy_view.specs.Safe.{ceiling}
+use Rattle.thy_computer.specs.Safe.{ceiling}
 use Rattle.thy_checkpoint.specs.Filling.{IsOlder, IsTheSame, ReadsAlike, anew, slot_anew}
 use Rattle.thy_thynvm_parts.specs.Filling.{ListsSlot, loads, filling_thynvm}
 

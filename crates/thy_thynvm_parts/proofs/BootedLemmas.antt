@@ -23,10 +23,10 @@ use Rattle.thy_layout.proofs.SlotLemmas.{fits_cpu}
 use Rattle.thy_record.proofs.IssuingLemmas.{thynvm_are_layouts}
 use Rattle.thy_control.specs.CheckpointTables.{tables0}
 use Rattle.thy_control.proofs.TablesLemmas.{AreTablesOf-committed}
-use Rattle.thy_view.specs.Origin.{at}
-use Rattle.thy_view.specs.Safe.{ceiling}
-use Rattle.thy_view.proofs.StorableAt.{IsRecordable-at}
-use Rattle.thy_view.proofs.KeepsLemmas.{at-start}
+use Rattle.thy_computer.specs.Origin.{at}
+use Rattle.thy_computer.specs.Safe.{ceiling}
+use Rattle.thy_computer.proofs.StorableAt.{IsRecordable-at}
+use Rattle.thy_computer.proofs.KeepsLemmas.{at-start}
 use Rattle.thy_checkpoint.specs.declared.boot_stage.Stage.{Stage}
 use Rattle.thy_checkpoint.specs.Boot.{slot_read}
 use Rattle.thy_checkpoint.specs.Recovers.{IsRestored}

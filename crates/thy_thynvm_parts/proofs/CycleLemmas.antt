@@ -13,10 +13,10 @@ use Rattle.thy_control.proofs.CopyLemmas.{none_left}
 use Rattle.thy_control.proofs.IssueLemmas.{writes_left-next}
 use Rattle.thy_checkpoint.specs.declared.engine_stage.EngineStage.{EngineStage}
 use Rattle.thy_checkpoint.specs.declared.engine_stage.EngineStage.TheVariants.{Idle, Body, InRound, Tail}
-use Rattle.thy_view.specs.declared.round.Round.{Round}
-use Rattle.thy_view.specs.declared.round.Round.TheVariants.{Write}
-use Rattle.thy_view.specs.Round.{IsInRound, round_left}
-use Rattle.thy_view.proofs.RoundLemmas.{next_by}
+use Rattle.thy_computer.specs.declared.round.Round.{Round}
+use Rattle.thy_computer.specs.declared.round.Round.TheVariants.{Write}
+use Rattle.thy_computer.specs.Round.{IsInRound, round_left}
+use Rattle.thy_computer.proofs.RoundLemmas.{next_by}
 use Rattle.thy_checkpoint.specs.Cycles.{left_at}
 use Rattle.thy_checkpoint.specs.Progress.{Progress, phase_of, slot_blocks, is_under_way, Item, RoundItem, body_or_slot, item, next_after, control_after}
 use Rattle.thy_thynvm_parts.specs.Filling.{filling_thynvm}

@@ -54,8 +54,8 @@ use Rattle.thy_thynvm_parts.specs.Filling.{loads}
 use Rattle.thy_thynvm_parts.proofs.FillingLemmas.{filling_is_lawful}
 use Rattle.thy_checkpoint.specs.Items.{Phase, Resting, Making, Made, Applying}
 use Rattle.thy_checkpoint.specs.Progress.{Progress}
-use Rattle.thy_parts.specs.IsDesign.{IsDesign, IsFew, IsSpared}
-use Rattle.thy_parts.specs.Moments.{IsMoment, LeavesPages, MakesAt, Carries, Commits, SealsTo, ReadsSame, IsOwn}
+use Rattle.thy_scheme_parts.specs.IsDesign.{IsDesign, IsFew, IsSpared}
+use Rattle.thy_scheme_parts.specs.Moments.{IsMoment, LeavesPages, MakesAt, Carries, Commits, SealsTo, ReadsSame, IsOwn}
 use Rattle.thy_thynvm_parts.specs.Design.{is_overlaid, is_promoting, block_by, source_by, target_next, source_next, with_copied, with_issued, written_by, written_next, StandsAt, items_thynvm, penults, lasts, IsOther, IsCounted, IsKeptBy, IsButCopied, IsOfRest, HasRoom, rests_at, thynvm_design}
 use Rattle.thy_thynvm_parts.proofs.ReadLemmas.{blocks-agree, KeepsVersions, versions_apart, versions_same}
 use Rattle.thy_thynvm_parts.proofs.HeldLemmas.{but-copied, settled-done, KeepsCounts, counts-copied, counts-issued, owed-committed, overlays-committed, promoted-committed, unfilled-committed, written-nvm, target-in_nvm}

@@ -8,7 +8,7 @@ use Rattle.thy_checkpoint.specs.declared.engine_stage.EngineStage.{EngineStage}
 use Rattle.thy_checkpoint.specs.declared.engine_stage.EngineStage.TheVariants.{Idle, InRound}
 use Rattle.thy_checkpoint.specs.Items.{Phase, Resting, Making, Made, Applying}
 use Rattle.thy_checkpoint.specs.Progress.{phase_of}
-use Rattle.thy_parts.proofs.SafeLemmas.{idle_stage}
+use Rattle.thy_scheme_parts.proofs.SafeLemmas.{idle_stage}
 use Rattle.thy_thynvm_parts.specs.Design.{StandsAt, items_thynvm}
 use Rattle.thy_thynvm_parts.specs.Fitting.{PromotesAtRest, IdleFits, SealFits, StaysFit}
 use Rattle.thy_thynvm_parts.proofs.StoreLemmas.{copied_stays}

@@ -15,14 +15,14 @@ use Rattle.thy_layout.specs.declared.layout_version.LayoutVersion.TheVariants.{V
 use Rattle.thy_layout.specs.Commit.{epoch_of, version_of, slot_of_epoch}
 use Rattle.thy_layout.proofs.ReadBackLemmas.{epoch_of-commit_of, version_of-commit_of}
 use Rattle.thy_layout.specs.Header.{knows_version_one}
-use Rattle.thy_view.specs.declared.view.View.{View}
-use Rattle.thy_view.specs.Action.{ActsBy, ActionFailedBy}
-use Rattle.thy_view.specs.Origin.{Origin}
-use Rattle.thy_view.specs.Keeps.{finding_view}
-use Rattle.thy_view.specs.Moves.{IsKeeping}
-use Rattle.thy_view.specs.declared.round.Round.{Round}
-use Rattle.thy_view.specs.declared.round.Round.TheVariants.{Write, Commit, Confirm}
-use Rattle.thy_view.specs.Round.{IsInRound, round_action, round_left}
+use Rattle.thy_computer.specs.declared.view.View.{View}
+use Rattle.thy_computer.specs.Action.{ActsBy, ActionFailedBy}
+use Rattle.thy_computer.specs.Origin.{Origin}
+use Rattle.thy_computer.specs.Keeps.{finding_view}
+use Rattle.thy_computer.specs.Moves.{IsKeeping}
+use Rattle.thy_computer.specs.declared.round.Round.{Round}
+use Rattle.thy_computer.specs.declared.round.Round.TheVariants.{Write, Commit, Confirm}
+use Rattle.thy_computer.specs.Round.{IsInRound, round_action, round_left}
 use Rattle.thy_record.specs.ThynvmLayouts.{thynvm_layouts, layout_of}
 use Rattle.thy_record.specs.Number.{scheme_number}
 use Rattle.thy_record.specs.VersionSlots.{blocks_of_slot, place_of_slot}
@@ -43,9 +43,9 @@ use Rattle.thy_checkpoint.specs.Left.{most_migration}
 use Rattle.thy_checkpoint.specs.declared.engine_stage.EngineStage.{EngineStage}
 use Rattle.thy_checkpoint.specs.declared.engine_stage.EngineStage.TheVariants.{Tail}
 use Rattle.thy_checkpoint.specs.Progress.{phase_of, is_applying, is_under_way}
-use Rattle.thy_parts.proofs.BootLemmas.{view-is}
-use Rattle.thy_parts.specs.Design.{Composed}
-use Rattle.thy_parts.proofs.LawfulLemmas.{lawful as lawful_of_parts}
+use Rattle.thy_scheme_parts.proofs.BootLemmas.{view-is}
+use Rattle.thy_scheme_parts.specs.Design.{Composed}
+use Rattle.thy_scheme_parts.proofs.LawfulLemmas.{lawful as lawful_of_parts}
 use Rattle.thy_thynvm_parts.specs.Filling.{filling_thynvm}
 use Rattle.thy_thynvm_parts.specs.Design.{thynvm_design, items_thynvm}
 use Rattle.thy_thynvm_parts.specs.Recovery.{StepsLeaveNvm, FailuresWriteNothing, IsOfMigration, MigratesFound, MigrationWrites, VersionTwoStays}

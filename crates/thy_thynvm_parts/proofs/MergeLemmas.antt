@@ -23,7 +23,7 @@ use Rattle.thy_control.specs.State.{State, AreSoundTables, cell_of}
 use Rattle.thy_control.proofs.FindLemmas.{found_entry, entry_for-some}
 use Rattle.thy_control.proofs.MergeLemmas.{listed-merge, listed_page-merge, IsOverlay, IsOverlay-entry}
 use Rattle.thy_control.proofs.CountLemmas.{promoted-set}
-use Rattle.thy_view.specs.Dram.{ActsOnDram, WritesDram}
+use Rattle.thy_computer.specs.Dram.{ActsOnDram, WritesDram}
 use Rattle.thy_thynvm_parts.proofs.HeldLemmas.{unfilled-set}
 
 -- ---- a merge

@@ -29,10 +29,10 @@ use Rattle.thy_control.proofs.FindLemmas.{found_entry}
 use Rattle.thy_control.proofs.MarkLemmas.{counted-some}
 use Rattle.thy_control.proofs.MergeLemmas.{listed-merge, listed_page-merge, IsOverlay, IsOverlay-entry, AreSoundTables-merged, MergesAll, MergesAll-next, same_p-merge, Stays-merge}
 use Rattle.thy_control.proofs.StepLemmas.{KeepsAll-each}
-use Rattle.thy_view.specs.Dram.{WritesDram}
+use Rattle.thy_computer.specs.Dram.{WritesDram}
 use Rattle.thy_checkpoint.specs.Items.{Phase, Resting, Making, Made, Applying}
-use Rattle.thy_parts.specs.Moments.{IsMoment, Carries}
-use Rattle.thy_parts.specs.Paging.{WritesOne, IsPaging}
+use Rattle.thy_scheme_parts.specs.Moments.{IsMoment, Carries}
+use Rattle.thy_scheme_parts.specs.Paging.{WritesOne, IsPaging}
 use Rattle.thy_thynvm_parts.specs.Design.{merged as merged_idle, is_overlaid, is_promoting, StandsAt, items_thynvm, thynvm_design}
 use Rattle.thy_thynvm_parts.proofs.DesignLemmas.{Keeping, carried, carried_on, counts_on, makes_on}
 use Rattle.thy_thynvm_parts.proofs.LeftLemmas.{copies-most, writes-most}

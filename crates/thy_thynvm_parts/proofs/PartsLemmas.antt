@@ -41,7 +41,7 @@ use Rattle.thy_record.specs.Issuing.{HoldsCheckpoint}
 use Rattle.thy_record.specs.Number.{scheme_number}
 use Rattle.thy_record.specs.Slots.{tables_in, counts_in}
 use Rattle.thy_control.proofs.NewLemmas.{AreSoundTables-new}
-use Rattle.thy_view.specs.Kind.{IsDramOf}
+use Rattle.thy_computer.specs.Kind.{IsDramOf}
 use Rattle.thy_checkpoint.specs.Boot.{Booting, slot_read}
 use Rattle.thy_checkpoint.specs.Filling.{first_slot_of}
 use Rattle.thy_checkpoint.specs.Recovers.{IsRestored}
@@ -51,8 +51,8 @@ use Rattle.thy_thynvm_parts.proofs.FillingLemmas.{none_listed, all_hold}
 use Rattle.thy_thynvm_parts.proofs.LiveLemmas.{IsFresh-new}
 use Rattle.thy_thynvm_parts.proofs.StartLemmas.{IsTables-none, counts-none, start_version, first_back}
 use Rattle.thy_checkpoint.specs.Items.{Resting}
-use Rattle.thy_parts.specs.AreParts.{AreParts}
-use Rattle.thy_parts.specs.Powering.{EndsBoot, IsPowering}
+use Rattle.thy_scheme_parts.specs.AreParts.{AreParts}
+use Rattle.thy_scheme_parts.specs.Powering.{EndsBoot, IsPowering}
 use Rattle.thy_thynvm_parts.specs.Design.{is_promoting, penults, thynvm_design}
 use Rattle.thy_thynvm_parts.proofs.DesignLemmas.{tables_drained, is_design}
 use Rattle.thy_thynvm_parts.proofs.PageLemmas.{is_paging}

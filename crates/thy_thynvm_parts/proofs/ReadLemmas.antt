@@ -16,7 +16,7 @@ use Rattle.thy_control.specs.Stays.{HoldAll}
 use Rattle.thy_control.proofs.StateLemmas.{IsPlace-penult, IsPlace-target, IsPlace-last, IsPlace-work, IsWithin-cell_of}
 use Rattle.thy_control.proofs.KeepLemmas.{apart_place, IsPlace-frame_of}
 use Rattle.thy_control.proofs.StepLemmas.{KeepsEach, Keeps-untouched, checkpoints-each, work-each, holds-each}
-use Rattle.thy_parts.specs.Moments.{ReadsSame}
+use Rattle.thy_scheme_parts.specs.Moments.{ReadsSame}
 
 -- two functions that agree on each block of memory make the same list of blocks, by two states of one geometry too
 pub blocks-agree : (f g : ℕ → Block) (p q : Parameters) → q ≡ p → ((b : ℕ) → b < memory_blocks p → f b ≡ g b)

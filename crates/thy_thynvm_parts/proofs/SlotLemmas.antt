@@ -32,7 +32,7 @@ use Rattle.thy_layout.specs.Layout.{slot_places, looked_by}
 use Rattle.thy_layout.specs.Cpu.{cpu_block_of}
 use Rattle.thy_layout.proofs.AskingLemmas.{half}
 use Rattle.thy_layout.proofs.ReadBackLemmas.{epoch_of-commit_of, version_of-commit_of}
-use Rattle.thy_view.specs.Safe.{ceiling}
+use Rattle.thy_computer.specs.Safe.{ceiling}
 use Rattle.thy_record.specs.Issuing.{memory_read, HoldsCheckpoint, Target, SlotBlock, target_number, IsTarget, IsFree}
 use Rattle.thy_record.specs.Tables.{Tables, place_of, IsTables}
 use Rattle.thy_record.proofs.EntryLemmas.{in_dram-place_of}
@@ -52,8 +52,8 @@ use Rattle.thy_control.specs.Stays.{HoldAll, AreCopied, Stays}
 use Rattle.thy_control.proofs.PlacedLemmas.{IsPlaced-copied}
 use Rattle.thy_checkpoint.specs.Items.{Made}
 use Rattle.thy_checkpoint.specs.Progress.{Progress, slot_block}
-use Rattle.thy_parts.specs.IsDesign.{CanRecord, IsSpared}
-use Rattle.thy_parts.specs.Moments.{IsMoment, IsOwn, slot_list, parts_at}
+use Rattle.thy_scheme_parts.specs.IsDesign.{CanRecord, IsSpared}
+use Rattle.thy_scheme_parts.specs.Moments.{IsMoment, IsOwn, slot_list, parts_at}
 use Rattle.thy_thynvm_parts.specs.Design.{lasts, slot_rest, items_thynvm, IsKeptBy, IsMadeBy, thynvm_design}
 
 -- a block that is copied and written is read at its target

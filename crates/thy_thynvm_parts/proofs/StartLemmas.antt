@@ -31,7 +31,7 @@ use Rattle.thy_record.specs.Images.{memory_numbers}
 use Rattle.thy_record.specs.Number.{scheme_number}
 use Rattle.thy_record.specs.Slots.{AreCounts, IsSlotOf, byte_in, slot_block_of, slot_fault}
 use Rattle.thy_record.proofs.SlotLemmas.{slot_block_of-table, slot_block_of-count, tables_in-back, slot_back, table_block_of-entries}
-use Rattle.thy_view.specs.Safe.{ceiling}
+use Rattle.thy_computer.specs.Safe.{ceiling}
 use Rattle.thy_checkpoint.specs.Filling.{first_slot_of, first_by}
 use Rattle.thy_checkpoint.specs.Start.{CanStart}
 use Rattle.thy_thynvm_parts.specs.Filling.{filling_thynvm}

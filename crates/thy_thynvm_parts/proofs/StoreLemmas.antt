@@ -36,8 +36,8 @@ use Rattle.thy_record.specs.Number.{scheme_number}
 use Rattle.thy_record.specs.TableBlocks.{table_block_of}
 use Rattle.thy_record.specs.VersionSlots.{blocks_of_slot, place_of_slot}
 use Rattle.thy_record.proofs.IssuingLemmas.{slot_behind}
-use Rattle.thy_view.specs.Action.{IsAccess, after, FailsTo}
-use Rattle.thy_view.specs.Dram.{ActsOnDram, WritesBlock}
+use Rattle.thy_computer.specs.Action.{IsAccess, after, FailsTo}
+use Rattle.thy_computer.specs.Dram.{ActsOnDram, WritesBlock}
 use Rattle.thy_control.specs.CheckpointTables.{tables0, tables1}
 use Rattle.thy_control.specs.Find.{with_found}
 use Rattle.thy_control.specs.Frees.{HasNoWork, settled}
@@ -56,9 +56,9 @@ use Rattle.thy_control.proofs.PutLemmas.{block_listed, page_listed, put_by-reads
 use Rattle.thy_control.proofs.StayLemmas.{Stays-done, Stays-failed, stays_read, free_at}
 use Rattle.thy_control.proofs.StoreLemmas.{ready-whole, stored_by}
 use Rattle.thy_checkpoint.specs.Items.{Phase, Resting, Making, Made, Applying}
-use Rattle.thy_parts.specs.Holding.{holding_of}
-use Rattle.thy_parts.specs.Moments.{IsMoment, MakesAt}
-use Rattle.thy_parts.specs.Storing.{CanStore, MakesStore, SealedStays, SlotStaysAt, StaysAt, StaysOver, IsStoring}
+use Rattle.thy_scheme_parts.specs.Holding.{holding_of}
+use Rattle.thy_scheme_parts.specs.Moments.{IsMoment, MakesAt}
+use Rattle.thy_scheme_parts.specs.Storing.{CanStore, MakesStore, SealedStays, SlotStaysAt, StaysAt, StaysOver, IsStoring}
 use Rattle.thy_thynvm_parts.specs.Design.{StandsAt, items_thynvm, slot_rest, IsOfRest, HasRoom, rests_at, write_there, store_action, PromotesOn, StaysThynvm, IsStill, thynvm_design}
 use Rattle.thy_thynvm_parts.proofs.ReadLemmas.{blocks-agree}
 use Rattle.thy_thynvm_parts.proofs.DesignLemmas.{meant_on, counts_on, makes_on}

@@ -21,9 +21,9 @@ use Rattle.thy_control.specs.Boot.{IsBooting}
 use Rattle.thy_control.specs.CheckpointTables.{tables0}
 use Rattle.thy_control.specs.State.{State}
 use Rattle.thy_control.specs.Stays.{HoldAll}
-use Rattle.thy_view.specs.Origin.{Origin, IsOrigin, at}
-use Rattle.thy_view.specs.Safe.{ceiling}
-use Rattle.thy_view.specs.Keeps.{Keeps}
+use Rattle.thy_computer.specs.Origin.{Origin, IsOrigin, at}
+use Rattle.thy_computer.specs.Safe.{ceiling}
+use Rattle.thy_computer.specs.Keeps.{Keeps}
 use Rattle.thy_record.specs.ThynvmLayouts.{layout_of}
 use Rattle.thy_checkpoint.specs.declared.boot_stage.Stage.TheVariants.{Over}
 use Rattle.thy_checkpoint.specs.declared.boot_stage.End.TheVariants.{Restored, Loaded}

@@ -24,7 +24,7 @@ use Rattle.thy_record.specs.Images.{slot_in}
 use Rattle.thy_record.specs.Issuing.{HoldsCheckpoint}
 use Rattle.thy_record.specs.Slots.{counts_in}
 use Rattle.thy_record.specs.TableBlocks.{table_block_of}
-use Rattle.thy_view.specs.Action.{Action, Rest, WriteAt}
+use Rattle.thy_computer.specs.Action.{Action, Rest, WriteAt}
 use Rattle.thy_control.specs.CheckpointTables.{tables0, tables1}
 use Rattle.thy_control.specs.Commit.{committed_state}
 use Rattle.thy_control.specs.Copies.{next_copy, copies_left, block_listed}
@@ -41,7 +41,7 @@ use Rattle.thy_control.specs.Stays.{AreCopied, HoldAll, Stays as StaysControl}
 use Rattle.thy_control.specs.StoredTables.{answer_of}
 use Rattle.thy_thynvm_parts.specs.Filling.{filling_thynvm}
 use Rattle.thy_checkpoint.specs.Items.{ItemsOf, Phase, Resting, Making, Made, Applying}
-use Rattle.thy_parts.specs.Design.{PagesOf, PartsOf, DesignOf, design_of}
+use Rattle.thy_scheme_parts.specs.Design.{PagesOf, PartsOf, DesignOf, design_of}
 
 -- a block has still to be merged into its page, and a page is being promoted
 abbrev pub is_overlaid : State → Bool

@@ -5,12 +5,12 @@ use Rattle.thy_control.specs.State.{State}
 use Rattle.thy_scheme.specs.Machine.{Machine, is_barred}
 use Rattle.thy_checkpoint.specs.Cycles.{cycles_left}
 use Rattle.thy_checkpoint.specs.Progress.{Progress, Fits, is_under_way, engine_next, control_next}
-use Rattle.thy_parts.specs.Design.{Composed}
+use Rattle.thy_scheme_parts.specs.Design.{Composed}
 use Rattle.thy_thynvm_parts.specs.Filling.{filling_thynvm}
 use Rattle.thy_scheme.specs.CheckpointMarks.{CheckpointMarks}
 use Rattle.thy_scheme.specs.Laws.{StaysSound}
 use Rattle.thy_scheme.specs.Scheme.{Stands}
-use Rattle.thy_view.specs.Origin.{Origin}
+use Rattle.thy_computer.specs.Origin.{Origin}
 use Rattle.thy_thynvm_parts.specs.Design.{items_thynvm}
 use Rattle.thy_thynvm_parts.specs.Scheme.{thynvm_scheme}
 

@@ -11,22 +11,22 @@ use Rattle.thy_table.specs.Places.{slot_blocks, slot_place}
 use Rattle.thy_layout.specs.Commit.{version_of, slot_of_epoch}
 use Rattle.thy_record.specs.Number.{scheme_number}
 use Rattle.thy_control.specs.State.{State}
-use Rattle.thy_view.specs.declared.did.Did.{Did}
-use Rattle.thy_view.specs.declared.did.Stepped.{Stepped}
-use Rattle.thy_view.specs.declared.view.Phase.TheVariants.{Boot}
-use Rattle.thy_view.specs.Action.{Action, WriteAt, Barrier, Acts, ActionFailed}
-use Rattle.thy_view.specs.Kind.{IsStep, CycleFailed}
-use Rattle.thy_view.specs.Origin.{Origin}
-use Rattle.thy_view.specs.declared.round.Round.{Round}
-use Rattle.thy_view.specs.declared.round.Round.TheVariants.{Confirm}
-use Rattle.thy_view.specs.Round.{round_action}
+use Rattle.thy_computer.specs.declared.did.Did.{Did}
+use Rattle.thy_computer.specs.declared.did.Stepped.{Stepped}
+use Rattle.thy_computer.specs.declared.view.Phase.TheVariants.{Boot}
+use Rattle.thy_computer.specs.Action.{Action, WriteAt, Barrier, Acts, ActionFailed}
+use Rattle.thy_computer.specs.Kind.{IsStep, CycleFailed}
+use Rattle.thy_computer.specs.Origin.{Origin}
+use Rattle.thy_computer.specs.declared.round.Round.{Round}
+use Rattle.thy_computer.specs.declared.round.Round.TheVariants.{Confirm}
+use Rattle.thy_computer.specs.Round.{round_action}
 use Rattle.thy_checkpoint.specs.declared.boot_stage.Stage.TheVariants.{Migrates}
 use Rattle.thy_checkpoint.specs.Boot.{Booting}
 use Rattle.thy_checkpoint.specs.Migrating.{renewing}
 use Rattle.thy_scheme.specs.Kind.{kind_over}
 use Rattle.thy_scheme.specs.Machine.{Machine, view_of}
-use Rattle.thy_parts.specs.Boots.{Boots}
-use Rattle.thy_parts.specs.Design.{Composed}
+use Rattle.thy_scheme_parts.specs.Boots.{Boots}
+use Rattle.thy_scheme_parts.specs.Design.{Composed}
 use Rattle.thy_thynvm_parts.specs.Filling.{filling_thynvm}
 use Rattle.thy_thynvm_parts.specs.Design.{thynvm_design}
 use Rattle.thy_thynvm_parts.specs.Scheme.{thynvm_scheme}

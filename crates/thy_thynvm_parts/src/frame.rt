@@ -5,7 +5,7 @@ ghost use Rattle.thy_table.specs.Places.{image_blocks};
 ghost use Rattle.thy_checkpoint.specs.Filling.{IsNext};
 ghost use Rattle.thy_checkpoint.specs.Loads.{Takes};
 ghost use Rattle.thy_thynvm_parts.specs.Filling.{page_place, with_filled, filling_thynvm};
-ghost use Rattle.thy_view.specs.Action.{ReadAt};
+ghost use Rattle.thy_computer.specs.Action.{ReadAt};
 
 use thy_block::{Block, Nvm, NvmError, PAGE_BLOCKS};
 use thy_control::Control;

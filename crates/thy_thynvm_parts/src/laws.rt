@@ -6,10 +6,10 @@ ghost use Rattle.thy_thynvm_parts.specs.Laws.{ItemsCount, NothingIsBarred, Ready
 ghost use Rattle.thy_thynvm_parts.specs.Recovery.{FailuresWriteNothing, MigrationWrites, StepsLeaveNvm, VersionTwoStays};
 ghost use Rattle.thy_thynvm_parts.specs.Scheme.{thynvm_scheme};
 ghost use Rattle.thy_checkpoint.specs.Items.{AreItems};
-ghost use Rattle.thy_parts.specs.AreParts.{AreParts};
-ghost use Rattle.thy_parts.specs.IsDesign.{IsDesign};
-ghost use Rattle.thy_parts.specs.Paging.{IsPaging};
-ghost use Rattle.thy_parts.specs.Storing.{IsStoring};
+ghost use Rattle.thy_scheme_parts.specs.AreParts.{AreParts};
+ghost use Rattle.thy_scheme_parts.specs.IsDesign.{IsDesign};
+ghost use Rattle.thy_scheme_parts.specs.Paging.{IsPaging};
+ghost use Rattle.thy_scheme_parts.specs.Storing.{IsStoring};
 ghost use Rattle.thy_scheme.specs.Laws.{IsLawful};
 
 /// The body of a checkpoint is each version that is pending, copied to its place, and then each block of the pages that

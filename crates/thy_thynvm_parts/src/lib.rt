@@ -1,10 +1,10 @@
-//! The parts of the scheme thynvm, with their laws; they are a crate below thy_thynvm,
+//! The parts of the scheme thynvm, with their laws; they are a crate below thy_schemes,
 //! because an `impl` can cite proofs of lower crates only. At a boot the controller lists a slot of either version, the
 //! frames of its pages are filled, and a start makes an empty NVM a checkpoint. What is seen of the controller while a
 //! boot fills it, while an engine writes its checkpoints, and by loads and stores makes these parts lawful.
 //!
 //! Open specs/Filling.antt first, then specs/Booted.antt and src/listing.rt; of the laws specs/Design.antt,
-//! specs/Recovery.antt and src/laws.rt. It depends on thy_control, thy_parts and their dependencies; thy_thynvm depends
+//! specs/Recovery.antt and src/laws.rt. It depends on thy_control, thy_scheme_parts and their dependencies; thy_schemes depends
 //! on it.
 #![tactic(auto)]
 

@@ -8,7 +8,7 @@ ghost use Rattle.thy_record.specs.ThynvmLayouts.{thynvm_layouts};
 ghost use Rattle.thy_record.specs.Slots.{tables_in};
 ghost use Rattle.thy_record.specs.Tables.{IsTables};
 ghost use Rattle.thy_table.specs.Listing.{first_from};
-ghost use Rattle.thy_view.specs.Safe.{ceiling};
+ghost use Rattle.thy_computer.specs.Safe.{ceiling};
 ghost use Rattle.thy_thynvm_parts.specs.Filling.{IsEmpty, next_position, filling_thynvm};
 ghost use Rattle.thy_thynvm_parts.specs.Listed.{ListsUpTo, AsListed};
 

@@ -149,7 +149,7 @@ class Walk:
 
 def alias_of(name):
     """The type that a name stands for by an alias, and that type's argument or None; without an alias, the name and None."""
-    for path in sorted(glob.glob(os.path.join(TOP, "crates/*/src/*.rt"))):
+    for path in sorted(glob.glob(os.path.join(TOP, "crates/*/src/**/*.rt"), recursive=True)):
         alias = re.search(rf"^pub type {name} = (\w+)(?:<(\w+)>)?;", text_of(path), re.M)
         if alias:
             return alias[1], alias[2]
@@ -159,7 +159,7 @@ def alias_of(name):
 def ghost(walk, trait, kind, member):
     """Follows a ghost member of a type, and of the type's argument what it takes from that. Answers its text."""
     kind, argument = alias_of(kind)
-    for path in sorted(glob.glob(os.path.join(TOP, "crates/*/src/*.rt"))):
+    for path in sorted(glob.glob(os.path.join(TOP, "crates/*/src/**/*.rt"), recursive=True)):
         for block in re.findall(rf"^impl(?:<[^>]*>)? {trait} for {kind}\b.*?^}}", text_of(path), re.M | re.S):
             value = re.search(rf"ghost {member} = \{{ (.*?) \}};", block, re.S)
             if value:
@@ -181,7 +181,7 @@ def follow(walk, text, uses):
 
 def trait_of(name):
     """A trait without its comments, and what its file brings in."""
-    for path in sorted(glob.glob(os.path.join(TOP, "crates/*/src/*.rt"))):
+    for path in sorted(glob.glob(os.path.join(TOP, "crates/*/src/**/*.rt"), recursive=True)):
         text = text_of(path)
         block = re.search(rf"^pub trait {name}\b.*?^}}", text, re.M | re.S)
         if block:

@@ -10,13 +10,13 @@ SUBJECT = "the names in back quotes in the documents with the sources"
 ABOUT = """Looks up each name that README.md, CONTRIBUTING.md and docs/*.md have in back quotes, and prints those that are nowhere.
 
 A single word in back quotes is a name. It has to be defined in some crate, in its code, its definitions or its proofs; of
-`Type::call` both in one file, and each part of `record.field`. Or it is a crate, an example, a script in tools/, a function of a
-script, or a word that the program writes. Several words in back quotes are a line of output, a command, a formula or guest code: of these only
-words with an underscore or with a capital inside are names. A word with a slash or with the ending of a file is a file. What
-begins with two dashes is an option of thynvm or of a script in tools/. The script has a list of the few words that are none
-of these.
+`Type::call` both in one file, of `module::call` the call in the module's folder, and each part of `record.field`. Or it is a
+crate, an example, a script in tools/, a function of a script, or a word that the program writes. Several words in back quotes are
+a line of output, a command, a formula or guest code: of these only words with an underscore or with a capital inside are
+names. A word with a slash or with the ending of a file is a file. What begins with two dashes is an option of thynvm or of a
+script in tools/. The script has a list of the few words that are none of these.
 
-If the text names the crate or the file, the name has to be defined there: `Keeps` of thy_view, `Claim`
+If the text names the crate or the file, the name has to be defined there: `Keeps` of thy_computer, `Claim`
 (`crates/thy_cli/specs/Completing.antt`). In a table that has a crate in its first column, or behind a number, and below a
 heading that names files of crates, a name has to be defined in such a crate or in one that it stands on, directly or not.
 
@@ -87,7 +87,8 @@ class Repository:
         self.others.update(name for text in found for name in text.split(", "))
 
     def names_in(self, path):
-        return (names_in_code if path.endswith(".rt") else names_in_definitions)(text_of(path))
+        modules = {folder + "::" for folder in path.split("/")[3:-1]}
+        return modules | (names_in_code if path.endswith(".rt") else names_in_definitions)(text_of(path))
 
     def defines(self, name, crates):
         """Whether a name is known; if crates are given, to one of these or to one that they stand on."""

@@ -16,8 +16,9 @@ ABOUT = """Compares docs/PROOFS.md with the page that is made from the sources. 
 The page has the layers of docs/ARCHITECTURE.md with the crates of crates.txt. Of each crate it has the first sentence of
 src/lib.rt, the implementations of traits, the laws and the other public functions, in the order of the files. Of a law it has
 the first paragraph of its comment (`///`), of another function the first sentence, and whether it has no contract. A function
-is public if src/lib.rt names it, or the type or trait that has it, in a `pub use`; in a program, if src/main.rt names it in a
-`use crate::`. A law is a public function with a contract that returns nothing and is lent nothing to change.
+is public if src/lib.rt names it, or the type or trait that has it, in a `pub use`, or if a module does that src/lib.rt makes public,
+with which it is named then; in a program, if src/main.rt names it in a `use crate::`. A law is a public function with a contract
+that returns nothing and is lent nothing to change.
 
 Exit status: 0 written, or nothing differs; 1 the page differs; 2 invalid usage, or something cannot be read."""
 
@@ -63,10 +64,11 @@ class Function:
     is_open: bool  # as far as its file says
     comment: str
     text: str  # from its name to its body
+    module: str  # that is public and has it, or nothing
 
     @property
     def title(self):
-        return f"`{self.owner}::{self.name}`" if self.owner else f"`{self.name}`"
+        return f"`{'::'.join(filter(None, [self.owner or self.module, self.name]))}`"
 
     @property
     def says(self):
@@ -78,6 +80,11 @@ class Function:
     def is_law(self):
         head, *contract = re.split(r"\b(?:requires|ensures)\b", self.text)
         return bool(contract) and "->" not in head and "&mut" not in head
+
+
+def exports_in(text, root):
+    """What a root names for others."""
+    return set(re.findall(r"\b\w+\b(?!::)", " ".join(re.findall(EXPORTS[root], text, re.M))))
 
 
 def first_sentence(text):
@@ -106,14 +113,17 @@ class Crate:
         text = text_of(f"crates/{name}/src/{root}")
         head = [line[3:].strip() for line in text.splitlines() if line.startswith("//!")]
         self.name, self.subject = name, first_sentence(paragraph(head))
-        self.exported = set(re.findall(r"\b\w+\b(?!::)", " ".join(re.findall(EXPORTS[root], text, re.M))))
-        self.functions, self.implementations = [], []  # the latter as triples of trait, type and comment
-        self.kinds, self.comments = {}, {}  # of what is declared outside of blocks
+        self.exported = {"": exports_in(text, root)}  # by public module
+        for module in re.findall(r"^pub mod (\w+);", text, re.M):
+            self.exported[module] = exports_in(text_of(f"crates/{name}/src/{module}.rt"), "lib.rt")
+        self.functions, self.implementations = [], []  # the latter as trait, type, comment and public module
+        self.kinds, self.comments = {}, {}  # of what is declared outside of blocks, by public module
         for path in sorted(glob.glob(os.path.join(folder, "**", "*.rt"), recursive=True)):
-            self.read(text_of(path).splitlines())
+            first = re.split(r"[/.]", os.path.relpath(path, folder))[0]
+            self.read(text_of(path).splitlines(), first if first in self.exported else "")
 
-    def read(self, lines):
-        """Reads a file."""
+    def read(self, lines, module):
+        """Reads a file of a public module, or of none."""
         owner, trait, is_trait, comment = "", "", False, []
         for number, line in enumerate(lines):
             if line.lstrip().startswith("///"):
@@ -124,30 +134,30 @@ class Crate:
                     trait, owner = block.groups(default="") if block else ("", "")
                     is_trait = line.startswith("pub trait")
                 if block and trait:
-                    self.implementations.append((trait, owner, paragraph(comment)))
+                    self.implementations.append((trait, owner, paragraph(comment), module))
                 if declared:
-                    self.kinds[declared[2]], self.comments[declared[2]] = declared[1], paragraph(comment)
+                    self.kinds[module, declared[2]], self.comments[module, declared[2]] = declared[1], paragraph(comment)
                 if function and bool(owner) == line.startswith(" "):
                     is_open = is_trait or bool(function[1]) or bool(trait and comment)
                     text = declaration(lines[number:])
-                    self.functions.append(Function(owner, trait, function[2], is_open, paragraph(comment), text))
+                    self.functions.append(Function(owner, trait, function[2], is_open, paragraph(comment), text, module))
                 comment = []
 
     def traits(self):
         """The traits that it declares for others."""
-        return {name for name, kind in self.kinds.items() if kind == "trait" and name in self.exported}
+        return {name for (module, name), kind in self.kinds.items() if kind == "trait" and name in self.exported[module]}
 
-    def shows(self, name):
+    def shows(self, module, name):
         """Whether something is not one of those that it declares for itself alone."""
-        return name in self.exported or name not in self.kinds
+        return name in self.exported[module] or (module, name) not in self.kinds
 
     def tables(self, traits):
         """The tables of its section that have rows: of each its head, and pairs of a name and of what is said of it."""
-        types = [one for one in self.implementations if one[0] in traits and self.shows(one[1])]
-        calls = [one for one in self.functions if one.is_open and self.shows(one.owner or one.name)]
+        types = [one for one in self.implementations if one[0] in traits and self.shows(one[3], one[1])]
+        calls = [one for one in self.functions if one.is_open and self.shows(one.module, one.owner or one.name)]
         calls = [one for one in calls if not one.trait or one.trait in traits]
         tables = {
-            "implementation": [(f"`{trait}` for `{owner}`", said or self.comments.get(owner, "")) for trait, owner, said in types],
+            "implementation": [(f"`{trait}` for `{owner}`", said or self.comments.get((module, owner), "")) for trait, owner, said, module in types],
             "law": [(one.title, one.comment) for one in calls if one.is_law],
             "function": [(one.title, one.says) for one in calls if not one.is_law],
         }

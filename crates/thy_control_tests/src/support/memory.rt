@@ -17,9 +17,9 @@ use thy_dram::Dram;
 use thy_layout::{EngineStep, Found};
 use thy_nvm::MemNvm;
 use thy_record::{check, header_block, state};
+use thy_schemes::ThynvmTables;
 use thy_table::blocks;
 use thy_test_support::{cpu_at, geometry_of};
-use thy_thynvm::ThynvmTables;
 use thy_thynvm_parts::engine_and_controller_fit;
 
 /// The controller, its engine and the NVM.

@@ -17,13 +17,13 @@ use std::marker::Model;
 use std::process::Abort;
 use thy_base::{Geometry, Nvm, Shape};
 use thy_checkpoint::{Boot, Stage, a_boot_may_go_on};
+use thy_computer::{BootStep, Round};
 use thy_control::Control;
 use thy_dram::Dram;
 use thy_layout::Start;
 use thy_nvm::MemNvm;
+use thy_schemes::ThynvmTables;
 use thy_table::blocks;
-use thy_thynvm::ThynvmTables;
-use thy_view::{BootStep, Round};
 
 /// A machine whose power is off: both devices, and how many cuts are to come at most.
 #[derive(Drop)]

@@ -12,9 +12,9 @@ use crate::support::expect::expect;
 use std::alloc::Global;
 use std::process::Abort;
 use thy_base::{Block, Lcg, SchemeName};
+use thy_computer::BootStep;
 use thy_layout::{EngineStep, Start};
 use thy_test_support::{drawn, geometry_of};
-use thy_view::BootStep;
 
 /// How many entries the table has.
 const ENTRIES: usize = 8;

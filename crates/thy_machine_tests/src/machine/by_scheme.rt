@@ -7,10 +7,10 @@ use crate::support::expect::{expect, expect_at};
 use std::alloc::Global;
 use std::process::Abort;
 use thy_base::{EndCause, Mark, Nvm};
+use thy_computer::{Computer, Did};
 use thy_isa::{Reg, Status};
 use thy_layout::EngineStep;
 use thy_plain::Plain;
-use thy_view::{Computer, Did};
 
 /// `addi a0,zero,7; addi a7,zero,93; ecall`.
 pub(super) static EXIT_SEVEN: Row = Row {

@@ -9,8 +9,8 @@ use crate::machine::waiting::TWO_EPOCHS;
 use crate::machine::{plain_machines, survives_once_loaded};
 use crate::support::expect::expect;
 use thy_core::Machine;
-use thy_journal::Journal;
 use thy_layout::EngineStep;
+use thy_schemes::Journal;
 
 /// The engine writes eight blocks into the journal. After the commit each block is written home, and then comes a barrier.
 static STEPS: Steps = Steps {

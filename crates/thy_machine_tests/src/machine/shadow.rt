@@ -17,7 +17,7 @@ use thy_base::EndCause;
 use thy_core::Machine;
 use thy_isa::Status;
 use thy_layout::EngineStep;
-use thy_shadow::Shadow;
+use thy_schemes::Shadow;
 
 /// `lui t0,1; sub t1,sp,t0; sub t2,t1,t0; sub t3,t2,t0`, so that sp and the three lie in four pages; `sd t0,0(sp);
 /// sd t0,8(t1); sd t1,16(t2); sd t2,64(t3); ld a1,8(t1); sd a1,64(sp); sd t3,24(t1); ld a2,16(t2); add a2,a2,a1;

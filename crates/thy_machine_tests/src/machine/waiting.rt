@@ -8,11 +8,11 @@ use crate::support::expect::{expect, expect_at};
 use std::alloc::Global;
 use std::process::Abort;
 use thy_base::EndCause;
+use thy_computer::Did;
 use thy_core::Machine;
 use thy_isa::Status;
 use thy_layout::EngineStep;
 use thy_test_support::HELLO;
-use thy_view::Did;
 
 /// A program that prints in its first epoch, and ends in its second.
 pub(super) static TWO_EPOCHS: Row = Row {

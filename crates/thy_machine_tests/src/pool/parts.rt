@@ -18,14 +18,14 @@ use std::marker::Model;
 use std::process::Abort;
 use thy_base::{Block, Geometry, Nvm, Shape, Stored};
 use thy_checkpoint::{Boot, Engine, a_boot_may_go_on};
+use thy_computer::BootStep;
 use thy_dram::Dram;
+use thy_images::shadow::blocks;
 use thy_layout::{EngineStep, Start};
 use thy_nvm::MemNvm;
-use thy_shadow::Relist;
-use thy_shadow_image::blocks;
+use thy_schemes::Relist;
 use thy_shadow_parts::Pool;
 use thy_test_support::cpu_at;
-use thy_view::BootStep;
 
 /// Both devices while the power is off, and how many cuts are to come at most.
 #[derive(Drop)]

@@ -1,8 +1,8 @@
 use Rattle.std.proofs.Common.{ℕ, List, refl, sym, subst, string_bytes}
-use Rattle.thy_answer.specs.Machines.{by_scheme}
-use Rattle.thy_answer.specs.Sources.{file, made, image}
-use Rattle.thy_arguments.specs.declared.words.Command.{Command}
-use Rattle.thy_arguments.specs.Settings.{Job, job_of, order_of}
+use Rattle.thy_outcome.specs.Machines.{by_scheme}
+use Rattle.thy_outcome.specs.Sources.{file, made, image}
+use Rattle.thy_base.specs.declared.arguments.words.Command.{Command}
+use Rattle.thy_base.specs.Settings.{Job, job_of, order_of}
 use Rattle.observe.specs.Again.{MakesRows, MakesRowsOf}
 use Rattle.observe.proofs.again.rows_for.Goals as goal
 

@@ -1,9 +1,9 @@
 use Rattle.std.proofs.Common.{◌≡◌, refl, sym, subst, inl, inr}
 use Rattle.thy_base.specs.Config.{parameters_of}
 use Rattle.thy_block.specs.Outside.{Stock}
-use Rattle.thy_arguments.specs.Settings.{Job, job_of}
-use Rattle.thy_answer.specs.Kept.{named}
-use Rattle.thy_answer.proofs.ShelfLemmas.{stock_same}
+use Rattle.thy_base.specs.Settings.{Job, job_of}
+use Rattle.thy_outcome.specs.Kept.{named}
+use Rattle.thy_outcome.proofs.ShelfLemmas.{stock_same}
 use Rattle.thy_execute.proofs.PlanLemmas.{IsBegun, IsBegun-begins, plan_with}
 use Rattle.thy_files.specs.Beginnings.{IsPlannedFor}
 use Rattle.thy_files.specs.Restoring.{ReadsFiles}

@@ -2,7 +2,7 @@ use Rattle.std.proofs.Common.{◌≡◌, ◌∙◌, ap, subst, arith}
 use Rattle.std.specs.Prelude.{IfSome}
 use Rattle.thy_block.specs.declared.nvm.Shape.{Shape}
 use Rattle.thy_block.specs.Device.{Device, fitted}
-use Rattle.thy_answer.proofs.LawLemmas.{some_blocks}
+use Rattle.thy_outcome.proofs.LawLemmas.{some_blocks}
 use Rattle.thy_execute.proofs.PlanLemmas.{fitted_for_plan}
 use Rattle.thy_execute.specs.Planning.{shape_of}
 use Rattle.thy_observe.specs.Accesses.{HasAccesses}

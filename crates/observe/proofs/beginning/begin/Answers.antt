@@ -1,7 +1,7 @@
 use Rattle.std.proofs.Common.{ap, sym, ◌∙◌}
 use Rattle.std.specs.Prelude.{option_map}
-use Rattle.thy_arguments.specs.Settings.{job_of, order_of}
-use Rattle.thy_answer.specs.Kept.{named}
+use Rattle.thy_base.specs.Settings.{job_of, order_of}
+use Rattle.thy_outcome.specs.Kept.{named}
 use Rattle.observe.specs.Beginning.{run_of}
 use Rattle.observe.proofs.BeginningLemmas.{job-in-range}
 use Rattle.observe.proofs.beginning.begin.Goals as goal

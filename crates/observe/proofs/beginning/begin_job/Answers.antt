@@ -1,6 +1,6 @@
 use Rattle.std.proofs.Common.{ap, sym}
-use Rattle.thy_arguments.specs.Settings.{Job, job_of}
-use Rattle.thy_answer.specs.Sources.{Beginning}
+use Rattle.thy_base.specs.Settings.{Job, job_of}
+use Rattle.thy_outcome.specs.Sources.{Beginning}
 use Rattle.thy_files.specs.Beginnings.{IsPlannedFor}
 use Rattle.observe.proofs.beginning.begin_job.Goals as goal
 

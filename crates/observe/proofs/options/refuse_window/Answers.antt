@@ -1,5 +1,5 @@
 use Rattle.std.proofs.Common.{ℕ, List, sym, ◌∙◌, subst, inl}
-use Rattle.thy_answer.specs.Answering.{Closes}
+use Rattle.thy_outcome.specs.Answering.{Closes}
 use Rattle.observe.specs.declared.options.WindowFault.{WindowFault}
 use Rattle.observe.specs.Wanting.{IsWindowRefused}
 use Rattle.observe.proofs.options.refuse_window.Goals as goal

@@ -1,5 +1,5 @@
 use Rattle.std.proofs.Common.{◌≤◌, length, sym, ◌∙◌, ap, string_bytes, arith}
-use Rattle.thy_arguments.specs.Numbers.{number_in}
+use Rattle.thy_base.specs.Numbers.{number_in}
 use Rattle.observe.specs.Wanting.{wish_of}
 use Rattle.observe.proofs.OptionLemmas.{take-again, take-numbered}
 use Rattle.observe.proofs.options.take_one.Goals as goal

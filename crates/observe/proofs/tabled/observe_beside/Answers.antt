@@ -1,6 +1,6 @@
 use Rattle.std.proofs.Common.{ℕ, List, ap, map, string_bytes, subst}
 use Rattle.std.specs.Prelude.{option_map}
-use Rattle.thy_answer.specs.Answering.{around, nvm_of}
+use Rattle.thy_outcome.specs.Answering.{around, nvm_of}
 use Rattle.observe.specs.CountText.{counts_of}
 use Rattle.observe.proofs.TabledLemmas.{Beside-named, Beside-none}
 use Rattle.observe.proofs.tabled.observe_beside.Goals as goal

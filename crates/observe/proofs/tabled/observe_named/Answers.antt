@@ -1,9 +1,9 @@
 use Rattle.std.proofs.Common.{◌≡◌, ℕ, List, true, refl, sym, ◌∙◌, ap, inl, inr, subst, map, string_bytes}
 use Rattle.thy_block.specs.declared.parameters.SchemeName.TheVariants.{Thynvm, Journal, Shadow}
 use Rattle.thy_files.proofs.RestoringLaws.{reads_by}
-use Rattle.thy_arguments.specs.Settings.{order_of}
-use Rattle.thy_answer.specs.Answering.{nvm_of}
-use Rattle.thy_answer.specs.Saving.{IsPut}
+use Rattle.thy_base.specs.Settings.{order_of}
+use Rattle.thy_outcome.specs.Answering.{nvm_of}
+use Rattle.thy_outcome.specs.Saving.{IsPut}
 use Rattle.observe.specs.AccessText.{table_text}
 use Rattle.observe.specs.CountText.{counts_of}
 use Rattle.observe.specs.Tabled.{is_turned}

@@ -1,5 +1,5 @@
 use Rattle.std.proofs.Common.{refl, sym, ◌∙◌, map, string_bytes}
-use Rattle.thy_answer.specs.Answering.{around, nvm_of}
+use Rattle.thy_outcome.specs.Answering.{around, nvm_of}
 use Rattle.observe.specs.CountText.{counts_of}
 use Rattle.observe.proofs.TabledLemmas.{Unnamed-observed, Unnamed-turned}
 use Rattle.observe.proofs.tabled.observe_unnamed.Goals as goal

@@ -1,9 +1,9 @@
 use Rattle.std.proofs.Common.{◌≡◌, refl, sym, ◌∙◌, inl, inr, subst, string_bytes}
 use Rattle.std.specs.Prelude.{IfSome, map, option_map}
 use Rattle.thy_block.specs.Outside.{Stock}
-use Rattle.thy_arguments.specs.Settings.{order_of, settings_of}
-use Rattle.thy_answer.specs.Saving.{IsPut}
-use Rattle.thy_answer.proofs.ShelfLemmas.{stock_same}
+use Rattle.thy_base.specs.Settings.{order_of, settings_of}
+use Rattle.thy_outcome.specs.Saving.{IsPut}
+use Rattle.thy_outcome.proofs.ShelfLemmas.{stock_same}
 use Rattle.observe.specs.Beginning.{IsBegunOf, IsUnreadOf}
 use Rattle.observe.proofs.HeadLemmas.{lent-asked}
 use Rattle.observe.proofs.PuttingLemmas.{IsObserved-lacks, IsObserved-left, IsObserved-puts, Unread-asked, lent-in-range, lent-order}

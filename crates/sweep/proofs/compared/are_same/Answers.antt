@@ -1,5 +1,5 @@
 use Rattle.std.proofs.Common.{◌≡◌, true, sym, subst}
-use Rattle.thy_trial.specs.declared.part.Part.{Part}
+use Rattle.thy_sweep.specs.declared.trial.part.Part.{Part}
 use Rattle.sweep.specs.Findings.{AreSame}
 use Rattle.sweep.proofs.compared.are_same.Goals as goal
 

@@ -1,10 +1,10 @@
 use Rattle.std.proofs.Common.{sym, subst}
 use Rattle.thy_block.specs.declared.parameters.SchemeName.{SchemeName}
 use Rattle.thy_base.specs.Config.{parameters_of}
-use Rattle.thy_arguments.specs.Settings.{job_of}
-use Rattle.thy_answer.specs.Answering.{Outside, outside}
-use Rattle.thy_answer.specs.Kept.{named}
-use Rattle.thy_answer.specs.Machines.{by_scheme}
+use Rattle.thy_base.specs.Settings.{job_of}
+use Rattle.thy_outcome.specs.Answering.{Outside, outside}
+use Rattle.thy_outcome.specs.Kept.{named}
+use Rattle.thy_outcome.specs.Machines.{by_scheme}
 use Rattle.sweep.specs.Swept.{SweepsJob}
 use Rattle.sweep.proofs.top.sweep_by_scheme.Goals as goal
 

@@ -1,9 +1,9 @@
 use Rattle.std.proofs.Common.{ℕ, List, refl, sym, subst, string_bytes}
-use Rattle.thy_answer.specs.Answering.{Outside, outside}
-use Rattle.thy_answer.specs.Machines.{by_scheme}
-use Rattle.thy_answer.specs.Sources.{file, made, image}
-use Rattle.thy_arguments.specs.declared.words.Command.{Command}
-use Rattle.thy_arguments.specs.Settings.{Job, job_of, order_of}
+use Rattle.thy_outcome.specs.Answering.{Outside, outside}
+use Rattle.thy_outcome.specs.Machines.{by_scheme}
+use Rattle.thy_outcome.specs.Sources.{file, made, image}
+use Rattle.thy_base.specs.declared.arguments.words.Command.{Command}
+use Rattle.thy_base.specs.Settings.{Job, job_of, order_of}
 use Rattle.sweep.specs.Swept.{SweepsJob, SweepsOrder}
 use Rattle.sweep.proofs.top.sweep_command.Goals as goal
 

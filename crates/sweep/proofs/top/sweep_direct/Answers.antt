@@ -1,11 +1,11 @@
 use Rattle.std.proofs.Common.{◌≡◌, nat_lt, length, refl, sym, ◌∙◌, ap, subst, inl, inr, arith}
 use Rattle.thy_block.specs.declared.nvm.Shape.{Shape}
 use Rattle.thy_block.specs.Device.{Device, fitted}
-use Rattle.thy_answer.proofs.LawLemmas.{some_blocks}
+use Rattle.thy_outcome.proofs.LawLemmas.{some_blocks}
 use Rattle.thy_execute.proofs.LevellingLemmas.{IsFoundAs-direct, IsLeftAs-direct}
 use Rattle.thy_execute.proofs.PlanLemmas.{fitted_for_plan}
-use Rattle.thy_answer.specs.Answering.{Outside, outside}
-use Rattle.thy_answer.specs.Kept.{named}
+use Rattle.thy_outcome.specs.Answering.{Outside, outside}
+use Rattle.thy_outcome.specs.Kept.{named}
 use Rattle.thy_execute.specs.Planning.{shape_of}
 use Rattle.sweep.specs.Swept.{SweepsOver}
 use Rattle.sweep.proofs.SweptLemmas.{fitted_size}

@@ -1,5 +1,5 @@
 use Rattle.std.proofs.Common.{◌≡◌, ℕ, Bool, refl, ap, subst, inl, inr}
-use Rattle.thy_answer.specs.Kept.{named}
+use Rattle.thy_outcome.specs.Kept.{named}
 use Rattle.sweep.specs.Concluding.{IsConcluded}
 use Rattle.sweep.specs.Kept.{KeepsRows}
 use Rattle.sweep.proofs.top.sweep_fitted.Goals as goal

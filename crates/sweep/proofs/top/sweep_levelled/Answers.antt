@@ -7,10 +7,10 @@ use Rattle.thy_gap.specs.Levelled.{looks}
 use Rattle.thy_gap.proofs.SeenLemmas.{length-unmap}
 use Rattle.thy_run.specs.Every.{every_of}
 use Rattle.thy_run.proofs.EveryLemmas.{every-unworn}
-use Rattle.thy_answer.proofs.LawLemmas.{some_blocks}
-use Rattle.thy_answer.specs.Answering.{Outside, outside}
-use Rattle.thy_answer.specs.Kept.{named}
-use Rattle.thy_answer.specs.Levelling.{IsFoundAs, IsLeftAs}
+use Rattle.thy_outcome.proofs.LawLemmas.{some_blocks}
+use Rattle.thy_outcome.specs.Answering.{Outside, outside}
+use Rattle.thy_outcome.specs.Kept.{named}
+use Rattle.thy_outcome.specs.Levelling.{IsFoundAs, IsLeftAs}
 use Rattle.thy_execute.specs.Planning.{shape_of}
 use Rattle.thy_execute.proofs.LevellingLemmas.{IsFoundAs-levelled, IsLeftAs-levelled, every-levelled, failed_within, same_loan_failed}
 use Rattle.thy_execute.proofs.PlanLemmas.{fitted_for_plan}

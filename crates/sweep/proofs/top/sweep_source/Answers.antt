@@ -1,10 +1,10 @@
 use Rattle.std.proofs.Common.{◌≡◌, refl, sym, subst, inl}
 use Rattle.thy_base.specs.Config.{parameters_of}
 use Rattle.thy_block.specs.Outside.{Stock}
-use Rattle.thy_arguments.specs.Settings.{Job, job_of}
-use Rattle.thy_answer.specs.Answering.{Outside, outside}
-use Rattle.thy_answer.specs.Kept.{named}
-use Rattle.thy_answer.proofs.ShelfLemmas.{stock_same}
+use Rattle.thy_base.specs.Settings.{Job, job_of}
+use Rattle.thy_outcome.specs.Answering.{Outside, outside}
+use Rattle.thy_outcome.specs.Kept.{named}
+use Rattle.thy_outcome.proofs.ShelfLemmas.{stock_same}
 use Rattle.thy_execute.proofs.PlanLemmas.{IsBegun, IsBegun-begins, RunDue-program, plan_with}
 use Rattle.thy_files.specs.Beginnings.{IsPlannedFor}
 use Rattle.thy_files.specs.Restoring.{ReadsFiles}

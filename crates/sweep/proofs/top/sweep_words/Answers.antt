@@ -1,6 +1,6 @@
 use Rattle.std.proofs.Common.{◌≡◌, true, false, refl, sym, ◌∙◌, inl, inr, map, string_bytes}
-use Rattle.thy_arguments.specs.declared.words.WordsError.TheVariants.{Usage}
-use Rattle.thy_arguments.specs.Settings.{order_of}
+use Rattle.thy_base.specs.declared.arguments.words.WordsError.TheVariants.{Usage}
+use Rattle.thy_base.specs.Settings.{order_of}
 use Rattle.sweep.specs.Naming.{is_refused}
 use Rattle.sweep.proofs.SweptLemmas.{uncut_of, words_due}
 use Rattle.sweep.proofs.top.sweep_words.Goals as goal

@@ -1,5 +1,5 @@
 use Rattle.std.proofs.Common.{Option, sym, ◌∙◌, subst}
-use Rattle.thy_trial.specs.declared.part.Restored.{Restored}
+use Rattle.thy_sweep.specs.declared.trial.part.Restored.{Restored}
 use Rattle.sweep.specs.Findings.{IsKnownBy}
 use Rattle.sweep.proofs.trying.is_known.Goals as goal
 

@@ -1,7 +1,7 @@
 use Rattle.std.proofs.Common.{refl}
 use Rattle.thy_block.specs.Device.{Device}
 use Rattle.thy_sweep.specs.Choices.{chosen, places_of}
-use Rattle.thy_trial.specs.declared.room.Found.{Found}
+use Rattle.thy_sweep.specs.declared.trial.room.Found.{Found}
 use Rattle.sweep.proofs.trying.note_number.Goals as goal
 
 pub returns-in-Ok-clause-tried : goal.returns-in-Ok-clause-tried

@@ -6,9 +6,9 @@ use Rattle.thy_nvm.specs.Calls.{is_listed}
 use Rattle.thy_nvm.specs.Pick.{picked}
 use Rattle.thy_run.specs.Going.{origin_of}
 use Rattle.thy_sweep.specs.Lying.{Lying, lying}
-use Rattle.thy_trial.specs.declared.room.Found.{Found}
-use Rattle.thy_trial.specs.Rooms.{ListsPick, number_by}
-use Rattle.thy_trial.specs.Trials.{IsTried}
+use Rattle.thy_sweep.specs.declared.trial.room.Found.{Found}
+use Rattle.thy_sweep.specs.Rooms.{ListsPick, number_by}
+use Rattle.thy_sweep.specs.Trials.{IsTried}
 use Rattle.sweep.specs.Rows.{AreApart}
 use Rattle.sweep.specs.Sweeping.{most_cycles}
 use Rattle.sweep.proofs.RowLemmas.{HasTried-none, apart-one, listed-last}

@@ -1,7 +1,7 @@
 use Rattle.std.proofs.Common.{take}
 use Rattle.thy_sweep.specs.Images.{crash_images}
 use Rattle.thy_sweep.specs.Lying.{lying}
-use Rattle.thy_trial.specs.Rooms.{HasRoomFor}
+use Rattle.thy_sweep.specs.Rooms.{HasRoomFor}
 use Rattle.sweep.specs.Rows.{TriesImages}
 use Rattle.sweep.proofs.trying.try_all.Given as goal
 

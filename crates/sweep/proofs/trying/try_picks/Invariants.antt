@@ -1,5 +1,5 @@
 use Rattle.thy_sweep.specs.Lying.{lying}
-use Rattle.thy_trial.specs.Rooms.{HasRoomFor}
+use Rattle.thy_sweep.specs.Rooms.{HasRoomFor}
 use Rattle.sweep.proofs.RowLemmas.{IsTrying}
 use Rattle.sweep.proofs.trying.try_picks.Given as goal
 

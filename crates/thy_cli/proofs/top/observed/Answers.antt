@@ -1,6 +1,6 @@
 use Rattle.std.proofs.Common.{refl}
 use Rattle.thy_block.specs.declared.parameters.SchemeName.TheVariants.{Thynvm, Journal, Shadow}
-use Rattle.thy_answer.specs.Answering.{around, nvm_of}
+use Rattle.thy_outcome.specs.Answering.{around, nvm_of}
 use Rattle.thy_files.proofs.RestoringLaws.{reads_by}
 use Rattle.thy_cli.proofs.ClaimLaws.{ClaimSeen-answered}
 use Rattle.thy_cli.proofs.top.observed.Goals as goal

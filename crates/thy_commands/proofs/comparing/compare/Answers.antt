@@ -1,15 +1,15 @@
 use Rattle.std.proofs.Common.{◌≡◌, inl, inr, refl, sym, subst}
 use Rattle.thy_block.specs.declared.parameters.SchemeName.{SchemeName}
 use Rattle.thy_block.specs.Outside.{Stock}
-use Rattle.thy_answer.specs.Answering.{around, nvm_of}
-use Rattle.thy_answer.specs.Machines.{by_scheme}
+use Rattle.thy_outcome.specs.Answering.{around, nvm_of}
+use Rattle.thy_outcome.specs.Machines.{by_scheme}
 use Rattle.thy_execute.specs.Planning.{CanRun}
-use Rattle.thy_arguments.specs.Settings.{Job, job_of}
+use Rattle.thy_base.specs.Settings.{Job, job_of}
 use Rattle.thy_commands.specs.Compared.{Compares, plan_under}
 use Rattle.thy_commands.proofs.ComparisonLaws.{IsComparison-compares}
 use Rattle.thy_commands.proofs.NextLaws.{begun_under_each, no_blocks, plan_for_each}
 use Rattle.thy_execute.proofs.PlanLemmas.{plan_with}
-use Rattle.thy_answer.proofs.ShelfLemmas.{stock_same}
+use Rattle.thy_outcome.proofs.ShelfLemmas.{stock_same}
 use Rattle.thy_commands.proofs.comparing.compare.Goals as goal
 
 pub compare_plan-requires-clause-can : goal.compare_plan-requires-clause-can

@@ -2,9 +2,9 @@ use Rattle.std.proofs.Common.{true, false, [], refl, sym, ◌∙◌, ap, subst, 
 use Rattle.std.proofs.lemmas.Bool.{le-leb, lt-leb}
 use Rattle.thy_block.specs.declared.parameters.SchemeName.TheVariants.{Thynvm, Journal, Shadow}
 use Rattle.thy_run.specs.declared.plan.Plan.{Plan}
-use Rattle.thy_answer.specs.Answering.{around, nvm_of}
+use Rattle.thy_outcome.specs.Answering.{around, nvm_of}
 use Rattle.thy_commands.specs.Compared.{RunsNext, plan_under}
-use Rattle.thy_answer.specs.Machines.{by_scheme}
+use Rattle.thy_outcome.specs.Machines.{by_scheme}
 use Rattle.thy_execute.specs.Planning.{CanRun}
 use Rattle.thy_commands.proofs.NextLaws.{IsNothing, Nexts, compares_one, compares_three, compares_two, for_run}
 use Rattle.thy_commands.proofs.comparing.compare_plan.Goals as goal

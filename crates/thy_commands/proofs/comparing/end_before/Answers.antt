@@ -1,5 +1,5 @@
 use Rattle.std.proofs.Common.{subst}
-use Rattle.thy_answer.specs.Answering.{Closes}
+use Rattle.thy_outcome.specs.Answering.{Closes}
 use Rattle.thy_commands.proofs.comparing.end_before.Goals as goal
 
 pub returns-clause-closes : goal.returns-clause-closes

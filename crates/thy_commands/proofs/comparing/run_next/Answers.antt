@@ -1,9 +1,9 @@
 use Rattle.std.proofs.Common.{◌∙◌, ◌++◌, ap, subst, refl, inl, inr}
 use Rattle.thy_block.specs.declared.parameters.Parameters.{Parameters}
-use Rattle.thy_answer.specs.declared.refusal.Refusal.TheVariants.{Device as DeviceRefusal, Memory as MemoryRefusal}
-use Rattle.thy_answer.specs.Answering.{stop_line}
+use Rattle.thy_outcome.specs.declared.refusal.Refusal.TheVariants.{Device as DeviceRefusal, Memory as MemoryRefusal}
+use Rattle.thy_outcome.specs.Answering.{stop_line}
 use Rattle.thy_run.specs.Sending.{Sent}
-use Rattle.thy_answer.specs.Comparing.{line_status, scheme_lines}
+use Rattle.thy_outcome.specs.Comparing.{line_status, scheme_lines}
 use Rattle.thy_commands.proofs.ComparingLaws.{last_taken, joined_last}
 use Rattle.thy_commands.proofs.comparing.run_next.Goals as goal
 

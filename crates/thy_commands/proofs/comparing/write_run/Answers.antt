@@ -1,6 +1,6 @@
 use Rattle.std.proofs.Common.{subst}
 use Rattle.thy_run.specs.Sending.{Sent}
-use Rattle.thy_answer.specs.Comparing.{scheme_lines}
+use Rattle.thy_outcome.specs.Comparing.{scheme_lines}
 use Rattle.thy_commands.proofs.ComparingLaws.{sent_behind, sent_first}
 use Rattle.thy_commands.proofs.comparing.write_run.Goals as goal
 

@@ -1,11 +1,11 @@
 use Rattle.std.proofs.Common.{◌∙◌, ap, subst, refl, inl, inr, map, Ok}
 use Rattle.std.specs.Prelude.{Result}
 use Rattle.std.specs.String.{string_bytes}
-use Rattle.thy_arguments.specs.declared.words.Command.{Command}
-use Rattle.thy_arguments.specs.declared.words.WordsError.{WordsError}
-use Rattle.thy_arguments.specs.Settings.{Order, run, resume, bench, compare, plain, make, job_of, order_of}
-use Rattle.thy_answer.specs.Answering.{MakeAnswered, around, nvm_of, outside_of}
-use Rattle.thy_answer.specs.Comparing.{CompareAnswered}
+use Rattle.thy_base.specs.declared.arguments.words.Command.{Command}
+use Rattle.thy_base.specs.declared.arguments.words.WordsError.{WordsError}
+use Rattle.thy_base.specs.Settings.{Order, run, resume, bench, compare, plain, make, job_of, order_of}
+use Rattle.thy_outcome.specs.Answering.{MakeAnswered, around, nvm_of, outside_of}
+use Rattle.thy_outcome.specs.Comparing.{CompareAnswered}
 use Rattle.thy_commands.proofs.NameLemmas.{PlainSeen-named, RunSeen-file, RunSeen-image, WordsDue-shown}
 use Rattle.thy_commands.proofs.order.carry_out.Goals as goal
 

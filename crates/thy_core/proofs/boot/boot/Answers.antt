@@ -1,7 +1,7 @@
 use Rattle.std.proofs.Common.{refl, sym, ◌∙◌, subst}
 use Rattle.thy_isa.specs.Step.{State}
-use Rattle.thy_view.specs.declared.did.Stall.TheVariants.{Booting}
-use Rattle.thy_view.specs.NextActor.{Stalled}
+use Rattle.thy_computer.specs.declared.did.Stall.TheVariants.{Booting}
+use Rattle.thy_computer.specs.NextActor.{Stalled}
 use Rattle.thy_core.specs.Cycles.{HasStart}
 use Rattle.thy_core.specs.MachineParts.{machine_of}
 use Rattle.thy_scheme.proofs.BootingLaws.{sound-boot}

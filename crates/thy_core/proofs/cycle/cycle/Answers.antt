@@ -1,5 +1,5 @@
 use Rattle.std.proofs.Common.{Ok, ap}
-use Rattle.thy_view.specs.NextActor.{Nvm, Dram, Checkpoint, Stalled}
+use Rattle.thy_computer.specs.NextActor.{Nvm, Dram, Checkpoint, Stalled}
 use Rattle.thy_core.specs.Cycles.{IsAnyRun, HasStart}
 use Rattle.thy_core.specs.MachineParts.{machine_of, actor_seen}
 use Rattle.thy_core.proofs.CycleLaws.{taken_is}

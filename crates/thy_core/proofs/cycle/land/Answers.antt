@@ -1,4 +1,4 @@
-use Rattle.thy_view.specs.NextActor.{Nvm}
+use Rattle.thy_computer.specs.NextActor.{Nvm}
 use Rattle.thy_core.specs.Cycles.{IsAnyRun}
 use Rattle.thy_core.specs.MachineParts.{machine_of}
 use Rattle.thy_core.proofs.CycleLaws.{taken_err, land_cycle, land_failed}

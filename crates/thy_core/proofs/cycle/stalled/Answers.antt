@@ -1,6 +1,6 @@
 use Rattle.std.proofs.Common.{Ok, ap}
-use Rattle.thy_view.specs.declared.did.Stall.TheVariants.{Booting, Sealing, Waiting, Halted}
-use Rattle.thy_view.specs.NextActor.{Stalled}
+use Rattle.thy_computer.specs.declared.did.Stall.TheVariants.{Booting, Sealing, Waiting, Halted}
+use Rattle.thy_computer.specs.NextActor.{Stalled}
 use Rattle.thy_core.specs.Cycles.{IsAnyRun, HasStart}
 use Rattle.thy_core.specs.MachineParts.{machine_of}
 use Rattle.thy_core.proofs.CycleLaws.{taken_is}

@@ -1,5 +1,5 @@
 use Rattle.std.proofs.Common.{None, refl, sym, ◌∙◌, ap}
-use Rattle.thy_view.specs.NextActor.{Advances}
+use Rattle.thy_computer.specs.NextActor.{Advances}
 use Rattle.thy_core.specs.Cycles.{HasStart, HasInput, did_by, stepped_by, reported}
 use Rattle.thy_core.specs.MachineParts.{machine_of}
 use Rattle.thy_core.proofs.CalmLaws.{knows_noted, not_halted}

@@ -1,5 +1,5 @@
 use Rattle.std.proofs.Common.{◌∙◌, ap}
-use Rattle.thy_view.specs.NextActor.{stall_at}
+use Rattle.thy_computer.specs.NextActor.{stall_at}
 use Rattle.thy_scheme.specs.declared.scheme_store.SchemeStore.{SchemeStore}
 use Rattle.thy_core.specs.Cycles.{reported}
 use Rattle.thy_core.specs.MachineParts.{machine_of, actor_seen}

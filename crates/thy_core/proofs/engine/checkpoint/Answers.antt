@@ -1,5 +1,5 @@
 use Rattle.std.proofs.Common.{refl}
-use Rattle.thy_view.specs.NextActor.{Checkpoint}
+use Rattle.thy_computer.specs.NextActor.{Checkpoint}
 use Rattle.thy_core.specs.Cycles.{IsAnyRun}
 use Rattle.thy_core.specs.MachineParts.{machine_of}
 use Rattle.thy_core.proofs.CycleLaws.{taken_err, stands_run, engine_cycle, engine_failed}

@@ -1,7 +1,7 @@
 use Rattle.std.proofs.Common.{◌+◌, ◌&&◌, not, ℕ, Option, List, [], ◌∷◌, ◌++◌, replicate, sym, ◌∙◌, ap}
 use Rattle.thy_hart.specs.declared.hand.HartStep.{HartStep}
-use Rattle.thy_view.specs.declared.did.Advance.{Advance}
-use Rattle.thy_view.specs.declared.did.Advance.TheVariants.{Moved}
+use Rattle.thy_computer.specs.declared.did.Advance.{Advance}
+use Rattle.thy_computer.specs.declared.did.Advance.TheVariants.{Moved}
 use Rattle.thy_scheme.specs.MachineCalls.{retires_by}
 use Rattle.thy_core.specs.MachineParts.{machine_of}
 use Rattle.thy_core.specs.Row.{advances_by, after_row, ends_epoch}

@@ -1,7 +1,7 @@
 use Rattle.std.proofs.Common.{refl, ◌∙◌, ap, subst}
 use Rattle.thy_hart.specs.Outcomes.{given}
-use Rattle.thy_view.specs.Advances.{did_of}
-use Rattle.thy_view.specs.NextActor.{Advances}
+use Rattle.thy_computer.specs.Advances.{did_of}
+use Rattle.thy_computer.specs.NextActor.{Advances}
 use Rattle.thy_scheme.specs.Calls.{IsOneAccess}
 use Rattle.thy_scheme.specs.MachineCalls.{HartCall, after_hart}
 use Rattle.thy_scheme.specs.Machine.{Machine}

@@ -2,7 +2,7 @@ use Rattle.std.proofs.Common.{◌≡◌, ℕ, Bool, if◌then◌else◌, ap, sub
 use Rattle.std.specs.Prelude.{unwrap_or}
 use Rattle.std.proofs.lemmas.Bool.{eq-eqb}
 use Rattle.thy_block.specs.declared.mix.Pick.{Pick}
-use Rattle.thy_view.specs.NextActor.{Advances, begins}
+use Rattle.thy_computer.specs.NextActor.{Advances, begins}
 use Rattle.thy_scheme.specs.Machine.{Machine}
 use Rattle.thy_scheme.specs.Scheme.{SchemeOf}
 use Rattle.thy_core.specs.Cycles.{HasStart, CanTake}

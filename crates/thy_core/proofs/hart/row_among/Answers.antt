@@ -1,5 +1,5 @@
 use Rattle.std.proofs.Common.{ℕ, sym, subst}
-use Rattle.thy_view.specs.NextActor.{Advances}
+use Rattle.thy_computer.specs.NextActor.{Advances}
 use Rattle.thy_core.specs.Cycles.{HasStart, CanTake}
 use Rattle.thy_core.specs.MachineParts.{machine_of}
 use Rattle.thy_core.proofs.hart.row_among.Goals as goal

@@ -5,8 +5,8 @@ use Rattle.thy_hart.specs.HartState.{HartState}
 use Rattle.thy_hart.specs.Outcomes.{given}
 use Rattle.thy_hart.specs.Moments.{IsReady}
 use Rattle.thy_hart.specs.Rows.{moved_then, Takes}
-use Rattle.thy_view.specs.Advances.{SimulatesRow}
-use Rattle.thy_view.specs.declared.did.Advance.{Advance}
+use Rattle.thy_computer.specs.Advances.{SimulatesRow}
+use Rattle.thy_computer.specs.declared.did.Advance.{Advance}
 use Rattle.thy_scheme.specs.SchemeStore.{held_by_scheme}
 use Rattle.thy_scheme.specs.MachineCalls.{begun_by_hart}
 use Rattle.thy_scheme.specs.Kind.{kind_over}

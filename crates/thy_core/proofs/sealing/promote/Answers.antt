@@ -1,6 +1,6 @@
 use Rattle.std.proofs.Common.{refl}
-use Rattle.thy_view.specs.declared.did.Stall.TheVariants.{Sealing}
-use Rattle.thy_view.specs.NextActor.{Stalled}
+use Rattle.thy_computer.specs.declared.did.Stall.TheVariants.{Sealing}
+use Rattle.thy_computer.specs.NextActor.{Stalled}
 use Rattle.thy_core.specs.Cycles.{IsAnyRun}
 use Rattle.thy_core.specs.MachineParts.{machine_of}
 use Rattle.thy_core.proofs.CycleLaws.{taken_err, stands_run, promotion_cycle, promotion_failed}

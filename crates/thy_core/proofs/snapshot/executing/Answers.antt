@@ -5,7 +5,7 @@ use Rattle.thy_block.specs.Device.{Device}
 use Rattle.thy_block.specs.Flat.{console_bytes}
 use Rattle.thy_isa.specs.declared.state.CpuState.{CpuState}
 use Rattle.thy_isa.specs.Step.{state_of, state_with}
-use Rattle.thy_view.specs.NextActor.{front_of}
+use Rattle.thy_computer.specs.NextActor.{front_of}
 use Rattle.thy_scheme.specs.Machine.{memory_of, hart_put_back}
 use Rattle.thy_core.specs.MachineParts.{machine_of}
 use Rattle.thy_core.proofs.SnapshotLaws.{state_read, console_fronted, put_back_sized}

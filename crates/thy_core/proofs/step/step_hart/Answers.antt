@@ -1,8 +1,8 @@
 use Rattle.std.proofs.Common.{length, Result, Ok, Err, refl, sym, ◌∙◌, ap}
 use Rattle.thy_block.specs.declared.nvm.NvmError.{NvmError}
-use Rattle.thy_view.specs.declared.did.Stepped.{Stepped}
-use Rattle.thy_view.specs.Advances.{stepped_of}
-use Rattle.thy_view.specs.NextActor.{Advances}
+use Rattle.thy_computer.specs.declared.did.Stepped.{Stepped}
+use Rattle.thy_computer.specs.Advances.{stepped_of}
+use Rattle.thy_computer.specs.NextActor.{Advances}
 use Rattle.thy_scheme.proofs.MomentLaws.{sound-here}
 use Rattle.thy_core.specs.MachineParts.{machine_of, next_actor_seen}
 use Rattle.thy_core.proofs.TakenLaws.{at_run, moment_of, turned, others_turn, reported_steps, reported_fails, reported_notes}

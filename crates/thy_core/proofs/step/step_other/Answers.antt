@@ -1,5 +1,5 @@
 use Rattle.std.proofs.Common.{sym, ◌∙◌, ap}
-use Rattle.thy_view.specs.NextActor.{Advances}
+use Rattle.thy_computer.specs.NextActor.{Advances}
 use Rattle.thy_scheme.proofs.MomentLaws.{sound-here}
 use Rattle.thy_core.specs.MachineParts.{machine_of, actor_seen, next_actor_seen}
 use Rattle.thy_core.proofs.CalmLaws.{knows_nothing}

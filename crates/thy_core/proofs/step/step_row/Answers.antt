@@ -1,6 +1,6 @@
 use Rattle.std.proofs.Common.{◌==◌, length, refl, sym, ◌∙◌}
 use Rattle.std.proofs.lemmas.Bool.{and_parts, eqb-true}
-use Rattle.thy_view.specs.NextActor.{Advances}
+use Rattle.thy_computer.specs.NextActor.{Advances}
 use Rattle.thy_scheme.proofs.MomentLaws.{sound-here}
 use Rattle.thy_core.specs.MachineParts.{machine_of}
 use Rattle.thy_core.specs.Turns.{hart_of}

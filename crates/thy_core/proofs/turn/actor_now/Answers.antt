@@ -1,6 +1,6 @@
 use Rattle.std.proofs.Common.{◌==◌, length, sym, ◌∙◌, ap}
 use Rattle.std.proofs.lemmas.Bool.{and_parts, eqb-true}
-use Rattle.thy_view.specs.NextActor.{Advances}
+use Rattle.thy_computer.specs.NextActor.{Advances}
 use Rattle.thy_core.specs.MachineParts.{machine_of}
 use Rattle.thy_core.proofs.CalmLaws.{calm_turn}
 use Rattle.thy_core.proofs.turn.actor_now.Goals as goal

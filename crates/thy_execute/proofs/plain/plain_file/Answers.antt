@@ -1,5 +1,5 @@
 use Rattle.std.proofs.Common.{sym, refl}
-use Rattle.thy_arguments.specs.Settings.{job_of}
+use Rattle.thy_base.specs.Settings.{job_of}
 use Rattle.thy_execute.proofs.plain.plain_file.Goals as goal
 
 pub returns : goal.returns

@@ -1,8 +1,8 @@
 use Rattle.std.proofs.Common.{◌≡◌, sym, subst}
 use Rattle.std.specs.Result.{IfErr}
 use Rattle.thy_block.specs.Outside.{Stock}
-use Rattle.thy_answer.specs.Sources.{file, ProgramDue}
-use Rattle.thy_answer.proofs.ShelfLemmas.{stock_same}
+use Rattle.thy_outcome.specs.Sources.{file, ProgramDue}
+use Rattle.thy_outcome.proofs.ShelfLemmas.{stock_same}
 use Rattle.thy_execute.proofs.plain.plain_program.Goals as goal
 
 pub returns-in-Err-clause-refusal : goal.returns-in-Err-clause-refusal

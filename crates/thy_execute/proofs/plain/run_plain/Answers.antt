@@ -8,12 +8,12 @@ use Rattle.thy_isa.specs.Step.{state_of}
 use Rattle.thy_text.specs.History.{of_run}
 use Rattle.thy_text.specs.Lines.{ended_lines}
 use Rattle.thy_run.specs.Sending.{Sent}
-use Rattle.thy_answer.specs.declared.answer.Answer.{Answer}
-use Rattle.thy_answer.specs.declared.refusal.Refusal.TheVariants.{Memory}
-use Rattle.thy_answer.specs.Answering.{outside}
+use Rattle.thy_outcome.specs.declared.answer.Answer.{Answer}
+use Rattle.thy_outcome.specs.declared.refusal.Refusal.TheVariants.{Memory}
+use Rattle.thy_outcome.specs.Answering.{outside}
 use Rattle.thy_execute.proofs.PlainLemmas.{IsPlainOf-ran}
-use Rattle.thy_answer.proofs.ClosingLaws.{unsummed}
-use Rattle.thy_answer.proofs.ShelfLemmas.{stock_same}
+use Rattle.thy_outcome.proofs.ClosingLaws.{unsummed}
+use Rattle.thy_outcome.proofs.ShelfLemmas.{stock_same}
 use Rattle.thy_execute.proofs.plain.run_plain.Goals as goal
 
 pub returns-in-Err : goal.returns-in-Err

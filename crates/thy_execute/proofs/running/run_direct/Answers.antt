@@ -2,9 +2,9 @@ use Rattle.std.proofs.Common.{◌≡◌, ap, sym, refl, ◌∙◌, arith}
 use Rattle.thy_base.specs.declared.config.Config.{Config}
 use Rattle.thy_block.specs.declared.nvm.Shape.{Shape}
 use Rattle.thy_block.specs.Device.{Device, fitted}
-use Rattle.thy_answer.proofs.LawLemmas.{some_blocks}
-use Rattle.thy_answer.specs.Answering.{Outside, outside, shape_for}
-use Rattle.thy_answer.specs.Kept.{named}
+use Rattle.thy_outcome.proofs.LawLemmas.{some_blocks}
+use Rattle.thy_outcome.specs.Answering.{Outside, outside, shape_for}
+use Rattle.thy_outcome.specs.Kept.{named}
 use Rattle.thy_execute.proofs.LevellingLemmas.{IsFoundAs-direct, IsLeftAs-direct, RunOverSeen-seen}
 use Rattle.thy_execute.proofs.PlanLemmas.{fitted_for_plan, shape_planned}
 use Rattle.thy_execute.proofs.running.run_direct.Goals as goal

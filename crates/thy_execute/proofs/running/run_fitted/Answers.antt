@@ -2,10 +2,10 @@ use Rattle.std.proofs.Common.{ap, subst, sym, ◌∙◌, ℕ}
 use Rattle.std.specs.Prelude.{option_map}
 use Rattle.thy_block.specs.declared.parameters.Parameters.{Parameters}
 use Rattle.thy_run.specs.Going.{origin_of, given_of}
-use Rattle.thy_answer.specs.Answering.{Outside, outside, ClosesAs}
+use Rattle.thy_outcome.specs.Answering.{Outside, outside, ClosesAs}
 use Rattle.thy_execute.specs.Planning.{HasRoom}
-use Rattle.thy_answer.specs.Kept.{named}
-use Rattle.thy_answer.specs.Saving.{saves}
+use Rattle.thy_outcome.specs.Kept.{named}
+use Rattle.thy_outcome.specs.Saving.{saves}
 use Rattle.thy_execute.proofs.LevellingLemmas.{HasStayed-ran}
 use Rattle.thy_execute.proofs.PlanLemmas.{HasRoom-ran, IsRunOf-ran, planned_promise}
 use Rattle.thy_execute.proofs.running.run_fitted.Goals as goal

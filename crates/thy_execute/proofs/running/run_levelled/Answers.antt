@@ -7,10 +7,10 @@ use Rattle.thy_block.specs.Device.{Device, HasFailedToFit, Plain, fitted, lent_b
 use Rattle.thy_gap.specs.Levelled.{looks}
 use Rattle.thy_gap.proofs.SeenLemmas.{length-unmap}
 use Rattle.thy_run.proofs.EveryLemmas.{every-unworn}
-use Rattle.thy_answer.proofs.LawLemmas.{some_blocks}
-use Rattle.thy_answer.specs.Answering.{Outside, outside, shape_for}
-use Rattle.thy_answer.specs.Levelling.{IsFoundAs, IsLeftAs}
-use Rattle.thy_answer.specs.Kept.{named}
+use Rattle.thy_outcome.proofs.LawLemmas.{some_blocks}
+use Rattle.thy_outcome.specs.Answering.{Outside, outside, shape_for}
+use Rattle.thy_outcome.specs.Levelling.{IsFoundAs, IsLeftAs}
+use Rattle.thy_outcome.specs.Kept.{named}
 use Rattle.thy_execute.proofs.LevellingLemmas.{IsFoundAs-levelled, IsLeftAs-levelled, RunOverSeen-seen, every-levelled, failed_within, same_loan_failed}
 use Rattle.thy_execute.proofs.PlanLemmas.{fitted_for_plan, shape_planned}
 use Rattle.thy_execute.proofs.running.run_levelled.Goals as goal

@@ -2,15 +2,15 @@ use Rattle.std.proofs.Common.{◌≡◌, ap, sym, subst, refl, inl}
 use Rattle.thy_block.specs.declared.nvm.FitError.{FitError}
 use Rattle.thy_base.specs.Config.{parameters_of}
 use Rattle.thy_block.specs.Outside.{Stock}
-use Rattle.thy_arguments.specs.Settings.{Job, job_of}
-use Rattle.thy_answer.specs.declared.refusal.Refusal.TheVariants.{Device as DeviceRefusal}
-use Rattle.thy_answer.specs.Answering.{Outside, Closes, outside}
+use Rattle.thy_base.specs.Settings.{Job, job_of}
+use Rattle.thy_outcome.specs.declared.refusal.Refusal.TheVariants.{Device as DeviceRefusal}
+use Rattle.thy_outcome.specs.Answering.{Outside, Closes, outside}
 use Rattle.thy_files.specs.Restoring.{ReadsFiles}
 use Rattle.thy_files.specs.Beginnings.{Begins, IsPlannedFor}
-use Rattle.thy_answer.specs.Kept.{named, refused_line}
-use Rattle.thy_answer.specs.Sources.{IsProgram}
+use Rattle.thy_outcome.specs.Kept.{named, refused_line}
+use Rattle.thy_outcome.specs.Sources.{IsProgram}
 use Rattle.thy_execute.proofs.PlanLemmas.{IsBegun, IsBegun-begins, plan_with, RunSeen-over, RunSeen-same, RunDue-program, RunDue-unfitted}
-use Rattle.thy_answer.proofs.ShelfLemmas.{stock_same}
+use Rattle.thy_outcome.proofs.ShelfLemmas.{stock_same}
 use Rattle.thy_execute.proofs.running.run_source.Goals as goal
 
 pub returns-in-Err : goal.returns-in-Err

@@ -1,7 +1,7 @@
 use Rattle.std.proofs.Common.{sym, subst}
-use Rattle.thy_answer.specs.declared.source.ProgramSource.{ProgramSource}
+use Rattle.thy_outcome.specs.declared.source.ProgramSource.{ProgramSource}
 use Rattle.thy_files.specs.Beginnings.{RefusesAs}
-use Rattle.thy_answer.specs.Kept.{named}
+use Rattle.thy_outcome.specs.Kept.{named}
 use Rattle.thy_files.proofs.beginning.begin.Goals as goal
 
 pub returns-in-Image-clause-refusal : goal.returns-in-Image-clause-refusal

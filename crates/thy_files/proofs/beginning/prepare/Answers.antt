@@ -1,9 +1,9 @@
 use Rattle.std.proofs.Common.{◌≡◌, sym, subst}
 use Rattle.std.specs.Result.{IfErr}
 use Rattle.thy_block.specs.Outside.{Stock}
-use Rattle.thy_answer.specs.Kept.{named}
-use Rattle.thy_answer.specs.Sources.{ProgramDue}
-use Rattle.thy_answer.proofs.ShelfLemmas.{stock_same}
+use Rattle.thy_outcome.specs.Kept.{named}
+use Rattle.thy_outcome.specs.Sources.{ProgramDue}
+use Rattle.thy_outcome.proofs.ShelfLemmas.{stock_same}
 use Rattle.thy_files.proofs.beginning.prepare.Goals as goal
 
 pub returns-in-Err-clause-refusal : goal.returns-in-Err-clause-refusal

@@ -1,6 +1,6 @@
 use Rattle.std.proofs.Common.{sym, ◌∙◌, arith}
 use Rattle.thy_block.proofs.FlatLemmas.{flat-nil}
-use Rattle.thy_answer.specs.Saving.{image_left}
+use Rattle.thy_outcome.specs.Saving.{image_left}
 use Rattle.thy_files.proofs.SavingLemmas.{bytes_more}
 use Rattle.thy_files.proofs.saving.image_bytes.Goals as goal
 

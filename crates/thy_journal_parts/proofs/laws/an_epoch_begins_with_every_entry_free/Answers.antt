@@ -1,6 +1,6 @@
 use Rattle.std.proofs.Common.{◌∙◌, ap}
 use Rattle.thy_block.specs.declared.parameters.Parameters.{Parameters}
-use Rattle.thy_parts.proofs.WaitLemmas.{rests_idle, first_has_room}
+use Rattle.thy_scheme_parts.proofs.WaitLemmas.{rests_idle, first_has_room}
 use Rattle.thy_journal_parts.specs.Design.{journal_design}
 use Rattle.thy_journal_parts.proofs.DesignLemmas.{is_design}
 use Rattle.thy_journal_parts.proofs.laws.an_epoch_begins_with_every_entry_free.Goals as goal

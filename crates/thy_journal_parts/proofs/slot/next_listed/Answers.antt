@@ -2,7 +2,7 @@ use Rattle.std.proofs.Common.{◌≡◌, ℕ, None, false, get_or, subst, sym, �
 use Rattle.std.proofs.lemmas.Bool.{cases_eq}
 use Rattle.thy_block.specs.declared.parameters.Parameters.{Parameters}
 use Rattle.thy_layout.specs.Files.{blocks_of}
-use Rattle.thy_journal_image.specs.Slots.{table_in}
+use Rattle.thy_images.specs.JournalSlots.{table_in}
 use Rattle.thy_table.proofs.FirstLemmas.{first_from-is, first_from-none}
 use Rattle.thy_journal_parts.proofs.FillLemmas.{length-table_in}
 use Rattle.thy_journal_parts.proofs.slot.next_listed.Goals as goal

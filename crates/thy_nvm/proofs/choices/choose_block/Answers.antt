@@ -1,7 +1,7 @@
 use Rattle.std.proofs.Common.{◌<◌, ◌+◌, ◌%◌, length, Contains, sym, ap, subst, ◌∙◌, arith}
 use Rattle.std.proofs.lemmas.List.Elements.{Contains-get_or}
 use Rattle.thy_block.specs.Device.{possible, block_at}
-use Rattle.thy_write_queue.specs.Held.{device_of, choice_at}
+use Rattle.thy_dram.specs.Held.{device_of, choice_at}
 use Rattle.thy_nvm.specs.Chosen.{number_at}
 use Rattle.thy_nvm.proofs.choices.choose_block.Goals as goal
 

@@ -3,7 +3,7 @@ use Rattle.std.proofs.lemmas.List.{set-get_or}
 use Rattle.thy_block.specs.Device.{possible, block_at, queued_for, zero_block}
 use Rattle.thy_block.proofs.CrashLemmas.{Contains-stands}
 use Rattle.thy_block.proofs.MadeLemmas.{IsMadeOf-one}
-use Rattle.thy_write_queue.specs.Held.{device_of}
+use Rattle.thy_dram.specs.Held.{device_of}
 use Rattle.thy_nvm.specs.Chosen.{one_if_any}
 use Rattle.thy_nvm.proofs.ChosenLemmas.{one_if_any-some, one_if_any-none, chosen-none}
 use Rattle.thy_nvm.proofs.choices.choose_place.Goals as goal

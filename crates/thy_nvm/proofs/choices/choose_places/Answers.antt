@@ -2,7 +2,7 @@ use Rattle.std.proofs.Common.{◌≡◌, ◌≢◌, ◌<◌, ℕ, length, refl, 
 use Rattle.std.proofs.lemmas.Bool.{cases_eq}
 use Rattle.std.proofs.lemmas.List.{length-set, get_or-set_other, get_or-set_same}
 use Rattle.thy_block.specs.Device.{IsMadeOf, possible, block_at, zero_block}
-use Rattle.thy_write_queue.specs.Held.{device_of}
+use Rattle.thy_dram.specs.Held.{device_of}
 use Rattle.thy_nvm.specs.Chosen.{HasChosenWords, numbers_from}
 use Rattle.thy_nvm.proofs.ChosenLemmas.{numbers_from-none, numbers_from-more, HasChosenWords-same}
 use Rattle.thy_nvm.proofs.PickLemmas.{Crash-made, IsMadeOf-same}

@@ -1,6 +1,6 @@
 use Rattle.std.proofs.Common.{◌≡◌, ◌<◌, ◌≤◌, ℕ, length}
 use Rattle.thy_block.specs.Device.{IsMadeOf, possible, block_at}
-use Rattle.thy_write_queue.specs.Held.{device_of}
+use Rattle.thy_dram.specs.Held.{device_of}
 use Rattle.thy_nvm.specs.Chosen.{HasChosenWords, numbers_from}
 use Rattle.thy_nvm.proofs.choices.choose_places.Given as goal
 

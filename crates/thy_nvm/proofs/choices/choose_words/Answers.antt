@@ -3,7 +3,7 @@ use Rattle.std.proofs.lemmas.Bool.{cases_eq}
 use Rattle.thy_block.specs.Device.{IsMadeOf, possible, block_at, word_bytes}
 use Rattle.thy_block.proofs.CrashLemmas.{Contains-stands}
 use Rattle.thy_block.proofs.MadeLemmas.{IsMadeOf-one}
-use Rattle.thy_write_queue.specs.Held.{device_of}
+use Rattle.thy_dram.specs.Held.{device_of}
 use Rattle.thy_nvm.specs.Chosen.{number_at, chosen_at}
 use Rattle.thy_nvm.proofs.ChosenLemmas.{number-first, numbers-more}
 use Rattle.thy_nvm.proofs.choices.choose_words.Goals as goal

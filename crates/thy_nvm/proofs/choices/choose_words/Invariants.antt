@@ -1,6 +1,6 @@
 use Rattle.std.proofs.Common.{◌≡◌, ◌<◌, ℕ, drop}
 use Rattle.thy_block.specs.Device.{IsMadeOf, possible, word_bytes}
-use Rattle.thy_write_queue.specs.Held.{device_of}
+use Rattle.thy_dram.specs.Held.{device_of}
 use Rattle.thy_nvm.specs.Chosen.{number_at, chosen_at}
 use Rattle.thy_nvm.proofs.choices.choose_words.Given as goal
 

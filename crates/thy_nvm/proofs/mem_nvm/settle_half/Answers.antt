@@ -1,6 +1,6 @@
 use Rattle.std.proofs.Common.{ap, ◌∙◌}
 use Rattle.thy_block.specs.Device.{drained}
-use Rattle.thy_write_queue.specs.Held.{as_device}
+use Rattle.thy_dram.specs.Held.{as_device}
 use Rattle.thy_nvm.proofs.CallLemmas.{drained-landed}
 use Rattle.thy_nvm.proofs.mem_nvm.settle_half.Goals as goal
 

@@ -1,9 +1,9 @@
 use Rattle.std.proofs.Common.{◌≡◌, ◌<◌, true, List, [], ◌∷◌, ◌++◌, length, take, min, sym, ◌∙◌, ap, subst, arith}
 use Rattle.std.proofs.lemmas.List.{length-set, length-take, take_more}
 use Rattle.thy_block.specs.declared.nvm.Write.{Write}
-use Rattle.thy_write_queue.specs.Held.{Held}
-use Rattle.thy_write_queue.specs.Merged.{merged, is_marked, AreMarked}
-use Rattle.thy_write_queue.proofs.MergedLemmas.{AreMarked-append, AreMarked-set, marked-set_same}
+use Rattle.thy_dram.specs.Held.{Held}
+use Rattle.thy_dram.specs.Merged.{merged, is_marked, AreMarked}
+use Rattle.thy_dram.proofs.MergedLemmas.{AreMarked-append, AreMarked-set, marked-set_same}
 use Rattle.thy_nvm.proofs.OverLemmas.{written-room}
 use Rattle.thy_nvm.proofs.over.queue_as.Goals as goal
 

@@ -1,5 +1,5 @@
 use Rattle.std.proofs.Common.{◌≡◌, length, take}
-use Rattle.thy_write_queue.specs.Merged.{merged, AreMarked}
+use Rattle.thy_dram.specs.Merged.{merged, AreMarked}
 use Rattle.thy_nvm.proofs.over.queue_as.Given as goal
 
 -- the writes so far are queued, and all blocks are as before

@@ -1,5 +1,5 @@
 use Rattle.std.proofs.Common.{true, slice_set, ◌∙◌, ap}
-use Rattle.thy_write_queue.specs.Merged.{merged}
+use Rattle.thy_dram.specs.Merged.{merged}
 use Rattle.thy_nvm.proofs.OverLemmas.{merged-taken}
 use Rattle.thy_nvm.proofs.over.take_up.Goals as goal
 

@@ -1,7 +1,7 @@
 use Rattle.std.proofs.Common.{◌≡◌, ◌≤◌, true, length, replicate, sym, ◌∙◌, ap, arith}
 use Rattle.std.proofs.lemmas.List.{take_all}
-use Rattle.thy_write_queue.specs.Merged.{merged}
-use Rattle.thy_write_queue.proofs.MergedLemmas.{merged-all}
+use Rattle.thy_dram.specs.Merged.{merged}
+use Rattle.thy_dram.proofs.MergedLemmas.{merged-all}
 use Rattle.thy_nvm.proofs.over.take_up_all.Goals as goal
 
 pub returns-clause-image : goal.returns-clause-image

@@ -1,5 +1,5 @@
 use Rattle.std.proofs.Common.{◌≡◌, true, length, take, replicate}
-use Rattle.thy_write_queue.specs.Merged.{merged}
+use Rattle.thy_dram.specs.Merged.{merged}
 use Rattle.thy_nvm.proofs.over.take_up_all.Given as goal
 
 -- the blocks of the places so far are taken up, and all blocks are as before

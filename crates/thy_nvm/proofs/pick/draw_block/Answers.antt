@@ -1,7 +1,7 @@
 use Rattle.std.proofs.Common.{◌<◌, ◌+◌, ◌%◌, length, Contains, sym, ap, subst, ◌∙◌, arith}
 use Rattle.thy_block.specs.Device.{possible, queued_for, block_at}
 use Rattle.thy_block.specs.Lcg.{lcg_draw, lcg_next}
-use Rattle.thy_write_queue.specs.Held.{device_of, choice_at}
+use Rattle.thy_dram.specs.Held.{device_of, choice_at}
 use Rattle.thy_nvm.proofs.PickLemmas.{Contains-drawn_block, drawn_block-some}
 use Rattle.thy_nvm.proofs.pick.draw_block.Goals as goal
 

@@ -1,6 +1,6 @@
 use Rattle.std.proofs.Common.{◌<◌, length, sym, ap, ◌∙◌, arith}
 use Rattle.thy_block.specs.Device.{queued_for}
-use Rattle.thy_write_queue.specs.Held.{put_at}
+use Rattle.thy_dram.specs.Held.{put_at}
 use Rattle.thy_nvm.proofs.PickLemmas.{drawn_seed-some}
 use Rattle.thy_nvm.proofs.pick.draw_place.Goals as goal
 

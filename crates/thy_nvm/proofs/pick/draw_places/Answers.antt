@@ -1,7 +1,7 @@
 use Rattle.std.proofs.Common.{◌+◌, ◌++◌, length, take, drop, slice_set, sym, ◌∙◌, ap, arith}
 use Rattle.std.proofs.lemmas.List.{length-set, take-append-drop}
 use Rattle.thy_block.specs.Device.{block_at, queued_for}
-use Rattle.thy_write_queue.specs.Held.{Held}
+use Rattle.thy_dram.specs.Held.{Held}
 use Rattle.thy_nvm.specs.Pick.{drawn_block, drawn}
 use Rattle.thy_nvm.proofs.OverLemmas.{same_held}
 use Rattle.thy_nvm.proofs.PickLemmas.{drawn-none, drawn-step}

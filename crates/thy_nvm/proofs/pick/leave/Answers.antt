@@ -1,7 +1,7 @@
 use Rattle.std.proofs.Common.{List, ℕ, [], sym, ap, subst, ◌∙◌}
 use Rattle.thy_block.specs.declared.block.Block.{Block}
 use Rattle.thy_block.specs.Device.{Crash}
-use Rattle.thy_write_queue.specs.Held.{Held}
+use Rattle.thy_dram.specs.Held.{Held}
 use Rattle.thy_nvm.specs.Pick.{landing, left_by}
 use Rattle.thy_nvm.proofs.pick.leave.Goals as goal
 

@@ -2,7 +2,7 @@ use Rattle.std.proofs.Common.{◌≡◌, ◌<◌, ◌-◌, length, refl, sym, ap
 use Rattle.thy_block.specs.Device.{IsMadeOf, possible, queued_for, block_at}
 use Rattle.thy_block.proofs.CrashLemmas.{Contains-stands}
 use Rattle.thy_block.proofs.MadeLemmas.{IsMadeOf-one}
-use Rattle.thy_write_queue.specs.Held.{device_of}
+use Rattle.thy_dram.specs.Held.{device_of}
 use Rattle.thy_nvm.specs.Pick.{torn_on, after_draws}
 use Rattle.thy_nvm.proofs.PickLemmas.{torn_on-step, torn_on-none, torn_block-some, after_draws-step, after_draws-none, torn_seed-some}
 use Rattle.thy_nvm.proofs.pick.tear_block.Goals as goal

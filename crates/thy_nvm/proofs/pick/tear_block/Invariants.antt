@@ -1,6 +1,6 @@
 use Rattle.std.proofs.Common.{◌≡◌, ◌-◌}
 use Rattle.thy_block.specs.Device.{IsMadeOf, possible, block_at, queued_for}
-use Rattle.thy_write_queue.specs.Held.{device_of}
+use Rattle.thy_dram.specs.Held.{device_of}
 use Rattle.thy_nvm.specs.Pick.{torn_on, after_draws}
 use Rattle.thy_nvm.proofs.pick.tear_block.Given as goal
 

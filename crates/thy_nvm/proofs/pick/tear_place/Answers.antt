@@ -3,7 +3,7 @@ use Rattle.std.proofs.lemmas.List.{get_or-set_same}
 use Rattle.thy_block.specs.Device.{IsMadeOf, possible, queued_for, block_at, zero_block}
 use Rattle.thy_block.proofs.CrashLemmas.{Contains-stands}
 use Rattle.thy_block.proofs.MadeLemmas.{IsMadeOf-one}
-use Rattle.thy_write_queue.specs.Held.{device_of, put_at}
+use Rattle.thy_dram.specs.Held.{device_of, put_at}
 use Rattle.thy_nvm.proofs.PickLemmas.{torn_at-none, torn_seed-none}
 use Rattle.thy_nvm.proofs.pick.tear_place.Goals as goal
 

@@ -2,7 +2,7 @@ use Rattle.std.proofs.Common.{◌≡◌, ◌≢◌, ◌<◌, ◌+◌, ◌++◌, 
 use Rattle.std.proofs.lemmas.Bool.{cases_eq}
 use Rattle.std.proofs.lemmas.List.{length-set, get_or-set_other}
 use Rattle.thy_block.specs.Device.{IsMadeOf, possible, queued_for, block_at, zero_block}
-use Rattle.thy_write_queue.specs.Held.{device_of}
+use Rattle.thy_dram.specs.Held.{device_of}
 use Rattle.thy_nvm.specs.Pick.{torn_block, torn}
 use Rattle.thy_nvm.proofs.PickLemmas.{torn-step, IsMadeOf-same}
 use Rattle.thy_nvm.proofs.pick.tear_places.Goals as goal

@@ -1,7 +1,7 @@
 use Rattle.std.proofs.Common.{◌∙◌, ap}
 use Rattle.thy_isa.specs.declared.state.Effect.TheVariants.{Environment}
 use Rattle.thy_plain.specs.Machine.{setting_of}
-use Rattle.thy_processor.specs.Processor.{ProcessorState, processor_finished}
+use Rattle.thy_isa.specs.Processor.{ProcessorState, processor_finished}
 use Rattle.thy_plain.proofs.HeldLaws.{seat-kept, served-is}
 use Rattle.thy_plain.proofs.advance.serve.Goals as goal
 

@@ -1,8 +1,8 @@
 use Rattle.std.proofs.Common.{Ok, ℕ, ◌∙◌, sym, ap, subst}
 use Rattle.thy_block.specs.declared.mix.Pick.{Pick}
 use Rattle.thy_block.specs.Bytes.{bytes_of, room_of}
-use Rattle.thy_view.specs.Kind.{LeavesSafe, Simulates}
-use Rattle.thy_view.specs.Advances.{IfAdvanced, stepped_of}
+use Rattle.thy_computer.specs.Kind.{LeavesSafe, Simulates}
+use Rattle.thy_computer.specs.Advances.{IfAdvanced, stepped_of}
 use Rattle.thy_run.specs.Going.{line_of, HasRoomToList}
 use Rattle.thy_run.specs.World.{turns_after}
 use Rattle.thy_run.proofs.AdvanceLemmas.{StepsAlong, progress_stepped, begins_of, at_of, can_step, steps_of, steps_room}

@@ -1,7 +1,7 @@
 use Rattle.std.proofs.Common.{sym, ap, ◌∙◌, subst}
 use Rattle.thy_block.specs.Bytes.{bytes_of, room_of}
-use Rattle.thy_view.specs.declared.did.Advance.{Advance}
-use Rattle.thy_view.specs.Advances.{did_of}
+use Rattle.thy_computer.specs.declared.did.Advance.{Advance}
+use Rattle.thy_computer.specs.Advances.{did_of}
 use Rattle.thy_run.specs.Going.{HasRoomToList}
 use Rattle.thy_run.specs.World.{turns_after}
 use Rattle.thy_run.proofs.advance.list_advance.Goals as goal

@@ -1,7 +1,7 @@
 use Rattle.std.proofs.Common.{◌≡◌, ℕ, List, refl, sym, ap, ◌∙◌, subst}
 use Rattle.thy_block.specs.Bytes.{bytes_of, room_of}
-use Rattle.thy_view.specs.declared.did.Did.{Did}
-use Rattle.thy_view.specs.declared.did.Did.TheVariants.{Retired}
+use Rattle.thy_computer.specs.declared.did.Did.{Did}
+use Rattle.thy_computer.specs.declared.did.Did.TheVariants.{Retired}
 use Rattle.thy_run.specs.Going.{HasRoomToList}
 use Rattle.thy_run.specs.World.{turns_after}
 use Rattle.thy_run.proofs.advance.list_turn.Goals as goal

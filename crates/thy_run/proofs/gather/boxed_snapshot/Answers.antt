@@ -1,5 +1,5 @@
 use Rattle.std.proofs.Common.{sym, subst}
-use Rattle.thy_view.specs.Kind.{IsSnapshot}
+use Rattle.thy_computer.specs.Kind.{IsSnapshot}
 use Rattle.thy_run.proofs.gather.boxed_snapshot.Goals as goal
 
 pub returns-in-Ok-clause-state : goal.returns-in-Ok-clause-state

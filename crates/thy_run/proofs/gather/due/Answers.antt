@@ -1,6 +1,6 @@
 use Rattle.std.proofs.Common.{subst, sym, ◌∙◌}
 use Rattle.thy_block.specs.Bytes.{bytes_of}
-use Rattle.thy_view.specs.CoreStep.{CoreStep}
+use Rattle.thy_computer.specs.CoreStep.{CoreStep}
 use Rattle.thy_run.proofs.GatherLemmas.{due_shown}
 use Rattle.thy_run.proofs.gather.due.Goals as goal
 

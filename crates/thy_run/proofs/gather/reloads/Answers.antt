@@ -1,4 +1,4 @@
-use Rattle.thy_view.specs.Views.{loads}
+use Rattle.thy_computer.specs.Views.{loads}
 use Rattle.thy_run.proofs.GatherLemmas.{reload_is}
 use Rattle.thy_run.proofs.gather.reloads.Goals as goal
 

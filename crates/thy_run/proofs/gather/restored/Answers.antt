@@ -1,5 +1,5 @@
 use Rattle.std.proofs.Common.{subst}
-use Rattle.thy_view.specs.CoreStep.{CoreStep}
+use Rattle.thy_computer.specs.CoreStep.{CoreStep}
 use Rattle.thy_run.proofs.GatherLemmas.{restores_some}
 use Rattle.thy_run.proofs.gather.restored.Goals as goal
 

@@ -1,5 +1,5 @@
 use Rattle.std.proofs.Common.{◌≡◌, ◌++◌, OnOk, sym, subst}
-use Rattle.thy_view.specs.declared.did.Did.{Did}
+use Rattle.thy_computer.specs.declared.did.Did.{Did}
 use Rattle.thy_block.specs.Bytes.{bytes_of}
 use Rattle.thy_run.specs.Going.{Restores}
 use Rattle.thy_run.specs.Promises.{EndsWithTurns}

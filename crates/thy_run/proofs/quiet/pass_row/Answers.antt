@@ -3,8 +3,8 @@ use Rattle.thy_block.specs.declared.mix.Mix.{Mix}
 use Rattle.thy_block.specs.declared.mix.Pick.{Pick}
 use Rattle.thy_block.specs.Bytes.{bytes_of, room_of}
 use Rattle.thy_block.specs.Mix.{mix_pick, mix_next}
-use Rattle.thy_view.specs.declared.did.Advance.TheVariants.{Moved, Retired}
-use Rattle.thy_view.specs.Advances.{row_by, SimulatesRow}
+use Rattle.thy_computer.specs.declared.did.Advance.TheVariants.{Moved, Retired}
+use Rattle.thy_computer.specs.Advances.{row_by, SimulatesRow}
 use Rattle.thy_run.specs.declared.progress.Progress.{Progress}
 use Rattle.thy_run.specs.Picks.{after_picks}
 use Rattle.thy_run.specs.Quiet.{IsLed}

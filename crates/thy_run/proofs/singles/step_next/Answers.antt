@@ -1,8 +1,8 @@
 use Rattle.std.proofs.Common.{◌<◌, ◌^◌, ℕ, sym, subst, arith}
 use Rattle.std.specs.Prelude.{Ok, Err}
 use Rattle.thy_block.specs.Device.{Device}
-use Rattle.thy_view.specs.declared.did.Stepped.{Stepped}
-use Rattle.thy_view.specs.Advances.{IsOthersCycle}
+use Rattle.thy_computer.specs.declared.did.Stepped.{Stepped}
+use Rattle.thy_computer.specs.Advances.{IsOthersCycle}
 use Rattle.thy_run.specs.declared.progress.Progress.{Progress}
 use Rattle.thy_run.specs.Going.{HasDrawn, IsStepped}
 use Rattle.thy_run.specs.Promises.{StepsOn}

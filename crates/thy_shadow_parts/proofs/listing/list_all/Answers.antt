@@ -2,7 +2,7 @@ use Rattle.std.proofs.Common.{ℕ, List, Option, sym, ap, subst, arith}
 use Rattle.thy_block.specs.declared.parameters.Parameters.{Parameters}
 use Rattle.thy_layout.specs.Files.{blocks_of}
 use Rattle.thy_table.specs.Listing.{Listing}
-use Rattle.thy_shadow_image.specs.Slots.{table_in}
+use Rattle.thy_images.specs.ShadowSlots.{table_in}
 use Rattle.thy_shadow_parts.specs.declared.entry.Held.{Held}
 use Rattle.thy_shadow_parts.specs.Listed.{HoldsMap}
 use Rattle.thy_shadow_parts.proofs.StateLemmas.{holds_none, holds_here, holds_since, holds_all}

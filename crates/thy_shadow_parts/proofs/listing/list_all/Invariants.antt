@@ -1,5 +1,5 @@
 use Rattle.thy_layout.specs.Files.{blocks_of}
-use Rattle.thy_shadow_image.specs.Slots.{table_in}
+use Rattle.thy_images.specs.ShadowSlots.{table_in}
 use Rattle.thy_shadow_parts.specs.Listed.{HoldsMap}
 use Rattle.thy_shadow_parts.proofs.listing.list_all.Given as goal
 

@@ -2,7 +2,7 @@ use Rattle.std.proofs.Common.{◌+◌, ◌<◌, ℕ, List, length, Option, Some,
 use Rattle.thy_layout.specs.Files.{blocks_of}
 use Rattle.thy_layout.specs.Entries.{Lists}
 use Rattle.thy_table.specs.Listing.{Listing, index_of, with_entry}
-use Rattle.thy_shadow_image.specs.Slots.{table_in}
+use Rattle.thy_images.specs.ShadowSlots.{table_in}
 use Rattle.thy_shadow_parts.specs.declared.entry.Held.{Held}
 use Rattle.thy_shadow_parts.specs.Keys.{number_key}
 use Rattle.thy_shadow_parts.specs.Listed.{HoldsMap}

@@ -8,7 +8,7 @@ use Rattle.thy_layout.specs.Cpu.{cpu_block_of}
 use Rattle.thy_layout.specs.Entries.{entry_word, HaveWords}
 use Rattle.thy_layout.specs.TableSlots.{table_block_of}
 use Rattle.thy_layout.proofs.EightLemmas.{HaveWords-eight, block_of_eight}
-use Rattle.thy_shadow_image.proofs.SlotLemmas.{HaveWords-map}
+use Rattle.thy_images.proofs.ShadowSlotLemmas.{HaveWords-map}
 use Rattle.thy_shadow_parts.specs.Filling.{first_table}
 use Rattle.thy_shadow_parts.proofs.FirstLemmas.{IsMap-first}
 use Rattle.thy_shadow_parts.proofs.start.start_slot_block.Goals as goal

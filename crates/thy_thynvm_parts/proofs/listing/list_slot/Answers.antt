@@ -8,7 +8,7 @@ use Rattle.thy_layout.specs.Files.{blocks_of}
 use Rattle.thy_record.specs.Number.{scheme_number}
 use Rattle.thy_record.specs.Slots.{tables_in, counts_in, count_fault}
 use Rattle.thy_record.proofs.SlotLemmas.{tables_of_slot}
-use Rattle.thy_view.specs.Safe.{ceiling}
+use Rattle.thy_computer.specs.Safe.{ceiling}
 use Rattle.thy_thynvm_parts.specs.Listed.{with_lasts}
 use Rattle.thy_thynvm_parts.proofs.ListingLemmas.{same_p-listed}
 use Rattle.thy_thynvm_parts.proofs.BootSlotLemmas.{counts_fit, ListsUpTo-empty, no_counts-listed, lists_on}

@@ -1,5 +1,5 @@
 use Rattle.std.proofs.Common.{Option, sym, subst, inl, inr}
-use Rattle.thy_trial.specs.declared.part.Restored.{Restored}
+use Rattle.thy_sweep.specs.declared.trial.part.Restored.{Restored}
 use Rattle.sweep.specs.Findings.{IsOfSealed}
 use Rattle.sweep.proofs.beside.Beside.has.Goals as goal
 

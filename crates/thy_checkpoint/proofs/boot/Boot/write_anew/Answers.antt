@@ -2,8 +2,8 @@ use Rattle.std.proofs.Common.{◌≡◌, ◌+◌, ◌<◌, length, sym, ◌∙�
 use Rattle.thy_block.specs.declared.block.Block.{Block}
 use Rattle.thy_block.specs.declared.parameters.Parameters.{Parameters}
 use Rattle.thy_layout.specs.Commit.{commit_of}
-use Rattle.thy_view.specs.declared.round.Round.{Round}
-use Rattle.thy_view.specs.Round.{IsInRound}
+use Rattle.thy_computer.specs.declared.round.Round.{Round}
+use Rattle.thy_computer.specs.Round.{IsInRound}
 use Rattle.thy_checkpoint.specs.Boot.{Booting, layout_in}
 use Rattle.thy_checkpoint.specs.Migrating.{renewing}
 use Rattle.thy_checkpoint.specs.Filling.{layout_at, anew}

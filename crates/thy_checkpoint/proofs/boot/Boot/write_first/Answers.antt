@@ -2,9 +2,9 @@ use Rattle.std.proofs.Common.{◌≡◌, ℕ, ◌<◌, sym, ◌∙◌, ap, subst
 use Rattle.thy_block.specs.declared.parameters.Parameters.{Parameters}
 use Rattle.thy_block.specs.Device.{Device}
 use Rattle.thy_isa.specs.Step.{State, state_of}
-use Rattle.thy_view.specs.Action.{WriteAt}
-use Rattle.thy_view.specs.declared.round.Round.{Round}
-use Rattle.thy_view.specs.Round.{IsInRound, round_action}
+use Rattle.thy_computer.specs.Action.{WriteAt}
+use Rattle.thy_computer.specs.declared.round.Round.{Round}
+use Rattle.thy_computer.specs.Round.{IsInRound, round_action}
 use Rattle.thy_checkpoint.specs.Boot.{Booting}
 use Rattle.thy_checkpoint.specs.Filling.{first_by}
 use Rattle.thy_checkpoint.specs.Loads.{Takes, first_writes, place_of_first, block_of_first}

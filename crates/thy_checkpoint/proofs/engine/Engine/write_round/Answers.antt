@@ -1,6 +1,6 @@
 use Rattle.std.proofs.Common.{ℕ, ◌<◌, sym, subst}
-use Rattle.thy_view.specs.declared.round.Round.{Round}
-use Rattle.thy_view.specs.Round.{IsInRound}
+use Rattle.thy_computer.specs.declared.round.Round.{Round}
+use Rattle.thy_computer.specs.Round.{IsInRound}
 use Rattle.thy_checkpoint.proofs.LoadLemmas.{head_inside}
 use Rattle.thy_checkpoint.specs.Progress.{layout_of, slot_blocks}
 use Rattle.thy_checkpoint.proofs.ItemLemmas.{slot_inside}

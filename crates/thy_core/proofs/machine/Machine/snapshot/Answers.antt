@@ -1,5 +1,5 @@
 use Rattle.std.proofs.Common.{subst}
-use Rattle.thy_view.specs.Kind.{SnapshotsStopped}
+use Rattle.thy_computer.specs.Kind.{SnapshotsStopped}
 use Rattle.thy_scheme.specs.Kind.{kind_over}
 use Rattle.thy_scheme.specs.Machine.{Machine}
 use Rattle.thy_core.specs.Reading.{ReadsBare, ReadsState}

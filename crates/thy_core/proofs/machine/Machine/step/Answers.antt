@@ -1,6 +1,6 @@
 use Rattle.std.proofs.Common.{Ok, sym, ◌∙◌, ap, subst}
-use Rattle.thy_view.specs.Advances.{IfAdvanced, IsOthersCycle}
-use Rattle.thy_view.specs.Kind.{Simulates, FailsSafe}
+use Rattle.thy_computer.specs.Advances.{IfAdvanced, IsOthersCycle}
+use Rattle.thy_computer.specs.Kind.{Simulates, FailsSafe}
 use Rattle.thy_scheme.specs.Kind.{kind_over}
 use Rattle.thy_core.proofs.machine.Machine.step.Goals as goal
 

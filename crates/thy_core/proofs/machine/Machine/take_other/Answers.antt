@@ -1,6 +1,6 @@
 use Rattle.std.proofs.Common.{sym, subst}
-use Rattle.thy_view.specs.Advances.{IsOthersCycle}
-use Rattle.thy_view.specs.Kind.{CanStep, Simulates, FailsSafe}
+use Rattle.thy_computer.specs.Advances.{IsOthersCycle}
+use Rattle.thy_computer.specs.Kind.{CanStep, Simulates, FailsSafe}
 use Rattle.thy_scheme.specs.Kind.{kind_over}
 use Rattle.thy_scheme.specs.Machine.{Machine}
 use Rattle.thy_core.specs.MachineParts.{machine_of}

@@ -1,5 +1,5 @@
 use Rattle.std.proofs.Common.{◌≡◌, [], true, replicate, ◌∙◌, ap}
-use Rattle.thy_write_queue.specs.Held.{made}
+use Rattle.thy_dram.specs.Held.{made}
 use Rattle.thy_dram.specs.Parts.{contents_in}
 use Rattle.thy_dram.proofs.DramLemmas.{contents_in-fresh}
 use Rattle.thy_dram.proofs.dram.Dram.new.Goals as goal

@@ -1,7 +1,7 @@
 use Rattle.std.proofs.Common.{◌≡◌, true, false, sym, ◌∙◌, ap, arith}
 use Rattle.std.proofs.lemmas.List.{get_or_read}
 use Rattle.thy_block.specs.Device.{block_at}
-use Rattle.thy_write_queue.specs.Merged.{is_marked}
+use Rattle.thy_dram.specs.Merged.{is_marked}
 use Rattle.thy_dram.proofs.DramLemmas.{within, read-marked, read-unmarked}
 use Rattle.thy_dram.proofs.dram.Dram.read.Goals as goal
 

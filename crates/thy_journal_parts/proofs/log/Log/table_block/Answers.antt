@@ -3,7 +3,7 @@ use Rattle.thy_layout.specs.Entries.{entry_word, HaveWords}
 use Rattle.thy_block.specs.Words.{block_of}
 use Rattle.thy_journal_parts.specs.State.{State, table_of}
 use Rattle.thy_layout.proofs.EightLemmas.{HaveWords-eight, block_of_eight}
-use Rattle.thy_journal_image.proofs.SlotLemmas.{HaveWords-table}
+use Rattle.thy_images.proofs.JournalSlotLemmas.{HaveWords-table}
 use Rattle.thy_journal_parts.proofs.TableLemmas.{IsTable-table_of}
 use Rattle.thy_journal_parts.proofs.log.Log.table_block.Goals as goal
 

@@ -1,8 +1,8 @@
 use Rattle.thy_thynvm_parts.specs.Design.{thynvm_design}
 use Rattle.thy_thynvm_parts.proofs.PartsLemmas.{are_parts}
 use Rattle.thy_thynvm_parts.specs.Scheme.{thynvm_scheme}
-use Rattle.thy_parts.proofs.BootStepLemmas.{may-step}
-use Rattle.thy_waiting_laws.proofs.BootLemmas.{below-boots}
+use Rattle.thy_scheme_parts.proofs.BootStepLemmas.{may-step}
+use Rattle.thy_test_support.proofs.BootLemmas.{below-boots}
 use Rattle.thy_machine_tests.proofs.CallLemmas.{boots-on, boot-fails-on, boot-stays, boot-made}
 use Rattle.thy_machine_tests.proofs.scheme.WaitingSchemeScheme.boot_step.Goals as goal
 

@@ -1,8 +1,8 @@
 use Rattle.thy_block.specs.Device.{Device}
-use Rattle.thy_parts.specs.Calls.{promoted}
+use Rattle.thy_scheme_parts.specs.Calls.{promoted}
 use Rattle.thy_thynvm_parts.specs.Design.{thynvm_design}
-use Rattle.thy_compose.proofs.CallLemmas.{promoted_then}
-use Rattle.thy_waiting_laws.specs.Waiting.{Waiting}
+use Rattle.thy_composed_scheme.proofs.CallLemmas.{promoted_then}
+use Rattle.thy_test_support.specs.Waiting.{Waiting}
 use Rattle.thy_machine_tests.specs.Calls.{Below, with_below}
 use Rattle.thy_machine_tests.proofs.CallLemmas.{promotes-none, promotes-on, promotion-fails, promotion-stays}
 use Rattle.thy_machine_tests.proofs.scheme.WaitingSchemeScheme.promote_one.Goals as goal

@@ -1,5 +1,5 @@
-use Rattle.thy_waiting_laws.proofs.RunLemmas.{neither}
-use Rattle.thy_waiting_laws.specs.Waiting.{is_waiting}
+use Rattle.thy_test_support.proofs.RunLemmas.{neither}
+use Rattle.thy_test_support.specs.Waiting.{is_waiting}
 use Rattle.thy_thynvm_parts.specs.Scheme.{thynvm_scheme}
 use Rattle.thy_machine_tests.proofs.CallLemmas.{seals-on}
 use Rattle.thy_machine_tests.proofs.scheme.WaitingSchemeScheme.seal.Goals as goal

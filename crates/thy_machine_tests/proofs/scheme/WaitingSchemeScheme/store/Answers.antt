@@ -1,9 +1,9 @@
 use Rattle.thy_block.specs.Device.{Device}
-use Rattle.thy_parts.specs.Calls.{stored}
-use Rattle.thy_parts.specs.Storing.{CanStore}
+use Rattle.thy_scheme_parts.specs.Calls.{stored}
+use Rattle.thy_scheme_parts.specs.Storing.{CanStore}
 use Rattle.thy_thynvm_parts.specs.Design.{thynvm_design, thynvm_parts}
-use Rattle.thy_waiting_laws.specs.Waiting.{Waiting}
-use Rattle.thy_compose.proofs.CallLemmas.{made_then}
+use Rattle.thy_test_support.specs.Waiting.{Waiting}
+use Rattle.thy_composed_scheme.proofs.CallLemmas.{made_then}
 use Rattle.thy_machine_tests.specs.Calls.{Below, waiting_scheme, with_below}
 use Rattle.thy_machine_tests.proofs.CallLemmas.{block-held, down-then, stores-once, stores-then, up-then}
 use Rattle.thy_machine_tests.proofs.scheme.WaitingSchemeScheme.store.Goals as goal

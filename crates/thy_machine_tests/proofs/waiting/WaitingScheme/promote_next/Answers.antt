@@ -1,8 +1,8 @@
 use Rattle.std.proofs.Common.{subst}
 use Rattle.thy_block.specs.Device.{Device}
-use Rattle.thy_parts.specs.Calls.{Promotes, promoted}
+use Rattle.thy_scheme_parts.specs.Calls.{Promotes, promoted}
 use Rattle.thy_thynvm_parts.specs.Design.{thynvm_design}
-use Rattle.thy_waiting_laws.specs.Waiting.{Waiting}
+use Rattle.thy_test_support.specs.Waiting.{Waiting}
 use Rattle.thy_machine_tests.specs.Calls.{Below, with_below}
 use Rattle.thy_machine_tests.proofs.CallLemmas.{makes-over}
 use Rattle.thy_machine_tests.proofs.waiting.WaitingScheme.promote_next.Goals as goal

@@ -1,9 +1,9 @@
 use Rattle.std.proofs.Common.{subst}
 use Rattle.thy_block.specs.Device.{Device}
 use Rattle.thy_checkpoint.specs.Progress.{Acts}
-use Rattle.thy_parts.specs.Calls.{stored}
+use Rattle.thy_scheme_parts.specs.Calls.{stored}
 use Rattle.thy_thynvm_parts.specs.Design.{thynvm_design, thynvm_parts}
-use Rattle.thy_waiting_laws.specs.Waiting.{Waiting}
+use Rattle.thy_test_support.specs.Waiting.{Waiting}
 use Rattle.thy_machine_tests.specs.Calls.{Below, with_below}
 use Rattle.thy_machine_tests.proofs.CallLemmas.{acts-over}
 use Rattle.thy_machine_tests.proofs.waiting.WaitingScheme.store_block.Goals as goal

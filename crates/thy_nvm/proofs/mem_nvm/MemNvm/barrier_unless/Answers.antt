@@ -1,6 +1,6 @@
 use Rattle.std.proofs.Common.{rules, length, sym, ap, ◌∙◌}
 use Rattle.thy_block.proofs.DeviceLemmas.{length-applied, length-landed}
-use Rattle.thy_write_queue.specs.Held.{device_of}
+use Rattle.thy_dram.specs.Held.{device_of}
 use Rattle.thy_nvm.proofs.mem_nvm.MemNvm.barrier_unless.Goals as goal
 
 pub invariant_of-self : goal.invariant_of-self

@@ -2,7 +2,7 @@ use Rattle.std.proofs.Common.{◌≡◌, ℕ, List, [], false, length, sym, ap, 
 use Rattle.thy_block.specs.declared.nvm.Write.{Write}
 use Rattle.thy_block.specs.Device.{Device, Crash, IsCut, cut_to}
 use Rattle.thy_block.proofs.CrashLemmas.{CutsWear-same}
-use Rattle.thy_write_queue.specs.Held.{Held, held_by}
+use Rattle.thy_dram.specs.Held.{Held, held_by}
 use Rattle.thy_nvm.specs.Chosen.{AreChosen, numbers_from}
 use Rattle.thy_nvm.specs.Kept.{Cuts, with_cut}
 use Rattle.thy_nvm.specs.DeviceInMemory.{InMemory, device_in}

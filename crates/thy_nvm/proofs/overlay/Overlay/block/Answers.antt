@@ -1,7 +1,7 @@
 use Rattle.std.proofs.Common.{◌≡◌, ◌<◌, true, false, length, sym, ◌∙◌, ap, arith}
 use Rattle.std.proofs.lemmas.List.{get_or_read}
 use Rattle.thy_block.specs.Device.{newest}
-use Rattle.thy_write_queue.specs.Merged.{is_marked}
+use Rattle.thy_dram.specs.Merged.{is_marked}
 use Rattle.thy_nvm.specs.Overlaid.{Overlaid}
 use Rattle.thy_nvm.proofs.OverLemmas.{inside_over, newest-marked, newest-unmarked}
 use Rattle.thy_nvm.proofs.overlay.Overlay.block.Goals as goal

@@ -1,8 +1,8 @@
 use Rattle.std.proofs.Common.{◌≡◌, length, sym, ◌∙◌, ap, subst}
 use Rattle.thy_block.specs.Device.{at_rest}
 use Rattle.thy_block.proofs.DeviceLemmas.{length-applied}
-use Rattle.thy_write_queue.specs.Held.{Held, as_device}
-use Rattle.thy_write_queue.specs.Merged.{AreMarked}
+use Rattle.thy_dram.specs.Held.{Held, as_device}
+use Rattle.thy_dram.specs.Merged.{AreMarked}
 use Rattle.thy_nvm.specs.DeviceInMemory.{device_in}
 use Rattle.thy_nvm.specs.Overlaid.{Overlaid, overlaid, over_below, on_overlay}
 use Rattle.thy_nvm.proofs.OverLemmas.{over-settled}

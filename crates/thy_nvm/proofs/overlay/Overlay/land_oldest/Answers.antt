@@ -1,6 +1,6 @@
 use Rattle.std.proofs.Common.{◌≡◌, ◌∙◌, ap}
 use Rattle.thy_block.specs.Device.{drained}
-use Rattle.thy_write_queue.specs.Held.{as_device}
+use Rattle.thy_dram.specs.Held.{as_device}
 use Rattle.thy_nvm.specs.DeviceInMemory.{device_in}
 use Rattle.thy_nvm.specs.Overlaid.{overlaid, over_below, on_overlay}
 use Rattle.thy_nvm.proofs.OverLemmas.{over-landed}

@@ -1,8 +1,8 @@
 use Rattle.std.proofs.Common.{◌≡◌, ◌<◌, if◌then◌else◌, true, false, length, sym, ◌∙◌, ap, arith}
 use Rattle.std.proofs.lemmas.List.{get_or_read}
 use Rattle.thy_block.specs.Device.{block_at}
-use Rattle.thy_write_queue.specs.Merged.{is_marked}
-use Rattle.thy_write_queue.proofs.MergedLemmas.{block_at-merged}
+use Rattle.thy_dram.specs.Merged.{is_marked}
+use Rattle.thy_dram.proofs.MergedLemmas.{block_at-merged}
 use Rattle.thy_nvm.specs.Overlaid.{Overlaid}
 use Rattle.thy_nvm.proofs.OverLemmas.{inside_over}
 use Rattle.thy_nvm.proofs.overlay.Overlay.landed.Goals as goal

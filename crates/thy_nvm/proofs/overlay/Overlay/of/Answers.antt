@@ -3,9 +3,9 @@ use Rattle.std.proofs.lemmas.List.{with_items_is}
 use Rattle.std.specs.Vec.{with_items}
 use Rattle.thy_block.specs.declared.nvm.Shape.{Shape}
 use Rattle.thy_block.specs.Device.{Crash}
-use Rattle.thy_write_queue.specs.Held.{Held, held_by}
-use Rattle.thy_write_queue.specs.Merged.{merged, AreMarked}
-use Rattle.thy_write_queue.proofs.MergedLemmas.{merged-none}
+use Rattle.thy_dram.specs.Held.{Held, held_by}
+use Rattle.thy_dram.specs.Merged.{merged, AreMarked}
+use Rattle.thy_dram.proofs.MergedLemmas.{merged-none}
 use Rattle.thy_nvm.specs.Kept.{Cuts, no_cuts}
 use Rattle.thy_nvm.specs.DeviceInMemory.{device_in}
 use Rattle.thy_nvm.specs.Overlaid.{overlaid, over_below}

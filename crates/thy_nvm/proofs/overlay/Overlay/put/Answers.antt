@@ -1,9 +1,9 @@
 use Rattle.std.proofs.Common.{◌≡◌, ◌<◌, true, length, slice_set, sym, ◌∙◌, ap, subst, arith}
 use Rattle.std.proofs.lemmas.List.{length-set, with_items_is}
 use Rattle.std.specs.Vec.{with_items}
-use Rattle.thy_write_queue.specs.Held.{Held, put_at}
-use Rattle.thy_write_queue.specs.Merged.{AreMarked}
-use Rattle.thy_write_queue.proofs.MergedLemmas.{AreMarked-set}
+use Rattle.thy_dram.specs.Held.{Held, put_at}
+use Rattle.thy_dram.specs.Merged.{AreMarked}
+use Rattle.thy_dram.proofs.MergedLemmas.{AreMarked-set}
 use Rattle.thy_nvm.specs.DeviceInMemory.{device_in}
 use Rattle.thy_nvm.specs.Overlaid.{Overlaid, overlaid, over_below, on_overlay, put_in}
 use Rattle.thy_nvm.proofs.OverLemmas.{inside_over, over-put}

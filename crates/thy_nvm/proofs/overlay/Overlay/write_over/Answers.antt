@@ -3,9 +3,9 @@ use Rattle.std.proofs.lemmas.List.{length-set, with_items_is}
 use Rattle.std.specs.Vec.{with_items}
 use Rattle.thy_block.specs.Device.{surplus, written_to}
 use Rattle.thy_block.proofs.DeviceLemmas.{length-applied}
-use Rattle.thy_write_queue.specs.Held.{Held, device_of, as_device}
-use Rattle.thy_write_queue.specs.Merged.{merged, is_marked, AreMarked}
-use Rattle.thy_write_queue.proofs.MergedLemmas.{AreMarked-set, marked-set_same}
+use Rattle.thy_dram.specs.Held.{Held, device_of, as_device}
+use Rattle.thy_dram.specs.Merged.{merged, is_marked, AreMarked}
+use Rattle.thy_dram.proofs.MergedLemmas.{AreMarked-set, marked-set_same}
 use Rattle.thy_nvm.specs.DeviceInMemory.{device_in}
 use Rattle.thy_nvm.specs.Overlaid.{Overlaid, overlaid, over_below, written_over}
 use Rattle.thy_nvm.proofs.OverLemmas.{inside_over, same_held, over-written, AreMarked-written}

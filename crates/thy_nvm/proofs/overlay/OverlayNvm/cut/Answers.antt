@@ -2,9 +2,9 @@ use Rattle.std.proofs.Common.{◌≡◌, false, true, length, replicate, sym, �
 use Rattle.std.proofs.lemmas.List.{length-replicate, with_items_is}
 use Rattle.std.specs.Vec.{with_items}
 use Rattle.thy_block.specs.Device.{Device, Crash}
-use Rattle.thy_write_queue.specs.Held.{Held}
-use Rattle.thy_write_queue.specs.Merged.{merged, AreMarked}
-use Rattle.thy_write_queue.proofs.MergedLemmas.{length-merged, merged-all}
+use Rattle.thy_dram.specs.Held.{Held}
+use Rattle.thy_dram.specs.Merged.{merged, AreMarked}
+use Rattle.thy_dram.proofs.MergedLemmas.{length-merged, merged-all}
 use Rattle.thy_nvm.specs.Kept.{Cuts, with_cut}
 use Rattle.thy_nvm.specs.DeviceInMemory.{device_in}
 use Rattle.thy_nvm.specs.Overlaid.{Overlaid, overlaid, over_below, on_overlay}

@@ -1,5 +1,5 @@
 use Rattle.std.proofs.Common.{length, ap, arith}
-use Rattle.thy_write_queue.proofs.MergedLemmas.{length-merged}
+use Rattle.thy_dram.proofs.MergedLemmas.{length-merged}
 use Rattle.thy_nvm.specs.Overlaid.{Overlaid}
 use Rattle.thy_nvm.proofs.overlay.OverlayNvm.kept.Goals as goal
 

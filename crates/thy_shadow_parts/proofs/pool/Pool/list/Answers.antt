@@ -2,7 +2,7 @@ use Rattle.std.proofs.Common.{◌≡◌, ℕ, List, Option, None, sym, ◌∙◌
 use Rattle.thy_block.specs.declared.parameters.Parameters.{Parameters}
 use Rattle.thy_layout.specs.Files.{blocks_of}
 use Rattle.thy_table.specs.Listing.{entry_at}
-use Rattle.thy_shadow_image.specs.Slots.{IsMap, table_in}
+use Rattle.thy_images.specs.ShadowSlots.{IsMap, table_in}
 use Rattle.thy_shadow_parts.specs.declared.entry.Begun.{Begun}
 use Rattle.thy_shadow_parts.specs.State.{State, state_in, IsSoundState}
 use Rattle.thy_shadow_parts.proofs.StateLemmas.{IsSoundState-listed, listed_table}

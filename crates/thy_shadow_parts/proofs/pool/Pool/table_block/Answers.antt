@@ -2,7 +2,7 @@ use Rattle.std.proofs.Common.{List, Option, ℕ, map, ap, subst, sym, ◌∙◌}
 use Rattle.thy_layout.specs.Entries.{entry_word, HaveWords}
 use Rattle.thy_block.specs.Words.{block_of}
 use Rattle.thy_layout.proofs.EightLemmas.{HaveWords-eight, block_of_eight}
-use Rattle.thy_shadow_image.proofs.SlotLemmas.{HaveWords-map}
+use Rattle.thy_images.proofs.ShadowSlotLemmas.{HaveWords-map}
 use Rattle.thy_shadow_parts.specs.State.{State, next_table}
 use Rattle.thy_shadow_parts.proofs.TableLemmas.{IsMap-next}
 use Rattle.thy_shadow_parts.proofs.pool.Pool.table_block.Goals as goal

@@ -5,7 +5,7 @@ use Rattle.thy_control.specs.State.{State}
 use Rattle.thy_thynvm_parts.specs.Design.{items_thynvm}
 use Rattle.thy_checkpoint.specs.Progress.{Progress, action_next, engine_next}
 use Rattle.thy_thynvm_parts.specs.Filling.{filling_thynvm}
-use Rattle.thy_view.specs.Action.{IsAfter}
+use Rattle.thy_computer.specs.Action.{IsAfter}
 use Rattle.thy_control_tests.proofs.MemoryLemmas.{IsMemory-item}
 use Rattle.thy_control_tests.proofs.support.memory.Memory.step.Goals as goal
 

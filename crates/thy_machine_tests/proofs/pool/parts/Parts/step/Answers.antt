@@ -1,6 +1,6 @@
 use Rattle.std.proofs.Common.{◌≡◌, OnOk, subst}
 use Rattle.thy_block.specs.Device.{Device}
-use Rattle.thy_view.specs.Action.{IsAfter}
+use Rattle.thy_computer.specs.Action.{IsAfter}
 use Rattle.thy_checkpoint.specs.Progress.{Progress, control_next, action_next}
 use Rattle.thy_shadow_parts.specs.State.{State}
 use Rattle.thy_shadow_parts.specs.Filling.{filling_shadow}

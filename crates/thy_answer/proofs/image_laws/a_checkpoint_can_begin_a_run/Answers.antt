@@ -1,5 +1,0 @@
-use Rattle.thy_answer.proofs.LawLemmas.{file_begins}
-use Rattle.thy_answer.proofs.image_laws.a_checkpoint_can_begin_a_run.Goals as goal
-
-pub returns : goal.returns
-returns c = λ p ceiling bytes epoch s. file_begins p ceiling bytes epoch s

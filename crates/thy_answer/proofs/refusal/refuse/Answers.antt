@@ -1,5 +1,0 @@
-use Rattle.std.proofs.Common.{rules}
-use Rattle.thy_answer.proofs.refusal.refuse.Goals as goal
-
-pub returns-clause-closes : goal.returns-clause-closes
-returns-clause-closes g c = search rules

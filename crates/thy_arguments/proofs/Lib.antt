@@ -1,5 +1,0 @@
-pub mod FieldLemmas
-pub mod Folding
-pub mod InRange
-pub mod Naming
-pub mod Needing

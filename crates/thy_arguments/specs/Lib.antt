@@ -1,5 +1,0 @@
-pub mod Numbers
-pub mod Fields
-pub mod CommandLine
-pub mod Settings
-pub mod Refused

@@ -1,0 +1,5 @@
+use Rattle.thy_computer.proofs.AgainLaws.{goes_on_after_cut}
+use Rattle.thy_computer.proofs.laws.a_run_goes_on_after_a_cut.Goals as goal
+
+pub returns : goal.returns
+returns g c = goes_on_after_cut g.M.Computer.kind g.met.M.Computer.lawful

@@ -1,0 +1,9 @@
+pub mod JournalSlotLemmas
+pub mod JournalTableRefusalLemmas
+pub mod JournalPartsLemmas
+pub mod JournalFreeLemmas
+pub mod JournalIndexLemmas
+pub mod JournalLayoutLemmas
+pub mod ShadowTableRefusalLemmas
+pub mod ShadowSlotLemmas
+pub mod ShadowLayoutLemmas

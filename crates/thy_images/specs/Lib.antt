@@ -1,0 +1,13 @@
+pub mod JournalPlaces
+pub mod JournalSlots
+pub mod JournalTableRefusals
+pub mod JournalLayout
+pub mod JournalCheckpointParts
+pub mod JournalFree
+pub mod JournalIndex
+pub mod ShadowPlaces
+pub mod ShadowSlots
+pub mod ShadowTableRefusals
+pub mod ShadowLayout
+pub mod ShadowCheckpointParts
+pub mod ShadowFree

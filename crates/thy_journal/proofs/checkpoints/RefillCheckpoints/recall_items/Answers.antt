@@ -1,5 +1,0 @@
-use Rattle.thy_journal_parts.proofs.DesignLemmas.{items_are}
-use Rattle.thy_journal.proofs.checkpoints.RefillCheckpoints.recall_items.Goals as goal
-
-pub returns : goal.returns
-returns c = items_are

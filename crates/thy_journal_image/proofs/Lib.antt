@@ -1,6 +1,0 @@
-pub mod SlotLemmas
-pub mod TableRefusalLemmas
-pub mod PartsLemmas
-pub mod FreeLemmas
-pub mod IndexLemmas
-pub mod LayoutLemmas

@@ -1,7 +1,0 @@
-pub mod Places
-pub mod Slots
-pub mod TableRefusals
-pub mod Layout
-pub mod CheckpointParts
-pub mod Free
-pub mod Index

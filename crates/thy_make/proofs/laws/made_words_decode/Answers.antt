@@ -1,5 +1,0 @@
-use Rattle.thy_make.proofs.DecodeLemmas.{words_mean_the_program}
-use Rattle.thy_make.proofs.laws.made_words_decode.Goals as goal
-
-pub returns : goal.returns
-returns c = words_mean_the_program

@@ -1,5 +1,0 @@
-use Rattle.thy_make.proofs.ReachLemmas.{is_in_reach}
-use Rattle.thy_make.proofs.laws.stores_are_in_reach.Goals as goal
-
-pub returns : goal.returns
-returns c = is_in_reach

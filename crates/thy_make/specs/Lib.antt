@@ -1,4 +1,0 @@
-pub mod Encode
-pub mod Program
-pub mod File
-pub mod Laws

@@ -1,7 +1,0 @@
-use Rattle.std.proofs.Common.{rules}
-use Rattle.thy_isa.specs.Step.{within}
-use Rattle.thy_processor.proofs.fronted.Fronted.within.Goals as goal
-
-pub returns-in_default : goal.returns-in_default
-unfolding within
-returns-in_default c = search rules

@@ -1,7 +1,0 @@
-use Rattle.std.proofs.Common.{◌≡◌}
-use Rattle.thy_processor.specs.Processor.{losing}
-use Rattle.thy_processor.proofs.BankLaws.{changed_to}
-use Rattle.thy_processor.proofs.processor.lose_each.Given as goal
-
-abbrev pub invariant-loop-k : goal.invariant-loop-k
-invariant-loop-k l = l.banks ≡ changed_to (losing l.at l.len) l.k l.fn.banks

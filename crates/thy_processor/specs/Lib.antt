@@ -1,2 +1,0 @@
-pub mod Processor
-pub mod Laws

@@ -1,0 +1,7 @@
+pub mod ThynvmActLemmas
+pub mod ThynvmActsLemmas
+pub mod ThynvmBlockLemmas
+mod JournalBlockLemmas
+mod ShadowFillLemmas
+mod ShadowBlockLemmas
+mod ShadowActLemmas

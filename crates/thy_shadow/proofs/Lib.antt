@@ -1,3 +1,0 @@
-mod FillLemmas
-mod BlockLemmas
-mod ActLemmas

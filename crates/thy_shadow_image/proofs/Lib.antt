@@ -1,3 +1,0 @@
-pub mod TableRefusalLemmas
-pub mod SlotLemmas
-pub mod LayoutLemmas

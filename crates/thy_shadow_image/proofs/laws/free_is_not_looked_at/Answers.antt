@@ -1,5 +1,0 @@
-use Rattle.thy_shadow_image.proofs.LayoutLemmas.{free_not_looked}
-use Rattle.thy_shadow_image.proofs.laws.free_is_not_looked_at.Goals as goal
-
-pub returns : goal.returns
-returns c = λ p image epoch table x meant there free inside. free_not_looked p image epoch table x meant there free inside

@@ -1,8 +1,0 @@
-use Rattle.std.proofs.Common.{arith}
-use Rattle.thy_layout.specs.Files.{blocks_of}
-use Rattle.thy_shadow_image.proofs.SlotLemmas.{stray_past}
-use Rattle.thy_shadow_image.proofs.map.index_fault.Goals as goal
-
-pub returns : goal.returns
-returns c =
-    stray_past c.args.geometry.now (blocks_of c.args.slot.now) c.loop-x.x (omega (arith, c.map_blocks.ensures.blocks)) c.loop-x.invariant

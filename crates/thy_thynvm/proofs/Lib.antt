@@ -1,3 +1,0 @@
-pub mod ActLemmas
-pub mod ActsLemmas
-pub mod BlockLemmas

@@ -1,4 +1,0 @@
-pub mod BootLemmas
-pub mod CopyLemmas
-pub mod TriedLemmas
-pub mod RoomLemmas

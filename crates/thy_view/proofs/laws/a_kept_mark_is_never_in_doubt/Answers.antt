@@ -1,5 +1,0 @@
-use Rattle.thy_view.proofs.SafeLemmas.{Safe-same}
-use Rattle.thy_view.proofs.laws.a_kept_mark_is_never_in_doubt.Goals as goal
-
-pub returns : goal.returns
-returns c = Safe-same

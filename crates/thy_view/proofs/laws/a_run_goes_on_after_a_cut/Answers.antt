@@ -1,5 +1,0 @@
-use Rattle.thy_view.proofs.AgainLaws.{goes_on_after_cut}
-use Rattle.thy_view.proofs.laws.a_run_goes_on_after_a_cut.Goals as goal
-
-pub returns : goal.returns
-returns g c = goes_on_after_cut g.M.Computer.kind g.met.M.Computer.lawful

@@ -1,5 +1,0 @@
-use Rattle.thy_view.proofs.TurnLaws.{at-without_turns}
-use Rattle.thy_view.proofs.laws.a_run_without_turns_is_hart_zeros.Goals as goal
-
-pub returns : goal.returns
-returns g = at-without_turns

@@ -1,5 +1,0 @@
-use Rattle.thy_view.proofs.ReachLaws.{retires-reach}
-use Rattle.thy_view.proofs.laws.an_instruction_reaches_beyond_its_count.Goals as goal
-
-pub returns : goal.returns
-returns g = retires-reach

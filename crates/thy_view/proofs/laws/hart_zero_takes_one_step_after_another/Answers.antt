@@ -1,5 +1,0 @@
-use Rattle.thy_view.proofs.TurnLaws.{at-steps}
-use Rattle.thy_view.proofs.laws.hart_zero_takes_one_step_after_another.Goals as goal
-
-pub returns : goal.returns
-returns g = at-steps

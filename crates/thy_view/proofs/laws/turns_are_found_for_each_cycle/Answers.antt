@@ -1,5 +1,0 @@
-use Rattle.thy_view.proofs.ReachLaws.{finds-turns}
-use Rattle.thy_view.proofs.laws.turns_are_found_for_each_cycle.Goals as goal
-
-pub returns : goal.returns
-returns g = finds-turns

@@ -1,5 +1,0 @@
-use Rattle.thy_view.proofs.TurnLaws.{at-agrees}
-use Rattle.thy_view.proofs.laws.turns_that_agree_lead_to_one_state.Goals as goal
-
-pub returns : goal.returns
-returns g = at-agrees

@@ -1,5 +1,0 @@
-use Rattle.thy_view.proofs.TurnLaws.{Safe-agrees}
-use Rattle.thy_view.proofs.laws.what_is_safe_stays_safe_with_turns_that_agree.Goals as goal
-
-pub returns : goal.returns
-returns g = Safe-agrees

@@ -1,5 +1,0 @@
-pub mod BarrierLemmas
-pub mod RunLemmas
-pub mod CallLemmas
-pub mod BootLemmas
-pub mod LawfulLemmas

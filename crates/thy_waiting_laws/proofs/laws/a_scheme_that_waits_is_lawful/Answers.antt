@@ -1,5 +1,0 @@
-use Rattle.thy_waiting_laws.proofs.LawfulLemmas.{lawful}
-use Rattle.thy_waiting_laws.proofs.laws.a_scheme_that_waits_is_lawful.Goals as goal
-
-pub returns : goal.returns
-returns g c = lawful g.S.Scheme.scheme g.met.S.Scheme.lawful c.requires

@@ -1,2 +1,0 @@
-pub mod LowestLemmas
-pub mod MergedLemmas
