@@ -15,7 +15,7 @@ NOT_BUILT = "thynvm or observe is not built: tools/cuts and what observe writes 
 NOT_SWEPT = "thynvm, observe or sweep is not built: what sweep writes is left out\n"
 
 # The runs that are swept, if that program is built.
-SWEPT = 5
+SWEPT = 6
 
 
 class Readers(ToolTest):
